@@ -4,37 +4,37 @@ use Rattle.std.specs.List.{AllByRecursion}
 use Rattle.std.proofs.lemmas.Bool.{eqb-true}
 use Rattle.sql_engine.specs.declared.kind.EngineKind.TheVariants.{Cells}
 use Rattle.sql_engine.specs.Cells.{cells}
-use Rattle.session_rules.specs.Engines.{Answer}
-use Rattle.raft_world.specs.Members.{Setup}
+use Rattle.session_spec.specs.Engines.{Answer}
+use Rattle.raft_safety.specs.Members.{Setup}
 use Rattle.store_laws.specs.Store.{Kept}
-use Rattle.node_replica.specs.Keeping.{kept_at}
-use Rattle.node_state.specs.Snapshot.{contents_in}
+use Rattle.raft_on_disk.specs.Keeping.{kept_at}
+use Rattle.applied_state.specs.Snapshot.{contents_in}
 use Rattle.node_core.specs.declared.event.Event as core
-use Rattle.node_core.specs.declared.outs.Outs as core_outs
+use Rattle.node_core.specs.declared.outs.StepOutputs as core_outs
 use Rattle.node_core.specs.declared.running.Running.{Running}
 use Rattle.node_core.specs.Core.{Core, core_of}
 use Rattle.node_core.specs.Exact.{StepsExactly}
 use Rattle.node_core.specs.ExactStart.{StartsExactly}
 use Rattle.node_core.specs.Values.{seen}
-use Rattle.node_world.specs.Runs.{nothing_kept}
-use Rattle.core_runs.specs.Decided.{IsAlone, IsUnread, IsSame, StepsAreDecided, StartsAreDecided, KeptIsOfCore}
-use Rattle.core_runs.proofs.SameRuns.{steps_decided, starts_decided, kept_of_core}
-use Rattle.script_lines.specs.declared.grammar.Aim.{Aim}
-use Rattle.script_nodes.specs.Voters.{voters_from}
-use Rattle.script_nodes.specs.Knowing.{actor, turns_at, with_over}
-use Rattle.script_nodes.specs.Outcomes.{Standing, Outs, Ending, Steps, Starts, Stops, Fails, Unreadable, Outcome, Doing, Timeout, Beat, Connect, Bytes, Hangup, Receive, Start, Turn, Does, Crashes}
+use Rattle.cluster_safety.specs.Runs.{nothing_kept}
+use Rattle.core_determinism.specs.Decided.{IsAlone, IsUnread, IsSame, StepsAreDecided, StartsAreDecided, KeptIsOfCore}
+use Rattle.core_determinism.proofs.SameRuns.{steps_decided, starts_decided, kept_of_core}
+use Rattle.script_grammar.specs.declared.grammar.FaultTarget.{FaultTarget}
+use Rattle.script_cluster.specs.Voters.{voters_from}
+use Rattle.script_cluster.specs.Knowing.{actor, turns_at, with_over}
+use Rattle.script_cluster.specs.Outcomes.{Standing, Outs, Ending, Steps, Starts, Stops, Fails, Unreadable, Outcome, Doing, Timeout, Beat, Connect, Bytes, Hangup, Receive, Start, Turn, Does, Crashes}
 use Rattle.script_runner.specs.Run.{run}
 use Rattle.script_runner.proofs.Likeness.{run_twin}
-use Rattle.script_runs.specs.Seats.{Seat, Runs as NodeRuns, Rests as NodeRests, EventIs, StepDone, StartDone, StandsSo, EndsSo, TurnSo, PathSo, outs_of, setup_of}
-use Rattle.script_runs.specs.Mails.{ByNodes, OverByNode}
-use Rattle.script_runs.specs.Turns.{HasLoaded, AllLoad}
-use Rattle.script_runs.proofs.Answering.{told_are}
-use Rattle.script_runs.proofs.Scripts.{loads_never_fail_hold}
-use Rattle.script_repeats.specs.Plain.{plain_outcome}
-use Rattle.script_repeats.specs.Nodes.{Path, EndsWell, IsAmple, GoesWell, AreLed, ComesTo, AreExact, MayCrash}
-use Rattle.script_repeats.specs.Repeats.{IsLed, StartWith, BrokeOff, BrokenRunsRepeat, FrontsRepeat, RunsCompare, WholeRunsRepeat}
-use Rattle.script_repeats.proofs.Paths.{turns_join, well_at}
-use Rattle.script_repeats.proofs.Running.{broken_runs_repeat, fronts_repeat, runs_compare, whole_runs_repeat}
+use Rattle.script_safety.specs.Slots.{Seat, Runs as NodeRuns, Rests as NodeRests, EventIs, StepDone, StartDone, SlotShowsNode, SlotEnds, SlotTurn, SlotPath, outs_of, setup_of}
+use Rattle.script_safety.specs.Mails.{ByNodes, OverByNode}
+use Rattle.script_safety.specs.Turns.{HasLoaded, AllLoad}
+use Rattle.script_safety.proofs.Answering.{told_are}
+use Rattle.script_safety.proofs.Scripts.{loads_never_fail_hold}
+use Rattle.script_determinism.specs.Plain.{plain_outcome}
+use Rattle.script_determinism.specs.Nodes.{Path, EndsWell, IsAmple, GoesWell, AreLed, ComesTo, AreExact, MayCrash}
+use Rattle.script_determinism.specs.Repeats.{IsLed, StartWith, BrokeOff, BrokenRunsRepeat, FrontsRepeat, RunsCompare, WholeRunsRepeat}
+use Rattle.script_determinism.proofs.Paths.{turns_join, well_at}
+use Rattle.script_determinism.proofs.Running.{broken_runs_repeat, fronts_repeat, runs_compare, whole_runs_repeat}
 use Rattle.cell_scripts.specs.Cores.{CoreSeat, Runs, Rests, stands_at, StepsAt, StartsAt, EndsAt, CrashesAt, TurnsAt, cell_nodes}
 use Rattle.cell_scripts.specs.Decided.{NoneFailed, GoesUntroubled, IsOfCells, BrokeOffCells, CellBrokenRepeat, CellFrontsRepeat, CellScriptsCompare, CellScriptsRepeat}
 
@@ -62,7 +62,7 @@ start_same : (voters also : ℕ) → Start voters ≡ Start also → voters ≡ 
 start_same voters also e = cc
 
 -- what is said is the same
-same_outs : (one other : core_outs.Outs) → one.replies.items ≡ other.replies.items → one.closed.items ≡ other.closed.items → one.messages.items ≡ other.messages.items → outs_of one ≡ outs_of other
+same_outs : (one other : core_outs.StepOutputs) → one.replies.items ≡ other.replies.items → one.closed.items ≡ other.closed.items → one.messages.items ≡ other.messages.items → outs_of one ≡ outs_of other
 same_outs one other replies closed messages = λ i. record { replies = replies i; closed = closed i; messages = messages i }
 
 module _ (steps : StepsAreDecided) (starts : StartsAreDecided) where
@@ -144,11 +144,11 @@ module _ (steps : StepsAreDecided) (starts : StartsAreDecided) where
       at : TurnsAt n (seat_of old) turn (seat_of new)
       lone : IsLone new
 
-    stands_so : (node : Running) (standing : Standing) → StandsSo (seen node) standing → standing.databases ≡ contents_in (core_of node).files → standing ≡ stands_at (core_of node)
+    stands_so : (node : Running) (standing : Standing) → SlotShowsNode (seen node) standing → standing.databases ≡ contents_in (core_of node).files → standing ≡ stands_at (core_of node)
     unfolding core_of
     stands_so node standing s files = λ i. record { term = s.term i; role = s.role i; applied = s.applied i; databases = files i }
 
-    step_at : (setup : Setup) (n k : ℕ) (doing : Doing) (aim : Aim) (answers : List Answer) (outs : Outs) (standing : Standing) (old new : Running) → IsAlone (core_of old) → AllByRecursion IsAmple answers
+    step_at : (setup : Setup) (n k : ℕ) (doing : Doing) (aim : FaultTarget) (answers : List Answer) (outs : Outs) (standing : Standing) (old new : Running) → IsAlone (core_of old) → AllByRecursion IsAmple answers
         → StepDone cells Cells setup old new doing answers outs standing → Turned n (NodeRuns old) (Does k doing aim (record { answers = answers; ending = Steps outs standing })) (NodeRuns new)
     step_at setup n k doing aim answers outs standing old new alone ample d =
         let exact : StepsExactly cells Cells d.event (core_of old) (core_of new) d.said answers =
@@ -166,17 +166,17 @@ module _ (steps : StepsAreDecided) (starts : StartsAreDecided) where
           lone = (steps d.event (core_of old) (core_of new) (core_of new) d.said d.said answers answers (unread doing d.event d.is) alone exact exact ample ample).alone;
         }
 
-    start_at : (n k voters : ℕ) (doing : Doing) (aim : Aim) (answers : List Answer) (kept loaded : Kept) (standing : Standing) (new : Running) → doing ≡ Start voters
+    start_at : (n k voters : ℕ) (doing : Doing) (aim : FaultTarget) (answers : List Answer) (kept loaded : Kept) (standing : Standing) (new : Running) → doing ≡ Start voters
         → StartDone voters n kept loaded new answers standing → Turned n (NodeRests kept) (Does k doing aim (record { answers = answers; ending = Starts loaded standing })) (NodeRuns new)
     start_at n k voters doing aim answers kept loaded standing new is d = record {
       at = record { voters = voters; is = is; starts = d.exact; loads = d.loads; stands = stands_so new standing d.stands d.files; unasked = d.unasked };
       lone = (starts n (voters_from voters 1) kept (core_of new) (core_of new) d.exact d.exact).1;
     }
 
-    turn_at : (setup : Setup) (n : ℕ) (old : Seat) (turn : Turn) (new : Seat) → IsLone old → GoesWell turn → TurnSo cells Cells setup n old turn new → Turned n old turn new
+    turn_at : (setup : Setup) (n : ℕ) (old : Seat) (turn : Turn) (new : Seat) → IsLone old → GoesWell turn → SlotTurn cells Cells setup n old turn new → Turned n old turn new
     turn_at setup n (NodeRuns old) (Does k doing aim outcome) (NodeRuns new) lone well t = at outcome.ending refl t
       where
-        at : (ending : Ending) → outcome.ending ≡ ending → EndsSo cells Cells setup n (NodeRuns old) doing outcome.answers ending (NodeRuns new) → Turned n (NodeRuns old) (Does k doing aim outcome) (NodeRuns new)
+        at : (ending : Ending) → outcome.ending ≡ ending → SlotEnds cells Cells setup n (NodeRuns old) doing outcome.answers ending (NodeRuns new) → Turned n (NodeRuns old) (Does k doing aim outcome) (NodeRuns new)
         at (Steps outs standing) e h =
             subst (λ (ending : Ending). Turned n (NodeRuns old) (Does k doing aim (record { answers = outcome.answers; ending = ending })) (NodeRuns new)) (sym e)
             (step_at setup n k doing aim outcome.answers outs standing old new lone well.ample h)
@@ -186,7 +186,7 @@ module _ (steps : StepsAreDecided) (starts : StartsAreDecided) where
         at Unreadable e h = absurd h
     turn_at setup n (NodeRests kept) (Does k doing aim outcome) (NodeRuns new) lone well t = at outcome.ending refl t
       where
-        at : (ending : Ending) → outcome.ending ≡ ending → EndsSo cells Cells setup n (NodeRests kept) doing outcome.answers ending (NodeRuns new) → Turned n (NodeRests kept) (Does k doing aim outcome) (NodeRuns new)
+        at : (ending : Ending) → outcome.ending ≡ ending → SlotEnds cells Cells setup n (NodeRests kept) doing outcome.answers ending (NodeRuns new) → Turned n (NodeRests kept) (Does k doing aim outcome) (NodeRuns new)
         at (Starts loaded standing) e h =
             subst (λ (ending : Ending). Turned n (NodeRests kept) (Does k doing aim (record { answers = outcome.answers; ending = ending })) (NodeRuns new)) (sym e)
             (start_at n k h.0.voters doing aim outcome.answers kept loaded standing new h.0.is h.1)
@@ -196,7 +196,7 @@ module _ (steps : StepsAreDecided) (starts : StartsAreDecided) where
         at Unreadable e h = absurd h
     turn_at setup n old (Does k doing aim outcome) (NodeRests left) lone well t = absurd (none old outcome.ending well.ends t)
       where
-        none : (seat : Seat) (ending : Ending) → EndsWell ending → EndsSo cells Cells setup n seat doing outcome.answers ending (NodeRests left) → ⊥
+        none : (seat : Seat) (ending : Ending) → EndsWell ending → SlotEnds cells Cells setup n seat doing outcome.answers ending (NodeRests left) → ⊥
         none (NodeRuns w) (Steps outs standing) fine h = h
         none (NodeRuns w) (Starts loaded standing) fine h = h
         none (NodeRests kept) (Steps outs standing) fine h = h
@@ -209,7 +209,7 @@ module _ (steps : StepsAreDecided) (starts : StartsAreDecided) where
     turn_at setup n (NodeRuns old) (Crashes k pick) (NodeRuns new) lone well t = absurd t
     turn_at setup n (NodeRests old) (Crashes k pick) (NodeRuns new) lone well t = absurd t
 
-    path_at : (setup : Setup) (n : ℕ) (old : Seat) (turns : List Turn) (new : Seat) → IsLone old → AllByRecursion GoesWell turns → PathSo cells Cells setup n old turns new → Path cell_nodes n (seat_of old) turns (seat_of new)
+    path_at : (setup : Setup) (n : ℕ) (old : Seat) (turns : List Turn) (new : Seat) → IsLone old → AllByRecursion GoesWell turns → SlotPath cells Cells setup n old turns new → Path cell_nodes n (seat_of old) turns (seat_of new)
     path_at setup n old [] new lone well path = ap seat_of path
     path_at setup n old (turn ∷ turns) new lone well path =
         let first = turn_at setup n old turn path.0 lone well.0 path.1 in
@@ -220,25 +220,25 @@ module _ (steps : StepsAreDecided) (starts : StartsAreDecided) where
       end : CoreSeat
       path : Path cell_nodes n (Rests nothing_kept) turns end
 
-    seat_ends : (setup : Setup) (n : ℕ) (turns : List Turn) (seat : Seat) → AllByRecursion GoesWell turns → PathSo cells Cells setup n (NodeRests nothing_kept) turns seat → Ends setup n turns
+    seat_ends : (setup : Setup) (n : ℕ) (turns : List Turn) (seat : Seat) → AllByRecursion GoesWell turns → SlotPath cells Cells setup n (NodeRests nothing_kept) turns seat → Ends setup n turns
     seat_ends setup n turns seat well path = record { end = seat_of seat; path = path_at setup n (NodeRests nothing_kept) turns seat tt well path }
 
     -- the last turn at its node, and at another one
     ends_last : (setup : Setup) (n : ℕ) (turns : List Turn) (turn : Turn) (here : Bool) → (actor turn == n) ≡ here → AllByRecursion GoesWell (turns_at n (turns ++ turn ∷ []))
-        → (seat : Seat) → PathSo cells Cells setup n (NodeRests nothing_kept) (turns_at n turns) seat
-        → (last : Seat) → PathSo cells Cells setup (actor turn) (NodeRests nothing_kept) (turns_at (actor turn) turns ++ turn ∷ []) last → Ends setup n (turns_at n (turns ++ turn ∷ []))
+        → (seat : Seat) → SlotPath cells Cells setup n (NodeRests nothing_kept) (turns_at n turns) seat
+        → (last : Seat) → SlotPath cells Cells setup (actor turn) (NodeRests nothing_kept) (turns_at (actor turn) turns ++ turn ∷ []) last → Ends setup n (turns_at n (turns ++ turn ∷ []))
     ends_last setup n turns turn true is well seat path last behind =
         let all : turns_at n (turns ++ turn ∷ []) ≡ turns_at n turns ++ turn ∷ [] = turns_join n turns (turn ∷ []) ∙ ap (λ (b : Bool). turns_at n turns ++ cond b (turn ∷ []) []) is in
         seat_ends setup n (turns_at n (turns ++ turn ∷ [])) last well
-        (subst (λ (ts : List Turn). PathSo cells Cells setup n (NodeRests nothing_kept) ts last) (sym all)
-        (subst (λ (k : ℕ). PathSo cells Cells setup k (NodeRests nothing_kept) (turns_at k turns ++ turn ∷ []) last) (eqb-true (actor turn) n is) behind))
+        (subst (λ (ts : List Turn). SlotPath cells Cells setup n (NodeRests nothing_kept) ts last) (sym all)
+        (subst (λ (k : ℕ). SlotPath cells Cells setup k (NodeRests nothing_kept) (turns_at k turns ++ turn ∷ []) last) (eqb-true (actor turn) n is) behind))
     ends_last setup n turns turn false is well seat path last behind =
         let all : turns_at n (turns ++ turn ∷ []) ≡ turns_at n turns =
         turns_join n turns (turn ∷ []) ∙ ap (λ (b : Bool). turns_at n turns ++ cond b (turn ∷ []) []) is ∙ append-nil (turns_at n turns) in
-        seat_ends setup n (turns_at n (turns ++ turn ∷ [])) seat well (subst (λ (ts : List Turn). PathSo cells Cells setup n (NodeRests nothing_kept) ts seat) (sym all) path)
+        seat_ends setup n (turns_at n (turns ++ turn ∷ [])) seat well (subst (λ (ts : List Turn). SlotPath cells Cells setup n (NodeRests nothing_kept) ts seat) (sym all) path)
 
     ends_over : (setup : Setup) (n : ℕ) (turns : List Turn) (over : Option Turn) → AllByRecursion GoesWell (turns_at n (with_over turns over))
-        → (seat : Seat) → PathSo cells Cells setup n (NodeRests nothing_kept) (turns_at n turns) seat → OverByNode cells Cells setup turns over → Ends setup n (turns_at n (with_over turns over))
+        → (seat : Seat) → SlotPath cells Cells setup n (NodeRests nothing_kept) (turns_at n turns) seat → OverByNode cells Cells setup turns over → Ends setup n (turns_at n (with_over turns over))
     ends_over setup n turns None well seat path last = seat_ends setup n (turns_at n turns) seat well path
     ends_over setup n turns (Some turn) well seat path last = ends_last setup n turns turn (actor turn == n) refl well seat path last.0 last.1
 

@@ -2,21 +2,21 @@
 use Rattle.std.specs.Prelude.{◌≡◌, ℕ, false, List, []}
 use Rattle.sql_engine.specs.declared.kind.EngineKind.TheVariants.{Cells}
 use Rattle.sql_engine.specs.Cells.{cells}
-use Rattle.session_rules.specs.Engines.{Answer}
+use Rattle.session_spec.specs.Engines.{Answer}
 use Rattle.store_laws.specs.Store.{Kept}
-use Rattle.node_replica.specs.Keeping.{kept_at}
-use Rattle.node_state.specs.Snapshot.{contents_in}
+use Rattle.raft_on_disk.specs.Keeping.{kept_at}
+use Rattle.applied_state.specs.Snapshot.{contents_in}
 use Rattle.node_core.specs.declared.event.Event as core
-use Rattle.node_core.specs.declared.outs.Outs as core_outs
+use Rattle.node_core.specs.declared.outs.StepOutputs as core_outs
 use Rattle.node_core.specs.Core.{Core}
 use Rattle.node_core.specs.Exact.{StepsExactly}
 use Rattle.node_core.specs.ExactStart.{StartsExactly}
-use Rattle.node_world.specs.Runs.{nothing_kept}
-use Rattle.core_runs.specs.Decided.{IsAlone}
-use Rattle.script_nodes.specs.Voters.{voters_from}
-use Rattle.script_nodes.specs.Outcomes.{Standing, Outs, Ending, Steps, Starts, Doing, Start, Turn, Does, Crashes}
-use Rattle.script_runs.specs.Seats.{EventIs, outs_of}
-use Rattle.script_repeats.specs.Nodes.{Nodes}
+use Rattle.cluster_safety.specs.Runs.{nothing_kept}
+use Rattle.core_determinism.specs.Decided.{IsAlone}
+use Rattle.script_cluster.specs.Voters.{voters_from}
+use Rattle.script_cluster.specs.Outcomes.{Standing, Outs, Ending, Steps, Starts, Doing, Start, Turn, Does, Crashes}
+use Rattle.script_safety.specs.Slots.{EventIs, outs_of}
+use Rattle.script_determinism.specs.Nodes.{Nodes}
 
 -- at a seat is the core of a node that runs, or this is kept
 pub data CoreSeat : Type 0 where
@@ -32,7 +32,7 @@ pub record StepsAt (w v : Core) (doing : Doing) (answers : List Answer) (outs : 
   pub alone : IsAlone w
   pub event : core.Event
   pub is : EventIs doing event
-  pub said : core_outs.Outs
+  pub said : core_outs.StepOutputs
   pub steps : StepsExactly cells Cells event w v said answers
   pub outs_are : outs ≡ outs_of said
   pub stands : standing ≡ stands_at v

@@ -3,14 +3,14 @@ use Rattle.std.specs.Prelude.{◌≡◌, ◌++◌, ℕ, List, Option}
 use Rattle.std.specs.List.{AllByRecursion}
 use Rattle.sql_engine.specs.declared.kind.EngineKind.TheVariants.{Cells}
 use Rattle.sql_engine.specs.Cells.{cells}
-use Rattle.script_nodes.specs.Knowing.{outcomes_in, outcomes_over, with_over}
-use Rattle.script_nodes.specs.Outcomes.{Ending, Steps, Starts, Stops, Fails, Unreadable, Outcome, Turn, Does, Crashes}
+use Rattle.script_cluster.specs.Knowing.{outcomes_in, outcomes_over, with_over}
+use Rattle.script_cluster.specs.Outcomes.{Ending, Steps, Starts, Stops, Fails, Unreadable, Outcome, Turn, Does, Crashes}
 use Rattle.script_runner.specs.Ending.{IsBeside}
 use Rattle.script_runner.specs.Run.{run, printed}
-use Rattle.script_runs.specs.Mails.{ByNodes, OverByNode}
-use Rattle.script_runs.specs.Seats.{setup_of}
-use Rattle.script_repeats.specs.Nodes.{IsAmple}
-use Rattle.script_repeats.specs.Repeats.{Compared, IsWhole, StartWith}
+use Rattle.script_safety.specs.Mails.{ByNodes, OverByNode}
+use Rattle.script_safety.specs.Slots.{setup_of}
+use Rattle.script_determinism.specs.Nodes.{IsAmple}
+use Rattle.script_determinism.specs.Repeats.{Compared, IsWhole, StartWith}
 
 -- No call of the disk stopped or failed. That what was kept doesn't load, which is no such call, needs no word: it never comes.
 abbrev pub NoneFailed : Ending → Type 0

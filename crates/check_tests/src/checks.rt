@@ -1,7 +1,7 @@
-use dir_check::{CheckEnd, check};
 use disk_model::{Disk, MemDisk};
 use dq_base::{Items, MemSink};
-use raft_vote::{Entry, EntryKind, SharedBytes};
+use folder_check::{CheckEnd, check};
+use raft_messages::{Entry, EntryKind, SharedBytes};
 use segment_store::{LoadFault, Store};
 use std::alloc::Global;
 use std::test::Fail;

@@ -12,20 +12,20 @@ use Rattle.wire_msgs.specs.Requests.{Reads}
 use Rattle.client_connection.specs.Connection.{Conn}
 use Rattle.sql_engine.specs.declared.kind.EngineKind.{EngineKind}
 use Rattle.sql_engine.specs.Meanings.{Meaning, Told}
-use Rattle.session_rules.specs.Machine.{Machine}
-use Rattle.session_rules.specs.Sessions.{Session, Gateway, View, Effect, HandsOver, JoinsPeer, Weighs, Turned, Refused, Lacks, Answers, Proposes, Lends, Affects, may_ask}
-use Rattle.session_rules.specs.Requests.{on_request, with_session, affected_by}
-use Rattle.session_rules.specs.Touched.{IsListed}
-use Rattle.gateway.specs.declared.act.Act.{Act}
-use Rattle.gateway.specs.Calls.{Is, TurnedBy, HasNoNul, IsConfigured, act_for}
-use Rattle.gateway.specs.Seen.{ListsAsBefore}
+use Rattle.session_spec.specs.Machine.{Machine}
+use Rattle.session_spec.specs.Sessions.{Session, Gateway, View, Effect, HandsOver, JoinsPeer, Weighs, Turned, Refused, Lacks, Answers, Proposes, Lends, Affects, may_ask}
+use Rattle.session_spec.specs.Requests.{on_request, with_session, affected_by}
+use Rattle.session_spec.specs.Touched.{IsListed}
+use Rattle.session_gateway.specs.declared.act.Act.{Act}
+use Rattle.session_gateway.specs.Calls.{Is, TurnsByAnswers, HasNoNul, IsConfigured, act_for}
+use Rattle.session_gateway.specs.Seen.{ListsAsBefore}
 use Rattle.client_sessions.specs.Sending.{ActCanSend}
 use Rattle.client_sessions.specs.Clients.{Clients, with_sessions, Fits, Sound, Offer, IsOffered}
 use Rattle.client_sessions.proofs.Requests.{Keeps, request_kept}
 use Rattle.client_sessions.proofs.Writable.{refusal_sent}
 use Rattle.client_sessions.proofs.Soundness.{session_sound}
-use Rattle.statement_runs.specs.Calls.{call_of}
-use Rattle.session_decisions.specs.Scenes.{scene}
+use Rattle.session_statements.specs.Calls.{call_of}
+use Rattle.session_outcomes.specs.Scenes.{scene}
 
 -- a request that is read holds no NUL in its texts
 pub reads_plain : (m : Message) (request : Request) → Reads m request → HasNoNul request
@@ -111,7 +111,7 @@ is_sends v g conn (Affects effect) now act is keeps = subst ActCanSend (sym is.1
 
 -- what a request comes to is kept
 turned_kept : (m : Meaning) (kind : EngineKind) (v : View) (machine : Machine) (g : Gateway) (conn : ℕ) (request : Request) (before now : Option Told) (after : Gateway) (act : Act)
-    → IsConfigured v → HasNoNul request → may_ask (g.session conn) ≡ true → (t : TurnedBy (call_of m kind before now) (scene v machine g conn) request after act)
+    → IsConfigured v → HasNoNul request → may_ask (g.session conn) ≡ true → (t : TurnsByAnswers (call_of m kind before now) (scene v machine g conn) request after act)
     → Keeps (g.session conn) (on_request v machine g conn request t.answers)
 turned_kept m kind v machine g conn request before now after act configured text ask t =
     let waits = asks_free (g.session conn) ask in
@@ -119,7 +119,7 @@ turned_kept m kind v machine g conn request before now after act configured text
 
 -- what comes of a request can be sent
 pub turned_sends : (m : Meaning) (kind : EngineKind) (v : View) (machine : Machine) (g : Gateway) (conn : ℕ) (request : Request) (before now : Option Told) (after : Gateway) (act : Act)
-    → IsConfigured v → HasNoNul request → may_ask (g.session conn) ≡ true → TurnedBy (call_of m kind before now) (scene v machine g conn) request after act → ActCanSend act
+    → IsConfigured v → HasNoNul request → may_ask (g.session conn) ≡ true → TurnsByAnswers (call_of m kind before now) (scene v machine g conn) request after act → ActCanSend act
 turned_sends m kind v machine g conn request before now after act configured text ask t =
     is_sends v g conn (on_request v machine g conn request t.answers) after act t.is (turned_kept m kind v machine g conn request before now after act configured text ask t)
 
@@ -154,11 +154,11 @@ is_sound v k conn stream (Affects effect) now act opens is keeps listed sound = 
 
 -- after a request all is as it has to be
 pub turned_sound : (m : Meaning) (kind : EngineKind) (v : View) (machine : Machine) (g : Gateway) (conn : ℕ) (request : Request) (before now : Option Told) (after : Gateway) (act : Act)
-    → IsConfigured v → HasNoNul request → may_ask (g.session conn) ≡ true → ListsAsBefore g after → TurnedBy (call_of m kind before now) (scene v machine g conn) request after act
+    → IsConfigured v → HasNoNul request → may_ask (g.session conn) ≡ true → ListsAsBefore g after → TurnsByAnswers (call_of m kind before now) (scene v machine g conn) request after act
     → (k : Clients) → k.sessions ≡ g → Sound k → Sound (with_sessions k after)
 turned_sound m kind v machine g conn request before now after act configured text ask lists t k same sound =
     let asks : may_ask (k.sessions.session conn) ≡ true = subst (λ (h : Gateway). may_ask (h.session conn) ≡ true) (sym same) ask in
-    let turned : TurnedBy (call_of m kind before now) (scene v machine k.sessions conn) request after act = subst (λ (h : Gateway). TurnedBy (call_of m kind before now) (scene v machine h conn) request after act) (sym same) t in
+    let turned : TurnsByAnswers (call_of m kind before now) (scene v machine k.sessions conn) request after act = subst (λ (h : Gateway). TurnsByAnswers (call_of m kind before now) (scene v machine h conn) request after act) (sym same) t in
     let opens = asks_open (k.streams conn) (k.sessions.session conn) asks (sound.fits conn) in
     is_sound v k conn opens.0 (on_request v machine k.sessions conn request turned.answers) after act opens.1 turned.is
     (turned_kept m kind v machine k.sessions conn request before now after act configured text asks turned)

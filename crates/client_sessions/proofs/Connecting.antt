@@ -3,16 +3,16 @@ use Rattle.std.proofs.Common.{◌≡◌, ℕ, Bool, true, false, cond, ◌||◌,
 use Rattle.std.specs.Ordering.{nat_cmp}
 use Rattle.std.specs.BTreeMap.{BTreeMap, get, is_at}
 use Rattle.client_connection.specs.Connection.{Conn, opened}
-use Rattle.page_apply.specs.declared.database.Database.{Database}
-use Rattle.page_apply.specs.Pins.{Pinning}
-use Rattle.session_rules.specs.Sessions.{Session, Gateway, is_busy}
-use Rattle.session_rules.specs.Events.{connects, connected}
+use Rattle.database_state.specs.declared.database.Database.{Database}
+use Rattle.database_state.specs.Pins.{Pinning}
+use Rattle.session_spec.specs.Sessions.{Session, Gateway, is_busy}
+use Rattle.session_spec.specs.Events.{connects, connected}
 use Rattle.session_table.specs.Marks.{AreMarks}
-use Rattle.gateway.specs.Seen.{seen, pins_of}
+use Rattle.session_gateway.specs.Seen.{seen, pins_of}
 use Rattle.client_sessions.specs.declared.clients.Clients.{Clients as Held}
-use Rattle.client_sessions.specs.declared.joining.Joining.TheVariants.{Joined, Full, Taken}
+use Rattle.client_sessions.specs.declared.connect_result.ConnectResult.TheVariants.{Joined, Full, Taken}
 use Rattle.client_sessions.specs.Clients.{Clients, with_stream, joining, joined_as, joined, Fits, Sound}
-use Rattle.client_sessions.specs.Seen.{clients_of, StandOver}
+use Rattle.client_sessions.specs.Seen.{clients_of, AreValidOver}
 use Rattle.client_sessions.proofs.Soundness.{joined_sound}
 use Rattle.client_sessions.proofs.Standing.{alike, updated, same_entries}
 
@@ -28,18 +28,18 @@ taken_by None s false is fits = not_there s.there refl where
   not_there false there = refl
 
 there_so : (held : Held) (databases : List Database) (conn : ℕ) (found busy : Bool) → found ≡ is_some (get nat_cmp held.connections conn) → busy ≡ is_busy ((seen held.gateway databases).session conn)
-    → StandOver held databases → (found || busy) ≡ ((clients_of held databases).sessions.session conn).there
+    → AreValidOver held databases → (found || busy) ≡ ((clients_of held databases).sessions.session conn).there
 unfolding clients_of
 there_so held databases conn found busy is busy_is stand = ap (λ (b : Bool). b || busy) is ∙ taken_by (get nat_cmp held.connections conn) _ busy (sym busy_is) (stand.sound.fits conn)
 
 -- a number is taken that is found, or else one that is busy
-pub found_there : (held : Held) (databases : List Database) (conn : ℕ) (found : Bool) → found ≡ is_some (get nat_cmp held.connections conn) → found ≡ true → StandOver held databases
+pub found_there : (held : Held) (databases : List Database) (conn : ℕ) (found : Bool) → found ≡ is_some (get nat_cmp held.connections conn) → found ≡ true → AreValidOver held databases
     → found ≡ ((clients_of held databases).sessions.session conn).there
 found_there held databases conn found is here stand =
     here ∙ sym (ap (λ (b : Bool). b || is_busy ((seen held.gateway databases).session conn)) here) ∙ there_so held databases conn found _ is refl stand
 
 pub busy_there : (held : Held) (databases : List Database) (conn : ℕ) (found busy : Bool) → found ≡ is_some (get nat_cmp held.connections conn) → found ≡ false → busy ≡ is_busy ((seen held.gateway databases).session conn)
-    → StandOver held databases → busy ≡ ((clients_of held databases).sessions.session conn).there
+    → AreValidOver held databases → busy ≡ ((clients_of held databases).sessions.session conn).there
 busy_there held databases conn found busy is away busy_is stand =
     sym (ap (λ (b : Bool). b || busy) away) ∙ there_so held databases conn found busy is busy_is stand
 
@@ -106,14 +106,14 @@ pub full_so : (k now : Clients) (conn : ℕ) (new : Bool) → now ≡ cond new (
 full_so k now conn new goes away is = goes ∙ ap (λ (b : Bool). cond b (joined_as k conn Joined) k) away ∙ sym (ap (joined_as k conn) is)
 
 pub joined_stand : (old new : Held) (databases : List Database) (conn : ℕ) → clients_of new databases ≡ joined (clients_of old databases) conn → pins_of new.gateway ≡ pins_of old.gateway
-    → StandOver old databases → StandOver new databases
+    → AreValidOver old databases → AreValidOver new databases
 joined_stand old new databases conn goes pins stand = record {
   pins = subst (λ (ps : List Pinning). AreMarks ps databases) (sym pins) stand.pins;
   sound = subst Sound (sym goes) (joined_sound (clients_of old databases) conn stand.sound);
 }
 
 pub refused_stand : (old new : Held) (databases : List Database) → clients_of new databases ≡ clients_of old databases → pins_of new.gateway ≡ pins_of old.gateway
-    → StandOver old databases → StandOver new databases
+    → AreValidOver old databases → AreValidOver new databases
 refused_stand old new databases same pins stand = record {
   pins = subst (λ (ps : List Pinning). AreMarks ps databases) (sym pins) stand.pins;
   sound = subst Sound (sym same) stand.sound;

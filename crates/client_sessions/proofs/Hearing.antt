@@ -4,11 +4,11 @@ use Rattle.std.specs.Ordering.{nat_cmp}
 use Rattle.std.specs.BTreeMap.{get, is_at}
 use Rattle.client_connection.specs.declared.connection.CloseReason.{CloseReason}
 use Rattle.client_connection.specs.Connection.{Conn, received}
-use Rattle.page_apply.specs.declared.database.Database.{Database}
-use Rattle.gateway.specs.Seen.{seen, PinsOf}
+use Rattle.database_state.specs.declared.database.Database.{Database}
+use Rattle.session_gateway.specs.Seen.{seen, PinsOf}
 use Rattle.client_sessions.specs.declared.clients.Clients.{Clients as Held}
 use Rattle.client_sessions.specs.Clients.{Clients, with_stream, heard, heard_on, without, hung_up, closing, closed, Sound}
-use Rattle.client_sessions.specs.Seen.{clients_of, StandOver}
+use Rattle.client_sessions.specs.Seen.{clients_of, AreValidOver}
 use Rattle.client_sessions.proofs.Soundness.{stream_sound}
 use Rattle.client_sessions.proofs.Standing.{alike, updated, hung_open}
 
@@ -38,7 +38,7 @@ unfolding heard
 heard_sound k conn bytes sound = heard_where k conn bytes (k.streams conn) refl sound
 
 pub heard_stand : (old new : Held) (databases : List Database) (conn : ℕ) (bytes : List ℕ) → clients_of new databases ≡ heard (clients_of old databases) conn bytes → PinsOf new.gateway databases
-    → StandOver old databases → StandOver new databases
+    → AreValidOver old databases → AreValidOver new databases
 heard_stand old new databases conn bytes goes pins stand = record {
   pins = pins;
   sound = subst Sound (sym goes) (heard_sound (clients_of old databases) conn bytes stand.sound);

@@ -8,29 +8,29 @@ use Rattle.wire_msgs.specs.declared.request.Request.{Request}
 use Rattle.sql_engine.specs.declared.kind.EngineKind.{EngineKind}
 use Rattle.sql_engine.specs.Meanings.{Meaning, Told}
 use Rattle.sql_engine.specs.Replies.{Statement}
-use Rattle.session_rules.specs.Allowed.{IsAllowed}
-use Rattle.session_rules.specs.Asking.{Asked, Never, Tells, Sets, Opens, Creates, Prepares, Drops, Begins, Commits, RollsBack, Changes, Runs, Reads, asked}
-use Rattle.session_rules.specs.Causes.{NotLeader}
-use Rattle.session_rules.specs.Engines.{Answer}
-use Rattle.session_rules.specs.Events.{tidy, landed, settled_by, on_applied, left, on_hangup, connected}
-use Rattle.session_rules.specs.Machine.{Machine}
-use Rattle.session_rules.specs.Requests.{does, on_request, on_later, with_session, without_later, with_later}
-use Rattle.session_rules.specs.Sessions.{Kind, Opening, Configuring, Writing, Committing, Querying, Flight, Reply, Session, Gateway, View, HandsOver, JoinsPeer, Weighs, Turned, Refused, Lacks, Answers, Proposes, Lends, Affects, absent, fresh}
-use Rattle.session_rules.proofs.Asked.{all_allowed}
-use Rattle.gateway.specs.declared.act.Act.{Act}
-use Rattle.gateway.specs.Calls.{Is, TurnedBy}
-use Rattle.gateway.specs.Later.{LaterBy, ReadDone, Resumed}
-use Rattle.gateway.specs.Seen.{seen}
-use Rattle.page_apply.specs.declared.database.Database.{Database}
+use Rattle.session_spec.specs.Allowed.{IsAllowed}
+use Rattle.session_spec.specs.Asking.{Asked, Never, Tells, Sets, Opens, Creates, Prepares, Drops, Begins, Commits, RollsBack, Changes, Runs, Reads, asked}
+use Rattle.session_spec.specs.Causes.{NotLeader}
+use Rattle.session_spec.specs.Engines.{Answer}
+use Rattle.session_spec.specs.Events.{tidy, landed, settled_by, on_applied, left, on_hangup, connected}
+use Rattle.session_spec.specs.Machine.{Machine}
+use Rattle.session_spec.specs.Requests.{does, on_request, on_later, with_session, without_later, with_later}
+use Rattle.session_spec.specs.Sessions.{Kind, Opening, Configuring, Writing, Committing, Querying, Flight, Reply, Session, Gateway, View, HandsOver, JoinsPeer, Weighs, Turned, Refused, Lacks, Answers, Proposes, Lends, Affects, absent, fresh}
+use Rattle.session_spec.proofs.Asked.{all_allowed}
+use Rattle.session_gateway.specs.declared.act.Act.{Act}
+use Rattle.session_gateway.specs.Calls.{Is, TurnsByAnswers}
+use Rattle.session_gateway.specs.Later.{RunsWaitingByAnswers, ReadDone, Resumed}
+use Rattle.session_gateway.specs.Seen.{seen}
+use Rattle.database_state.specs.declared.database.Database.{Database}
 use Rattle.wire_words.specs.declared.message.Message.{Message}
 use Rattle.client_sessions.specs.declared.clients.Clients.{Clients as Held}
 use Rattle.client_sessions.specs.Calls.{TookNext}
 use Rattle.client_sessions.specs.Seen.{clients_of}
-use Rattle.client_sessions.specs.declared.joining.Joining.{Joining}
-use Rattle.client_sessions.specs.declared.joining.Joining.TheVariants.{Joined, Full, Taken}
+use Rattle.client_sessions.specs.declared.connect_result.ConnectResult.{ConnectResult}
+use Rattle.client_sessions.specs.declared.connect_result.ConnectResult.TheVariants.{Joined, Full, Taken}
 use Rattle.client_sessions.specs.Clients.{Clients, NoneIsOpen, HasNoTransactions, joining, joined_as, joined, without, hung_up, closing, closed, heard_on, heard}
-use Rattle.statement_runs.specs.Calls.{call_of}
-use Rattle.session_decisions.specs.Scenes.{scene}
+use Rattle.session_statements.specs.Calls.{call_of}
+use Rattle.session_outcomes.specs.Scenes.{scene}
 
 -- ---- what comes of a request, and of a query that is run later
 
@@ -91,14 +91,14 @@ is_closed v g conn (Affects (JoinsPeer id)) now act is stays none = same_closed 
 is_closed v g conn (Affects (Weighs weight)) now act is stays none = same_closed now _ is.0 none
 
 module _ (m : Meaning) (kind : EngineKind) (v : View) (machine : Machine) (g : Gateway) (conn : ℕ) (before now : Option Told) (after : Gateway) (idle : v.serving ≡ false) (none : NoneIsOpen g) where
-  turned_closed : (request : Request) (act : Act) → TurnedBy (call_of m kind before now) (scene v machine g conn) request after act → NoneIsOpen after
+  turned_closed : (request : Request) (act : Act) → TurnsByAnswers (call_of m kind before now) (scene v machine g conn) request after act → NoneIsOpen after
   turned_closed request act t = is_closed v g conn _ after act t.is (request_closed v machine g conn idle request t.answers none) none
 
-  pub answered_closed : (request : Request) (r : Result Act AllocError) → IfOk r (TurnedBy (call_of m kind before now) (scene v machine g conn) request after) → OnErr r (after ≡ g) → NoneIsOpen after
+  pub answered_closed : (request : Request) (r : Result Act AllocError) → IfOk r (TurnsByAnswers (call_of m kind before now) (scene v machine g conn) request after) → OnErr r (after ≡ g) → NoneIsOpen after
   answered_closed request (Ok act) t failed = turned_closed request act t
   answered_closed request (Err e) t failed = same_closed after g failed none
 
-  later_stays : (statement : Statement) (act : Act) → LaterBy (call_of m kind before now) (scene v machine (without_later g conn) conn) statement after act → NoneIsOpen after
+  later_stays : (statement : Statement) (act : Act) → RunsWaitingByAnswers (call_of m kind before now) (scene v machine (without_later g conn) conn) statement after act → NoneIsOpen after
   later_stays statement act r =
       is_closed v (without_later g conn) conn _ after act r.is (later_closed v machine (without_later g conn) conn idle statement r.answers)
       (set_closed g conn (with_later (g.session conn) None) none (none conn))
@@ -138,7 +138,7 @@ took_closed k mid (Some took) t none = subst HasNoTransactions (sym t.4) none
 
 -- ---- all clients
 
-joined_where : (k : Clients) (conn : ℕ) (how : Joining) → HasNoTransactions k → HasNoTransactions (joined_as k conn how)
+joined_where : (k : Clients) (conn : ℕ) (how : ConnectResult) → HasNoTransactions k → HasNoTransactions (joined_as k conn how)
 unfolding connected
 joined_where k conn Joined none = λ other. cond_both (other == conn) fresh (k.sessions.session other) (λ (s : Session). s.tx ≡ None) (λ e. refl) (λ e. none other)
 joined_where k conn Full none = none

@@ -5,27 +5,27 @@ use Rattle.std.specs.Ordering.{nat_cmp}
 use Rattle.std.specs.BTreeMap.{get}
 use Rattle.wire_msgs.specs.declared.response.Response.{Response}
 use Rattle.wire_msgs.specs.Responses.{IsWritable}
-use Rattle.page_apply.specs.declared.database.Database.{Database}
-use Rattle.page_apply.specs.Pins.{Pinning}
-use Rattle.session_rules.specs.Events.{on_applied, on_lost, told_applied, told_lost}
+use Rattle.database_state.specs.declared.database.Database.{Database}
+use Rattle.database_state.specs.Pins.{Pinning}
+use Rattle.session_spec.specs.Events.{on_applied, on_lost, told_applied, told_lost}
 use Rattle.session_table.specs.Sweeping.{all_told}
 use Rattle.session_table.specs.Marks.{AreMarks}
-use Rattle.gateway.specs.Seen.{seen, PinsOf}
+use Rattle.session_gateway.specs.Seen.{seen, PinsOf}
 use Rattle.client_sessions.specs.declared.clients.Clients.{Clients as Held}
 use Rattle.client_sessions.specs.Clients.{freed}
 use Rattle.client_sessions.specs.Calls.{told_conns}
-use Rattle.client_sessions.specs.Seen.{clients_of, StandOver, HasNoMarks}
+use Rattle.client_sessions.specs.Seen.{clients_of, AreValidOver, HasNoMarks}
 use Rattle.client_sessions.proofs.Soundness.{applied_sound, lost_sound}
 use Rattle.client_sessions.proofs.Standing.{alike, sound_as}
 use Rattle.client_sessions.proofs.Telling.{applied_sent, lost_sent}
 
 -- what is told can be sent
-pub applied_can : (held : Held) (databases : List Database) (index : ℕ) (told : List (ℕ × Response)) → StandOver held databases → told ≡ all_told (told_applied index (seen held.gateway databases))
+pub applied_can : (held : Held) (databases : List Database) (index : ℕ) (told : List (ℕ × Response)) → AreValidOver held databases → told ≡ all_told (told_applied index (seen held.gateway databases))
     → AllByRecursion (λ (t : ℕ × Response). IsWritable t.1) told
 unfolding clients_of
 applied_can held databases index told stand is = subst (AllByRecursion (λ (t : ℕ × Response). IsWritable t.1)) (sym is) (applied_sent (clients_of held databases) index stand.sound)
 
-pub lost_can : (held : Held) (databases : List Database) (told : List (ℕ × Response)) → StandOver held databases → told ≡ all_told (told_lost (seen held.gateway databases))
+pub lost_can : (held : Held) (databases : List Database) (told : List (ℕ × Response)) → AreValidOver held databases → told ≡ all_told (told_lost (seen held.gateway databases))
     → AllByRecursion (λ (t : ℕ × Response). IsWritable t.1) told
 unfolding clients_of
 lost_can held databases told stand is = subst (AllByRecursion (λ (t : ℕ × Response). IsWritable t.1)) (sym is) (lost_sent (clients_of held databases))
@@ -57,7 +57,7 @@ on_ok (Ok x) P p = p
 on_ok (Err e) P p = tt
 
 pub applied_stand : (old new : Held) (before after : List Database) (index : ℕ) → seen new.gateway after ≡ on_applied index (seen old.gateway before) → ((q : ℕ) → get nat_cmp new.connections q ≡ get nat_cmp old.connections q)
-    → PinsOf new.gateway after → StandOver old before → StandOver new after
+    → PinsOf new.gateway after → AreValidOver old before → AreValidOver new after
 unfolding clients_of
 applied_stand old new before after index is streams pins stand = record {
   pins = pins;
@@ -65,7 +65,7 @@ applied_stand old new before after index is streams pins stand = record {
 }
 
 pub lost_stand : (old new : Held) (before after : List Database) → seen new.gateway after ≡ on_lost (seen old.gateway before) → ((q : ℕ) → get nat_cmp new.connections q ≡ get nat_cmp old.connections q)
-    → PinsOf new.gateway after → StandOver old before → StandOver new after
+    → PinsOf new.gateway after → AreValidOver old before → AreValidOver new after
 unfolding clients_of
 lost_stand old new before after is streams pins stand = record {
   pins = pins;
@@ -74,7 +74,7 @@ lost_stand old new before after is streams pins stand = record {
 
 -- nothing has changed but perhaps turns
 pub failed_stand : (old new : Held) (before after : List Database) → seen new.gateway after ≡ seen old.gateway before → ((q : ℕ) → get nat_cmp new.connections q ≡ get nat_cmp old.connections q)
-    → PinsOf new.gateway after → StandOver old before → StandOver new after
+    → PinsOf new.gateway after → AreValidOver old before → AreValidOver new after
 unfolding clients_of
 failed_stand old new before after is streams pins stand = record {
   pins = pins;

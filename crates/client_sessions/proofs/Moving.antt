@@ -4,14 +4,14 @@ use Rattle.std.specs.List.{AllByRecursion}
 use Rattle.dq_base.specs.declared.images.Image.{Image}
 use Rattle.dq_base.specs.declared.image_number.ImageNumber.{ImageNumber}
 use Rattle.dq_base.specs.declared.image_number.ImageNumber.TheVariants.{Newest, Working}
-use Rattle.page_apply.specs.declared.database.Database.{Database}
-use Rattle.page_apply.specs.ImageNumbers.{Numbered, numbered}
-use Rattle.page_apply.specs.Machines.{IsMachine}
-use Rattle.page_apply.specs.Pins.{Pinning, IsPinned}
+use Rattle.database_state.specs.declared.database.Database.{Database}
+use Rattle.database_state.specs.ImageNumbers.{Numbered, numbered}
+use Rattle.database_state.specs.Machines.{IsMachine}
+use Rattle.database_state.specs.Pins.{Pinning, IsPinned}
 use Rattle.sql_engine.specs.Known.{Known}
-use Rattle.statement_runs.specs.Agreeing.{Agree, IsGiven}
-use Rattle.session_rules.specs.Events.{tidy, on_lost}
-use Rattle.session_rules.specs.Sessions.{Session as RuleSession, absent}
+use Rattle.session_statements.specs.Agreeing.{Agree, IsGiven}
+use Rattle.session_spec.specs.Events.{tidy, on_lost}
+use Rattle.session_spec.specs.Sessions.{Session as RuleSession, absent}
 use Rattle.session_table.specs.declared.session.Session.{Session}
 use Rattle.session_table.specs.declared.session.Transaction.{Transaction}
 use Rattle.session_table.specs.Marks.{AreMarks}
@@ -21,11 +21,11 @@ use Rattle.session_table.specs.Working.{work_of, works_of}
 use Rattle.session_table.proofs.Following.{IsSame, same_session}
 use Rattle.session_table.proofs.Found.{IsFound, all_found}
 use Rattle.session_table.proofs.Releasing.{all_front, all_back}
-use Rattle.gateway.specs.Seen.{seen, pins_of}
-use Rattle.gateway.proofs.Numbering.{started_agree}
+use Rattle.session_gateway.specs.Seen.{seen, pins_of}
+use Rattle.session_gateway.proofs.Numbering.{started_agree}
 use Rattle.client_sessions.specs.declared.clients.Clients.{Clients as Held}
 use Rattle.client_sessions.specs.Clients.{Clients, freed, HasNoTransactions, Sound}
-use Rattle.client_sessions.specs.Seen.{clients_of, Agrees, StandOver, HasNoMarks}
+use Rattle.client_sessions.specs.Seen.{clients_of, Agrees, AreValidOver, HasNoMarks}
 use Rattle.client_sessions.proofs.Landing.{unmarked}
 use Rattle.client_sessions.proofs.Standing.{held_alike}
 
@@ -57,7 +57,7 @@ module _ (old new : List Database) (none : HasNoMarks old) where
   table_same ss weight live =
       ap (λ (session : ℕ → RuleSession). record { conns = map (λ (s : Session). s.conn) ss; session = session; weight = weight }) (λ i conn. found_same conn ss live i)
 
-pub clients_same : (held : Held) (old new : List Database) → HasNoMarks old → StandOver held old → clients_of held new ≡ clients_of held old
+pub clients_same : (held : Held) (old new : List Database) → HasNoMarks old → AreValidOver held old → clients_of held new ≡ clients_of held old
 unfolding seen pins_of
 clients_same held old new none stand = held_alike held held old new (table_same old new none held.gateway.sessions held.gateway.weight stand.pins.live) (λ q. refl) refl
 
@@ -65,7 +65,7 @@ none_pinned : (old new : List Database) (pins : List Pinning) → HasNoMarks old
 none_pinned old new [] none live = refl
 none_pinned old new (pin ∷ pins) none live = absurd (none pin live.0)
 
-pub other_stand : (held : Held) (old new : List Database) → HasNoMarks old → HasNoMarks new → StandOver held old → StandOver held new
+pub other_stand : (held : Held) (old new : List Database) → HasNoMarks old → HasNoMarks new → AreValidOver held old → AreValidOver held new
 other_stand held old new none_old none_new stand = record {
   pins = subst (λ (ps : List Pinning). AreMarks ps new) (sym (none_pinned old new (pins_of held.gateway) none_old stand.pins.live)) (record { live = tt; apart = tt; only = λ pin live. absurd (none_new pin live) });
   sound = subst Sound (sym (clients_same held old new none_old stand)) stand.sound;
@@ -97,7 +97,7 @@ no_works : (ss : List Session) → AreEnded ss → works_of ss ≡ []
 no_works [] ended = refl
 no_works (s ∷ ss) ended = ap (λ (tx : Option Transaction). work_of tx ++ works_of ss) ended.0 ∙ no_works ss ended.1
 
-pub ended_unmarked : (held : Held) (databases : List Database) → IsTable held.gateway.sessions → HasNoTransactions (clients_of held databases) → StandOver held databases → HasNoMarks databases
+pub ended_unmarked : (held : Held) (databases : List Database) → IsTable held.gateway.sessions → HasNoTransactions (clients_of held databases) → AreValidOver held databases → HasNoMarks databases
 unfolding pins_of
 ended_unmarked held databases table none stand = unmarked (pins_of held.gateway) databases (no_pins held.gateway.sessions (ended held databases table none)) stand.pins
 

@@ -3,7 +3,7 @@ use Rattle.std.proofs.Common.{◌≡◌, ℕ, Bool, true, false, List, [], ◌�
 use Rattle.std.specs.Option.{option_or}
 use Rattle.wire_words.specs.declared.message.Message.{Message}
 use Rattle.client_connection.specs.Connection.{Conn}
-use Rattle.session_rules.specs.Sessions.{is_busy}
+use Rattle.session_spec.specs.Sessions.{is_busy}
 use Rattle.client_sessions.specs.Clients.{Clients, Offer, first_of, offered_on, offered, offer_of, next_offer, IsOffered}
 
 first_offered : (k : Clients) (conn : ℕ) (turns : List ℕ) (stream : Conn) (waiting : List Message) (o : Offer) → is_busy (k.sessions.session conn) ≡ false

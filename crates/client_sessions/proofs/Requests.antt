@@ -4,20 +4,20 @@ use Rattle.std.proofs.Common.{◌≡◌, ℕ, Bool, true, false, List, [], ◌�
 use Rattle.std.specs.Prelude.{◌&&◌}
 use Rattle.std.proofs.lemmas.Bool.{cond_both}
 use Rattle.dq_base.specs.Changes.{changed}
-use Rattle.page_apply.specs.Files.{empty_image}
+use Rattle.database_state.specs.Files.{empty_image}
 use Rattle.wire_msgs.specs.declared.request.Request.{Request}
 use Rattle.sql_engine.specs.Replies.{Statement}
-use Rattle.session_rules.specs.Allowed.{IsAllowed}
-use Rattle.session_rules.specs.Asking.{Asked, Never, Tells, Sets, Opens, Creates, Prepares, Drops, Begins, Commits, RollsBack, Changes, Runs, Reads, has_database, asked}
-use Rattle.session_rules.specs.Causes.{Cause}
-use Rattle.session_rules.specs.Engines.{Answer, no_pages, Ending, Lacking, TooLarge, Stopped, Ended, runs, no_answer}
-use Rattle.session_rules.specs.Entries.{Content, Configures, Other}
-use Rattle.session_rules.specs.Limits.{other_holds, pages_full, log_full}
-use Rattle.session_rules.specs.Machine.{Machine}
-use Rattle.session_rules.specs.Requests.{unless, reply_of, outside, outside_write, inside, run_in, has_nothing, committed, commit_in, does, on_request, on_later, with_later, flying, job_of, was_cut, read_outside, read_in, waits_first, barrier_first, reads}
-use Rattle.session_rules.specs.Sessions.{Kind, Configuring, Querying, Flight, Later, Lent, Transaction, Session, Gateway, View, Nothing, Turned, Refused, Lacks, Answers, Proposes, Lends, Affects}
-use Rattle.session_rules.proofs.Asked.{all_allowed}
-use Rattle.gateway.specs.Calls.{HasNoNul, IsConfigured}
+use Rattle.session_spec.specs.Allowed.{IsAllowed}
+use Rattle.session_spec.specs.Asking.{Asked, Never, Tells, Sets, Opens, Creates, Prepares, Drops, Begins, Commits, RollsBack, Changes, Runs, Reads, has_database, asked}
+use Rattle.session_spec.specs.Causes.{Cause}
+use Rattle.session_spec.specs.Engines.{Answer, no_pages, Ending, Lacking, TooLarge, Stopped, Ended, runs, no_answer}
+use Rattle.session_spec.specs.Entries.{Content, Configures, Other}
+use Rattle.session_spec.specs.Limits.{other_holds, pages_full, log_full}
+use Rattle.session_spec.specs.Machine.{Machine}
+use Rattle.session_spec.specs.Requests.{unless, reply_of, outside, outside_write, inside, run_in, has_nothing, committed, commit_in, does, on_request, on_later, with_later, flying, job_of, was_cut, read_outside, read_in, waits_first, barrier_first, reads}
+use Rattle.session_spec.specs.Sessions.{Kind, Configuring, Querying, Flight, Later, Lent, Transaction, Session, Gateway, View, Nothing, Turned, Refused, Lacks, Answers, Proposes, Lends, Affects}
+use Rattle.session_spec.proofs.Asked.{all_allowed}
+use Rattle.session_gateway.specs.Calls.{HasNoNul, IsConfigured}
 use Rattle.client_sessions.specs.Sending.{CanSend, KindCanSend, FlightCanSend}
 use Rattle.client_sessions.specs.Clients.{Awaits, KindIsOpened}
 use Rattle.client_sessions.proofs.Writable.{TellsWell, asked_tells, reply_sent, result_sent, optional_spelled}

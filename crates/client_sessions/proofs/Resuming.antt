@@ -6,23 +6,23 @@ use Rattle.client_connection.specs.Connection.{Conn}
 use Rattle.sql_engine.specs.declared.kind.EngineKind.{EngineKind}
 use Rattle.sql_engine.specs.Meanings.{Meaning, Told}
 use Rattle.sql_engine.specs.Replies.{Statement}
-use Rattle.session_rules.specs.Asking.{has_database}
-use Rattle.session_rules.specs.Machine.{Machine}
-use Rattle.session_rules.specs.Requests.{on_later, with_session, with_later, without_later}
-use Rattle.session_rules.specs.Sessions.{Reply, responses_of, Flight, Later, Session, Gateway, View, is_flying, later_query, lent_query}
-use Rattle.session_rules.specs.Touched.{IsListed}
-use Rattle.gateway.specs.declared.act.Act.{Act as GatewayAct}
-use Rattle.gateway.specs.declared.act.Act.TheVariants as gateway
-use Rattle.gateway.specs.Later.{LaterBy, ReadDone, Resumed}
-use Rattle.gateway.specs.Seen.{ListsAsBefore}
+use Rattle.session_spec.specs.Asking.{has_database}
+use Rattle.session_spec.specs.Machine.{Machine}
+use Rattle.session_spec.specs.Requests.{on_later, with_session, with_later, without_later}
+use Rattle.session_spec.specs.Sessions.{Reply, responses_of, Flight, Later, Session, Gateway, View, is_flying, later_query, lent_query}
+use Rattle.session_spec.specs.Touched.{IsListed}
+use Rattle.session_gateway.specs.declared.act.Act.{Act as GatewayAct}
+use Rattle.session_gateway.specs.declared.act.Act.TheVariants as gateway
+use Rattle.session_gateway.specs.Later.{RunsWaitingByAnswers, ReadDone, Resumed}
+use Rattle.session_gateway.specs.Seen.{ListsAsBefore}
 use Rattle.client_sessions.specs.Clients.{Clients, with_sessions, Fits, Awaits, Sound}
 use Rattle.client_sessions.specs.Sending.{ActCanSend}
 use Rattle.client_sessions.proofs.Asking.{is_sends, is_sound, failed_sound}
 use Rattle.client_sessions.proofs.Requests.{Keeps, rests, later_kept}
 use Rattle.client_sessions.proofs.Soundness.{session_sound}
 use Rattle.client_sessions.proofs.Writable.{ToldCanSend}
-use Rattle.statement_runs.specs.Calls.{call_of}
-use Rattle.session_decisions.specs.Scenes.{scene}
+use Rattle.session_statements.specs.Calls.{call_of}
+use Rattle.session_outcomes.specs.Scenes.{scene}
 
 -- ---- a session that has yet to answer a query
 
@@ -77,7 +77,7 @@ has_later (Some l) statement is = (l, refl)
 
 module _ (m : Meaning) (kind : EngineKind) (v : View) (machine : Machine) (g : Gateway) (conn : ℕ) (before now : Option Told) (after : Gateway) where
   later_keeps : (statement : Statement) (later : Later) (act : GatewayAct) → (g.session conn).later ≡ Some later → Awaits (g.session conn).database (g.session conn).flight (g.session conn).later
-      → (r : LaterBy (call_of m kind before now) (scene v machine (without_later g conn) conn) statement after act) → Keeps ((without_later g conn).session conn) (on_later v machine (without_later g conn) conn statement r.answers)
+      → (r : RunsWaitingByAnswers (call_of m kind before now) (scene v machine (without_later g conn) conn) statement after act) → Keeps ((without_later g conn).session conn) (on_later v machine (without_later g conn) conn statement r.answers)
   later_keeps statement later act is awaits r =
       later_kept v machine (without_later g conn) conn statement r.answers
       (ap (λ (s : Session). s.flight) (here g conn) ∙ (later_alone (g.session conn) later is awaits).0)

@@ -11,27 +11,27 @@ use Rattle.wire_msgs.specs.Reading.{request_of}
 use Rattle.sql_engine.specs.Known.{Known}
 use Rattle.sql_engine.specs.declared.kind.EngineKind.{EngineKind}
 use Rattle.sql_engine.specs.Meanings.{Meaning, Told}
-use Rattle.page_apply.specs.declared.database.Database.{Database}
-use Rattle.page_apply.specs.Pins.{Pinning}
-use Rattle.session_rules.specs.Machine.{Machine}
-use Rattle.session_rules.specs.Sessions.{Gateway, View, Reply, may_ask, is_due, later_query, lent_query}
-use Rattle.session_rules.specs.Touched.{IsListed}
+use Rattle.database_state.specs.declared.database.Database.{Database}
+use Rattle.database_state.specs.Pins.{Pinning}
+use Rattle.session_spec.specs.Machine.{Machine}
+use Rattle.session_spec.specs.Sessions.{Gateway, View, Reply, may_ask, is_due, later_query, lent_query}
+use Rattle.session_spec.specs.Touched.{IsListed}
 use Rattle.session_table.specs.Marks.{AreMarks}
-use Rattle.gateway.specs.Later.{first_due}
-use Rattle.gateway.specs.Seen as gates
-use Rattle.gateway.specs.Seen.{Held as Gate, seen, pins_of, PinsOf}
+use Rattle.session_gateway.specs.Later.{first_due}
+use Rattle.session_gateway.specs.Seen as gates
+use Rattle.session_gateway.specs.Seen.{Held as Gate, seen, pins_of, PinsOf}
 use Rattle.client_sessions.specs.declared.act.Act.{Act}
 use Rattle.client_sessions.specs.declared.clients.Clients.{Clients as Held}
 use Rattle.client_sessions.specs.Clients.{Clients, with_sessions, freed, Awaits, Sound}
 use Rattle.client_sessions.specs.Calls.{TookNext, Comes, TookOffer}
 use Rattle.client_sessions.specs.Later.{Resumes, Finishes}
-use Rattle.client_sessions.specs.Seen.{clients_of, Agrees, StandOver}
+use Rattle.client_sessions.specs.Seen.{clients_of, Agrees, AreValidOver}
 use Rattle.client_sessions.proofs.Asking.{offered_asks}
 use Rattle.client_sessions.proofs.Offers.{next_is_first}
 use Rattle.client_sessions.proofs.Standing.{sound_as}
 use Rattle.client_sessions.proofs.Taking.{took_sound, idle_sound}
-use Rattle.statement_runs.specs.Calls.{call_of}
-use Rattle.session_decisions.specs.Scenes.{scene}
+use Rattle.session_statements.specs.Calls.{call_of}
+use Rattle.session_outcomes.specs.Scenes.{scene}
 
 -- ---- the message that was taken
 
@@ -50,7 +50,7 @@ next_sound : (k mid : Clients) (took : Option (ℕ × Message)) → TookNext k m
 next_sound k mid None t sound = idle_sound k mid t.1 sound
 next_sound k mid (Some took) t sound = took_sound k mid t.0 t.1 t.4 sound
 
-pub took_stand : (old mid : Held) (databases : List Database) (took : Option (ℕ × Message)) → TookNext (clients_of old databases) (clients_of mid databases) took → mid.gateway ≡ old.gateway → StandOver old databases → StandOver mid databases
+pub took_stand : (old mid : Held) (databases : List Database) (took : Option (ℕ × Message)) → TookNext (clients_of old databases) (clients_of mid databases) took → mid.gateway ≡ old.gateway → AreValidOver old databases → AreValidOver mid databases
 took_stand old mid databases took t same stand = record {
   pins = subst (λ (g : Gate). PinsOf g databases) (sym same) stand.pins;
   sound = next_sound (clients_of old databases) (clients_of mid databases) took t stand.sound;
@@ -85,11 +85,11 @@ pub ready_held : (held : Held) (databases : List Database) (conn : ℕ) → may_
 unfolding clients_of
 ready_held held databases conn ready = ready
 
-pub listed_held : (held : Held) (databases : List Database) (conn : ℕ) → StandOver held databases → IsListed ((seen held.gateway databases).session conn).tx
+pub listed_held : (held : Held) (databases : List Database) (conn : ℕ) → AreValidOver held databases → IsListed ((seen held.gateway databases).session conn).tx
 unfolding clients_of
 listed_held held databases conn stand = stand.sound.listed conn
 
-pub awaits_held : (held : Held) (databases : List Database) (conn : ℕ) → StandOver held databases
+pub awaits_held : (held : Held) (databases : List Database) (conn : ℕ) → AreValidOver held databases
     → Awaits ((seen held.gateway databases).session conn).database ((seen held.gateway databases).session conn).flight ((seen held.gateway databases).session conn).later
 unfolding clients_of
 awaits_held held databases conn stand = stand.sound.awaits conn
@@ -136,8 +136,8 @@ pub rest_held : (old new : Held) (before after : List Database) → ((q : ℕ) �
 unfolding clients_of
 rest_held old new before after streams same = λ i. record { sessions = seen new.gateway after; streams = λ q. streams q i; turns = same i }
 
-pub came_stand : (old new : Held) (before after : List Database) → StandOver old before → ((k : Clients) → k.sessions ≡ seen old.gateway before → Sound k → Sound (with_sessions k (seen new.gateway after)))
-    → ((q : ℕ) → get nat_cmp new.connections q ≡ get nat_cmp old.connections q) → PinsOf new.gateway after → StandOver new after
+pub came_stand : (old new : Held) (before after : List Database) → AreValidOver old before → ((k : Clients) → k.sessions ≡ seen old.gateway before → Sound k → Sound (with_sessions k (seen new.gateway after)))
+    → ((q : ℕ) → get nat_cmp new.connections q ≡ get nat_cmp old.connections q) → PinsOf new.gateway after → AreValidOver new after
 unfolding clients_of
 came_stand old new before after stand keeps streams pins = record {
   pins = pins;
@@ -149,7 +149,7 @@ pub idle_held : (old new : Held) (before after : List Database) → ((q : ℕ) �
 idle_held old new before after streams same = turned_held old new before after [] streams (same ∙ no_more old.turns.items)
 
 -- the same, over a machine that hasn't changed
-pub read_stand : (old new : Held) (databases : List Database) → StandOver old databases → ((k : Clients) → k.sessions ≡ seen old.gateway databases → Sound k → Sound (with_sessions k (seen new.gateway databases)))
-    → ((q : ℕ) → get nat_cmp new.connections q ≡ get nat_cmp old.connections q) → pins_of new.gateway ≡ pins_of old.gateway → StandOver new databases
+pub read_stand : (old new : Held) (databases : List Database) → AreValidOver old databases → ((k : Clients) → k.sessions ≡ seen old.gateway databases → Sound k → Sound (with_sessions k (seen new.gateway databases)))
+    → ((q : ℕ) → get nat_cmp new.connections q ≡ get nat_cmp old.connections q) → pins_of new.gateway ≡ pins_of old.gateway → AreValidOver new databases
 read_stand old new databases stand keeps streams pins =
     came_stand old new databases databases stand keeps streams (subst (λ (ps : List Pinning). AreMarks ps databases) (sym pins) stand.pins)

@@ -1,14 +1,14 @@
 -- What holds of clients at all times, over each thing that happens to them.
 use Rattle.std.proofs.Common.{◌≡◌, ℕ, Bool, true, false, cond, not, ◌||◌, ◌==◌, List, Option, Some, None, is_none, refl, sym, ap, subst, ◌∙◌, eqb-true}
 use Rattle.client_connection.specs.Connection.{Conn, opened}
-use Rattle.session_rules.specs.Sessions.{Kind, Opening, Configuring, Writing, Committing, Querying, Flight, Later, Due, Lent, Session, absent, fresh, is_flying, is_busy}
-use Rattle.session_rules.specs.Requests.{with_session}
-use Rattle.session_rules.specs.Events.{tidy, landed, settled_by, on_applied, still_lent, on_lost, left, on_hangup, connected}
+use Rattle.session_spec.specs.Sessions.{Kind, Opening, Configuring, Writing, Committing, Querying, Flight, Later, Due, Lent, Session, absent, fresh, is_flying, is_busy}
+use Rattle.session_spec.specs.Requests.{with_session}
+use Rattle.session_spec.specs.Events.{tidy, landed, settled_by, on_applied, still_lent, on_lost, left, on_hangup, connected}
 use Rattle.client_sessions.specs.Sending.{FlightCanSend}
 use Rattle.client_sessions.specs.Clients.{Clients, no_clients, with_stream, joining, joined, joined_as, without, with_sessions, freed, Fits, KindIsOpened, Awaits, Sound}
-use Rattle.client_sessions.specs.declared.joining.Joining.{Joining}
-use Rattle.client_sessions.specs.declared.joining.Joining.TheVariants.{Joined, Full, Taken}
-use Rattle.session_rules.specs.Touched.{IsListed}
+use Rattle.client_sessions.specs.declared.connect_result.ConnectResult.{ConnectResult}
+use Rattle.client_sessions.specs.declared.connect_result.ConnectResult.TheVariants.{Joined, Full, Taken}
+use Rattle.session_spec.specs.Touched.{IsListed}
 use Rattle.client_sessions.proofs.Requests.{Follows}
 
 -- a session fits its connection, its proposal's reply can be sent, its transaction is listed, and it waits for one thing
@@ -38,7 +38,7 @@ good_where false stream other_stream s other g h = h
 
 -- ---- connections that come and go
 
-joined_good : (k : Clients) (conn : ℕ) (how : Joining) → Sound k → Sound (joined_as k conn how)
+joined_good : (k : Clients) (conn : ℕ) (how : ConnectResult) → Sound k → Sound (joined_as k conn how)
 unfolding connected
 joined_good k conn Joined sound =
     sound_by (joined_as k conn Joined) (λ other.

@@ -6,18 +6,18 @@ use Rattle.std.specs.Map.{lookup, set_value}
 use Rattle.std.proofs.lemmas.Map.Steps.{set_value_same}
 use Rattle.std.proofs.lemmas.Bool.{ltb-true, eqb-true, eqb-false, ne_eqb, eq-eqb}
 use Rattle.client_connection.specs.Connection.{Conn}
-use Rattle.frame_commands.specs.declared.command.Command.{Command}
-use Rattle.page_apply.specs.declared.database.Database.{Database}
-use Rattle.page_apply.specs.Databases.{act}
-use Rattle.page_apply.specs.Pins.{Pinning, StillPinned}
-use Rattle.session_rules.specs.Sessions.{no_sessions}
-use Rattle.session_rules.specs.Events.{on_hangup}
+use Rattle.log_commands.specs.declared.command.Command.{Command}
+use Rattle.database_state.specs.declared.database.Database.{Database}
+use Rattle.database_state.specs.Databases.{act}
+use Rattle.database_state.specs.Pins.{Pinning, StillPinned}
+use Rattle.session_spec.specs.Sessions.{no_sessions}
+use Rattle.session_spec.specs.Events.{on_hangup}
 use Rattle.session_table.specs.Marks.{AreMarks}
-use Rattle.gateway.specs.Seen.{seen, pins_of, PinsOf}
-use Rattle.gateway.proofs.Keeping.{marks_stay, sessions_stay}
+use Rattle.session_gateway.specs.Seen.{seen, pins_of, PinsOf}
+use Rattle.session_gateway.proofs.Keeping.{marks_stay, sessions_stay}
 use Rattle.client_sessions.specs.declared.clients.Clients.{Clients as Held}
 use Rattle.client_sessions.specs.Clients.{Clients, no_clients, with_stream, without, hung_up, Sound}
-use Rattle.client_sessions.specs.Seen.{clients_of, StandOver, HasNoMarks}
+use Rattle.client_sessions.specs.Seen.{clients_of, AreValidOver, HasNoMarks}
 use Rattle.client_sessions.proofs.Soundness.{none_sound, open_there, without_sound}
 
 -- clients are alike where all that they have is
@@ -60,7 +60,7 @@ none_held held databases sessions entries turns =
 no_marks : (databases : List Database) → HasNoMarks databases → AreMarks [] databases
 no_marks databases none = record { live = tt; apart = tt; only = λ pin live. absurd (none pin live) }
 
-pub none_stand : (held : Held) (databases : List Database) → pins_of held.gateway ≡ [] → clients_of held databases ≡ no_clients → HasNoMarks databases → StandOver held databases
+pub none_stand : (held : Held) (databases : List Database) → pins_of held.gateway ≡ [] → clients_of held databases ≡ no_clients → HasNoMarks databases → AreValidOver held databases
 none_stand held databases pins is none = record {
   pins = subst (λ (ps : List Pinning). AreMarks ps databases) (sym pins) (no_marks databases none);
   sound = subst Sound (sym is) none_sound;
@@ -69,12 +69,12 @@ none_stand held databases pins is none = record {
 -- ---- commands
 
 pub clients_stay : (held : Held) (databases : List Database) (command : Command) → ((pin : Pinning) → StillPinned databases (act databases command) pin)
-    → StandOver held databases → clients_of held (act databases command) ≡ clients_of held databases
+    → AreValidOver held databases → clients_of held (act databases command) ≡ clients_of held databases
 clients_stay held databases command still stand =
     held_alike held held databases (act databases command) (sessions_stay held.gateway databases command still stand.pins) (λ q. refl) refl
 
 pub still_stand : (held : Held) (databases : List Database) (command : Command) → ((pin : Pinning) → StillPinned databases (act databases command) pin)
-    → StandOver held databases → StandOver held (act databases command)
+    → AreValidOver held databases → AreValidOver held (act databases command)
 still_stand held databases command still stand = record {
   pins = marks_stay held.gateway databases command still stand.pins;
   sound = subst Sound (sym (clients_stay held databases command still stand)) stand.sound;
@@ -130,7 +130,7 @@ same_entries old new databases conn updates none sessions turns =
     (λ q. updated old.connections new.connections conn None updates q ∙ kept (λ k. get nat_cmp old.connections k) conn None none q) turns
 
 -- the same clients stand where they stood
-pub same_stand : (old new : Held) (databases : List Database) → clients_of new databases ≡ clients_of old databases → PinsOf new.gateway databases → StandOver old databases → StandOver new databases
+pub same_stand : (old new : Held) (databases : List Database) → clients_of new databases ≡ clients_of old databases → PinsOf new.gateway databases → AreValidOver old databases → AreValidOver new databases
 same_stand old new databases same pins stand = record { pins = pins; sound = subst Sound (sym same) stand.sound }
 
 -- ---- hanging up
@@ -156,13 +156,13 @@ unfolding clients_of
 stream_held held databases conn stream is = is
 
 -- the session of an open connection is there and hasn't hung up
-pub held_there : (held : Held) (databases : List Database) (conn : ℕ) (stream : Conn) → get nat_cmp held.connections conn ≡ Some stream → StandOver held databases
+pub held_there : (held : Held) (databases : List Database) (conn : ℕ) (stream : Conn) → get nat_cmp held.connections conn ≡ Some stream → AreValidOver held databases
     → (((seen held.gateway databases).session conn).there ≡ true) × (((seen held.gateway databases).session conn).hung ≡ false)
 unfolding clients_of
 held_there held databases conn stream is stand = open_there (clients_of held databases) conn stream is stand.sound
 
-pub left_stand : (old new : Held) (before after : List Database) (conn : ℕ) (stream : Conn) → get nat_cmp old.connections conn ≡ Some stream → StandOver old before
-    → clients_of new after ≡ without (clients_of old before) conn → PinsOf new.gateway after → StandOver new after
+pub left_stand : (old new : Held) (before after : List Database) (conn : ℕ) (stream : Conn) → get nat_cmp old.connections conn ≡ Some stream → AreValidOver old before
+    → clients_of new after ≡ without (clients_of old before) conn → PinsOf new.gateway after → AreValidOver new after
 left_stand old new before after conn stream is stand left pins = record {
   pins = pins;
   sound = subst Sound (sym left) (without_sound (clients_of old before) conn stream (stream_held old before conn (Some stream) is) stand.sound);

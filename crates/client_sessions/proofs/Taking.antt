@@ -6,9 +6,9 @@ use Rattle.std.specs.BTreeMap.{get, is_at}
 use Rattle.std.specs.Map.{set_value}
 use Rattle.wire_words.specs.declared.message.Message.{Message}
 use Rattle.client_connection.specs.Connection.{Conn, TakesFirst}
-use Rattle.page_apply.specs.declared.database.Database.{Database}
-use Rattle.session_rules.specs.Sessions.{is_busy}
-use Rattle.gateway.specs.Seen.{seen}
+use Rattle.database_state.specs.declared.database.Database.{Database}
+use Rattle.session_spec.specs.Sessions.{is_busy}
+use Rattle.session_gateway.specs.Seen.{seen}
 use Rattle.client_sessions.specs.declared.clients.Clients.{Clients as Held}
 use Rattle.client_sessions.specs.Clients.{Clients, Offer, next_offer, taken, Sound}
 use Rattle.client_sessions.specs.Calls.{TookFrom, TookNext}

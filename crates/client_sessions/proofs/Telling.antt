@@ -4,9 +4,9 @@ use Rattle.std.proofs.lemmas.List.{map-append, take_more}
 use Rattle.std.specs.List.{AllByRecursion, flat_map}
 use Rattle.wire_msgs.specs.declared.response.Response.{Response}
 use Rattle.wire_msgs.specs.Responses.{IsWritable}
-use Rattle.session_rules.specs.Causes.{LeadershipLost}
-use Rattle.session_rules.specs.Sessions.{Reply, Refusal, responses_of, Kind, Opening, Configuring, Writing, Committing, Querying, Flight, Session, Gateway}
-use Rattle.session_rules.specs.Events.{landed_reply, told_to, told_by, told_applied, told_lost}
+use Rattle.session_spec.specs.Causes.{LeadershipLost}
+use Rattle.session_spec.specs.Sessions.{Reply, Refusal, responses_of, Kind, Opening, Configuring, Writing, Committing, Querying, Flight, Session, Gateway}
+use Rattle.session_spec.specs.Events.{landed_reply, told_to, told_by, told_applied, told_lost}
 use Rattle.session_table.specs.Sweeping.{told_in, all_told}
 use Rattle.client_sessions.specs.Clients.{Clients, Sound}
 use Rattle.client_sessions.specs.Sending.{CanSend, KindCanSend, FlightCanSend}

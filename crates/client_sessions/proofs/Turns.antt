@@ -3,7 +3,7 @@ use Rattle.std.proofs.Common.{◌≡◌, ℕ, Bool, true, false, List, [], ◌�
 use Rattle.std.specs.Option.{option_or}
 use Rattle.wire_words.specs.declared.message.Message.{Message}
 use Rattle.client_connection.specs.Connection.{Conn}
-use Rattle.session_rules.specs.Sessions.{Gateway, is_busy}
+use Rattle.session_spec.specs.Sessions.{Gateway, is_busy}
 use Rattle.client_sessions.specs.Clients.{Clients, with_stream, Offer, first_of, offered_on, offered, offer_of, next_offer}
 use Rattle.client_sessions.specs.Calls.{TookFrom, TookNext}
 

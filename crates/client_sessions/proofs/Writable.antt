@@ -11,27 +11,27 @@ use Rattle.wire_msgs.specs.declared.response.Response.TheVariants as responses
 use Rattle.wire_msgs.specs.declared.fault.MsgFault.{MsgFault}
 use Rattle.wire_msgs.specs.Fields.{Field, HaveSpellings}
 use Rattle.wire_msgs.specs.Responses.{IsWritable, optional, server_fields}
-use Rattle.sql_scan.specs.declared.pieces.Piece.{Piece}
+use Rattle.sql_scan.specs.declared.pieces.StatementSpan.{StatementSpan}
 use Rattle.sql_scan.specs.declared.fault.ScanFault.{ScanFault}
 use Rattle.sql_scan.specs.declared.heading.WordKind.{WordKind}
 use Rattle.sql_scan.specs.declared.heading.WordKind.TheVariants as words
-use Rattle.sql_engine.specs.declared.answer.Ran.{Ran}
+use Rattle.sql_engine.specs.declared.answer.StatementResult.{StatementResult}
 use Rattle.sql_engine.specs.Replies.{Statement}
-use Rattle.raft_rules.specs.Node.{Server}
-use Rattle.raft_vote.specs.Servers.{IsServer}
-use Rattle.session_rules.specs.Causes as causes
-use Rattle.session_rules.specs.Causes.{Cause, failure, message, unread_cause}
-use Rattle.session_rules.specs.Machine.{Machine}
-use Rattle.session_rules.specs.Servers.{server_of}
-use Rattle.session_rules.specs.Sessions.{Reply, Refusal, Single, Rows, Prepared, Session, Gateway, View}
-use Rattle.session_rules.specs.Statements.{prepared_from}
-use Rattle.session_rules.specs.Requests.{reply_of}
-use Rattle.session_rules.specs.Asking.{Asked, Never, Tells, Sets, Opens, Creates, Prepares, Drops, Begins, Commits, RollsBack, Changes, Runs, Reads, asked_by, never_or, told_leader, leader_known, info_of, asks_cluster, files_of, asks_dump, asks_new, asks_open, asks_kind, asks_one, asks_several, asks_statements, asks_text, asks_query, not_one, asks_sole, asks_rows, asks_exec, asks_prepared_query, asks_finalize, with_room, asks_prepare_pieces, asks_prepare, at_leader, in_database, if_settled, of_other, asks_add, asks_role, asks_assign, asks_remove, asks_transfer}
-use Rattle.gateway.specs.Calls.{HasNoNul, IsConfigured}
+use Rattle.raft_spec.specs.Node.{Server}
+use Rattle.raft_messages.specs.Servers.{IsServer}
+use Rattle.session_spec.specs.Causes as causes
+use Rattle.session_spec.specs.Causes.{Cause, failure, message, unread_cause}
+use Rattle.session_spec.specs.Machine.{Machine}
+use Rattle.session_spec.specs.Servers.{server_of}
+use Rattle.session_spec.specs.Sessions.{Reply, Refusal, Single, Rows, Prepared, Session, Gateway, View}
+use Rattle.session_spec.specs.Statements.{prepared_from}
+use Rattle.session_spec.specs.Requests.{reply_of}
+use Rattle.session_spec.specs.Asking.{Asked, Never, Tells, Sets, Opens, Creates, Prepares, Drops, Begins, Commits, RollsBack, Changes, Runs, Reads, asked_by, never_or, told_leader, leader_known, info_of, asks_cluster, files_of, asks_dump, asks_new, asks_open, asks_kind, asks_one, asks_several, asks_statements, asks_text, asks_query, not_one, asks_sole, asks_rows, asks_exec, asks_prepared_query, asks_finalize, with_room, asks_prepare_pieces, asks_prepare, at_leader, in_database, if_settled, of_other, asks_add, asks_role, asks_assign, asks_remove, asks_transfer}
+use Rattle.session_gateway.specs.Calls.{HasNoNul, IsConfigured}
 use Rattle.session_table.specs.Named.{cause_named}
-use Rattle.session_decisions.specs.declared.job.Read.{Read}
-use Rattle.session_decisions.specs.declared.job.Read.TheVariants as reads
-use Rattle.session_decisions.specs.Reading.{read_named}
+use Rattle.session_outcomes.specs.declared.job.Read.{Read}
+use Rattle.session_outcomes.specs.declared.job.Read.TheVariants as reads
+use Rattle.session_outcomes.specs.Reading.{read_named}
 use Rattle.client_sessions.specs.Sending.{CanSend}
 use Rattle.client_sessions.proofs.Whole.{parts_writable}
 
@@ -86,10 +86,10 @@ unread_writable fault = (refusal_sent (unread_cause fault)).0
 
 -- ---- rows
 
-rows_sent : (answer : Ran) → CanSend (Rows answer)
+rows_sent : (answer : StatementResult) → CanSend (Rows answer)
 rows_sent answer = parts_writable answer.columns (cut answer.columns answer.rows)
 
-pub reply_sent : (rows : Bool) (answer : Ran) → CanSend (reply_of rows answer)
+pub reply_sent : (rows : Bool) (answer : StatementResult) → CanSend (reply_of rows answer)
 reply_sent true answer = rows_sent answer
 reply_sent false answer = ((tt, (tt, tt)), tt)
 
@@ -167,7 +167,7 @@ statements_tell hinders within [] params = several_tells hinders [] params
 statements_tell hinders within (p ∷ []) params = one_tells hinders within p params
 statements_tell hinders within (p ∷ q ∷ ps) params = several_tells hinders (p ∷ q ∷ ps) params
 
-text_tells : (hinders : Option Cause) (within : Bool) (sql : List ℕ) (scan : Result (List Piece) ScanFault) (params : List Value) → TellsWell (asks_text hinders within sql scan params)
+text_tells : (hinders : Option Cause) (within : Bool) (sql : List ℕ) (scan : Result (List StatementSpan) ScanFault) (params : List Value) → TellsWell (asks_text hinders within sql scan params)
 text_tells hinders within sql (Err fault) params = tt
 text_tells hinders within sql (Ok pieces) params = statements_tell hinders within (map (prepared_from sql) pieces) params
 
@@ -182,7 +182,7 @@ sole_tells hinders [] params = not_one_tells []
 sole_tells hinders (p ∷ []) params = query_tells hinders p params
 sole_tells hinders (p ∷ q ∷ ps) params = not_one_tells (p ∷ q ∷ ps)
 
-rows_tell : (hinders : Option Cause) (sql : List ℕ) (scan : Result (List Piece) ScanFault) (params : List Value) → TellsWell (asks_rows hinders sql scan params)
+rows_tell : (hinders : Option Cause) (sql : List ℕ) (scan : Result (List StatementSpan) ScanFault) (params : List Value) → TellsWell (asks_rows hinders sql scan params)
 rows_tell hinders sql (Err fault) params = tt
 rows_tell hinders sql (Ok pieces) params = sole_tells hinders (map (prepared_from sql) pieces) params
 
@@ -201,12 +201,12 @@ finalize_tells (Some p) id = tt
 room_tells : (s : Session) (p : Prepared) (tail : Option ℕ) → TellsWell (with_room s p tail)
 room_tells s p tail = search (rules, either)
 
-pieces_tell : (s : Session) (sql : List ℕ) (wide : Bool) (pieces : List Piece) → TellsWell (asks_prepare_pieces s sql wide pieces)
+pieces_tell : (s : Session) (sql : List ℕ) (wide : Bool) (pieces : List StatementSpan) → TellsWell (asks_prepare_pieces s sql wide pieces)
 pieces_tell s sql wide [] = tt
 pieces_tell s sql wide (p ∷ []) = search (rules, either, room_tells)
 pieces_tell s sql wide (p ∷ q ∷ ps) = search (rules, either, room_tells)
 
-prepare_tells : (s : Session) (sql : List ℕ) (wide : Bool) (scan : Result (List Piece) ScanFault) → TellsWell (asks_prepare s sql wide scan)
+prepare_tells : (s : Session) (sql : List ℕ) (wide : Bool) (scan : Result (List StatementSpan) ScanFault) → TellsWell (asks_prepare s sql wide scan)
 prepare_tells s sql wide (Err fault) = tt
 prepare_tells s sql wide (Ok pieces) = pieces_tell s sql wide pieces
 

@@ -9,16 +9,16 @@ use Rattle.wire_msgs.specs.declared.fault.MsgFault.{MsgFault}
 use Rattle.wire_msgs.specs.Responses.{response_bytes}
 use Rattle.wire_msgs.specs.Reading.{request_of}
 use Rattle.sql_engine.specs.Meanings.{Told}
-use Rattle.session_rules.specs.Causes.{NotADatabase, unread_cause, failure}
-use Rattle.session_rules.specs.Events.{on_applied, told_applied, on_lost, told_lost}
-use Rattle.session_rules.specs.Machine.{Machine}
-use Rattle.session_rules.specs.Sessions.{Gateway, View}
-pub use Rattle.statement_runs.specs.Calls.{EngineCall, call_of}
+use Rattle.session_spec.specs.Causes.{NotADatabase, unread_cause, failure}
+use Rattle.session_spec.specs.Events.{on_applied, told_applied, on_lost, told_lost}
+use Rattle.session_spec.specs.Machine.{Machine}
+use Rattle.session_spec.specs.Sessions.{Gateway, View}
+pub use Rattle.session_statements.specs.Calls.{EngineCall, call_of}
 use Rattle.session_table.specs.Sweeping.{all_told}
-pub use Rattle.session_decisions.specs.Scenes.{Scene, scene}
-use Rattle.gateway.specs.declared.act.Act.{Act as GatewayAct}
-use Rattle.gateway.specs.declared.act.Act.TheVariants as gateway
-use Rattle.gateway.specs.Calls.{TurnedBy}
+pub use Rattle.session_outcomes.specs.Scenes.{Scene, scene}
+use Rattle.session_gateway.specs.declared.act.Act.{Act as GatewayAct}
+use Rattle.session_gateway.specs.declared.act.Act.TheVariants as gateway
+use Rattle.session_gateway.specs.Calls.{TurnsByAnswers}
 use Rattle.client_sessions.specs.declared.act.Act.{Act}
 use Rattle.client_sessions.specs.declared.act.Act.TheVariants.{Reply, Propose, Lend, Transfer, Peer}
 use Rattle.client_sessions.specs.Clients.{Clients, with_stream, Offer, offered, next_offer, taken, with_sessions, freed}
@@ -52,7 +52,7 @@ TookNext old new (Some took) = (offer : Offer) × (next_offer old ≡ Some offer
 -- database only where one more opening was refused.
 pub record Asked (c : EngineCall) (at : Scene) (request : Request) (refused_before refused_now : ℕ) (now : Gateway) (act : Act) : Type 0 where
   pub gateway_act : GatewayAct
-  pub turned : TurnedBy c at request now gateway_act
+  pub turned : TurnsByAnswers c at request now gateway_act
   pub act_is : act ≡ act_on at.conn gateway_act
   pub unopened : gateway_act ≡ gateway.Reply (failure NotADatabase ∷ []) → refused_before < refused_now
 

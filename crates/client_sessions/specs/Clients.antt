@@ -4,13 +4,13 @@ use Rattle.std.specs.Option.{option_or}
 use Rattle.wire_words.specs.declared.message.Message.{Message}
 use Rattle.client_connection.specs.declared.connection.CloseReason.{CloseReason}
 use Rattle.client_connection.specs.Connection.{Conn, opened, received, reason_of}
-use Rattle.session_rules.specs.Sessions.{Kind, Opening, Configuring, Writing, Committing, Querying, Flight, Later}
-use Rattle.session_rules.specs.Sessions.{Session, Gateway, no_sessions, is_flying, is_busy}
-use Rattle.session_rules.specs.Events.{connects, connected, on_hangup}
-use Rattle.session_rules.specs.Touched.{IsListed}
+use Rattle.session_spec.specs.Sessions.{Kind, Opening, Configuring, Writing, Committing, Querying, Flight, Later}
+use Rattle.session_spec.specs.Sessions.{Session, Gateway, no_sessions, is_flying, is_busy}
+use Rattle.session_spec.specs.Events.{connects, connected, on_hangup}
+use Rattle.session_spec.specs.Touched.{IsListed}
 use Rattle.client_sessions.specs.Sending.{FlightCanSend}
-use Rattle.client_sessions.specs.declared.joining.Joining.{Joining}
-use Rattle.client_sessions.specs.declared.joining.Joining.TheVariants.{Joined, Full, Taken}
+use Rattle.client_sessions.specs.declared.connect_result.ConnectResult.{ConnectResult}
+use Rattle.client_sessions.specs.declared.connect_result.ConnectResult.TheVariants.{Joined, Full, Taken}
 
 -- The sessions; the streams of the open connections; and the connections whose turn it is, in order. A connection gets a
 -- turn where its bytes come, and where its session is freed. Between two steps of the node none has one.
@@ -31,10 +31,10 @@ with_stream streams conn stream other = if other == conn then stream else stream
 
 -- How a connection comes: its number may be taken, by one that is open or by one that hung up and whose proposal is in
 -- flight; there may be no room; or it gets a session.
-unfoldable pub joining : Gateway → ℕ → Joining
+unfoldable pub joining : Gateway → ℕ → ConnectResult
 joining g conn = if (g.session conn).there then Taken else if connects g conn then Joined else Full
 
-abbrev pub joined_as : Clients → ℕ → Joining → Clients
+abbrev pub joined_as : Clients → ℕ → ConnectResult → Clients
 joined_as k conn Joined = record { sessions = connected k.sessions conn; streams = with_stream k.streams conn (Some opened); turns = k.turns }
 joined_as k conn Full = k
 joined_as k conn Taken = k

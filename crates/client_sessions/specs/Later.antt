@@ -1,14 +1,14 @@
 -- What comes of queries that are answered later than they were asked, as code tells it.
 use Rattle.std.specs.Prelude.{◌≡◌, ◌<◌, ℕ, List, [], ◌∷◌, Option, Some, None}
 use Rattle.sql_engine.specs.Replies.{Statement}
-use Rattle.session_rules.specs.Causes.{NotADatabase, failure}
-use Rattle.session_rules.specs.Requests.{without_later}
-use Rattle.session_rules.specs.Sessions.{Reply as RuleReply, Gateway, responses_of}
-use Rattle.statement_runs.specs.Calls.{EngineCall}
-use Rattle.session_decisions.specs.Scenes.{Scene}
-use Rattle.gateway.specs.declared.act.Act.{Act as GatewayAct}
-use Rattle.gateway.specs.declared.act.Act.TheVariants as gateway
-use Rattle.gateway.specs.Later.{LaterBy}
+use Rattle.session_spec.specs.Causes.{NotADatabase, failure}
+use Rattle.session_spec.specs.Requests.{without_later}
+use Rattle.session_spec.specs.Sessions.{Reply as RuleReply, Gateway, responses_of}
+use Rattle.session_statements.specs.Calls.{EngineCall}
+use Rattle.session_outcomes.specs.Scenes.{Scene}
+use Rattle.session_gateway.specs.declared.act.Act.{Act as GatewayAct}
+use Rattle.session_gateway.specs.declared.act.Act.TheVariants as gateway
+use Rattle.session_gateway.specs.Later.{RunsWaitingByAnswers}
 use Rattle.client_sessions.specs.declared.act.Act.{Act}
 use Rattle.client_sessions.specs.declared.act.Act.TheVariants.{Reply}
 use Rattle.client_sessions.specs.Calls.{act_on, bytes_of}
@@ -17,7 +17,7 @@ use Rattle.client_sessions.specs.Calls.{act_on, bytes_of}
 -- refused as over no database only where one more opening was refused.
 pub record RanLater (c : EngineCall) (at : Scene) (statement : Statement) (refused_before refused_now : ℕ) (now : Gateway) (act : Act) : Type 0 where
   pub gateway_act : GatewayAct
-  pub ran : LaterBy c (record at { sessions = without_later at.sessions at.conn }) statement now gateway_act
+  pub ran : RunsWaitingByAnswers c (record at { sessions = without_later at.sessions at.conn }) statement now gateway_act
   pub act_is : act ≡ act_on at.conn gateway_act
   pub unopened : gateway_act ≡ gateway.Reply (failure NotADatabase ∷ []) → refused_before < refused_now
 

@@ -3,10 +3,10 @@ use Rattle.std.specs.Prelude.{List}
 use Rattle.std.specs.Ordering.{nat_cmp}
 use Rattle.std.specs.BTreeMap.{get}
 use Rattle.sql_engine.specs.Known.{Known}
-use Rattle.page_apply.specs.declared.database.Database.{Database}
-use Rattle.page_apply.specs.Pins.{Pinning, IsPinned}
-use Rattle.gateway.specs.Seen as gateway
-use Rattle.gateway.specs.Seen.{seen, PinsOf}
+use Rattle.database_state.specs.declared.database.Database.{Database}
+use Rattle.database_state.specs.Pins.{Pinning, IsPinned}
+use Rattle.session_gateway.specs.Seen as gateway
+use Rattle.session_gateway.specs.Seen.{seen, PinsOf}
 use Rattle.client_sessions.specs.declared.clients.Clients.{Clients as Held}
 use Rattle.client_sessions.specs.Clients.{Clients, Sound}
 
@@ -15,7 +15,7 @@ unfoldable pub clients_of : Held → List Database → Clients
 clients_of held databases = record { sessions = seen held.gateway databases; streams = λ conn. get nat_cmp held.connections conn; turns = held.turns.items }
 
 -- The clients stand over a machine: its live marks are those of their transactions, and all is as it has to be of clients.
-pub record StandOver (held : Held) (databases : List Database) : Type 0 where
+pub record AreValidOver (held : Held) (databases : List Database) : Type 0 where
   pub pins : PinsOf held.gateway databases
   pub sound : Sound (clients_of held databases)
 

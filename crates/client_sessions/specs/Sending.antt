@@ -2,9 +2,9 @@
 use Rattle.std.specs.Prelude.{Option, Some, None}
 use Rattle.std.specs.List.{AllByRecursion}
 use Rattle.wire_msgs.specs.Responses.{IsWritable}
-use Rattle.gateway.specs.declared.act.Act.{Act}
-use Rattle.gateway.specs.declared.act.Act.TheVariants as acts
-use Rattle.session_rules.specs.Sessions.{Reply, responses_of, Kind, Opening, Configuring, Writing, Committing, Querying, Flight}
+use Rattle.session_gateway.specs.declared.act.Act.{Act}
+use Rattle.session_gateway.specs.declared.act.Act.TheVariants as acts
+use Rattle.session_spec.specs.Sessions.{Reply, responses_of, Kind, Opening, Configuring, Writing, Committing, Querying, Flight}
 
 -- each response of a reply can be written
 abbrev pub CanSend : Reply → Type 0

@@ -1,6 +1,6 @@
 use dq_base::Items;
-use gateway::ReadJob;
-use raft_vote::Entries;
+use raft_messages::Entries;
+use session_gateway::ReadJob;
 use wire_words::WireBytes;
 
 /// What a node has to do for a connection.

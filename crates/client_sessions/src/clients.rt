@@ -5,32 +5,32 @@ ghost use Rattle.sql_engine.specs.Meanings.{Stays};
 ghost use Rattle.std.specs.Ordering.{nat_cmp};
 ghost use Rattle.std.specs.BTreeMap.{get, values};
 ghost use Rattle.sql_engine.specs.Known.{Known};
-ghost use Rattle.page_apply.specs.declared.database.Database.{Database};
-ghost use Rattle.page_apply.specs.Machines.{IsMachine};
-ghost use Rattle.session_rules.specs.Machine.{machine_of};
-ghost use Rattle.session_rules.specs.Sessions.{is_due, later_query, lent_query, may_ask};
-ghost use Rattle.session_rules.specs.Events as events;
-ghost use Rattle.session_decisions.specs.Reading.{read_named};
-ghost use Rattle.statement_runs.specs.Calls.{call_on};
+ghost use Rattle.database_state.specs.declared.database.Database.{Database};
+ghost use Rattle.database_state.specs.Machines.{IsMachine};
+ghost use Rattle.session_spec.specs.Machine.{machine_of};
+ghost use Rattle.session_spec.specs.Sessions.{is_due, later_query, lent_query, may_ask};
+ghost use Rattle.session_spec.specs.Events as events;
+ghost use Rattle.session_outcomes.specs.Reading.{read_named};
+ghost use Rattle.session_statements.specs.Calls.{call_on};
 ghost use Rattle.wire_rows.specs.Answering.{held};
-ghost use Rattle.session_decisions.specs.Scenes.{scene};
-ghost use Rattle.gateway.specs.Calls.{HasNoNul, HasShortTerm, IsConfigured};
-ghost use Rattle.gateway.specs.Later.{first_due};
-ghost use Rattle.gateway.specs.Seen.{pins_of};
+ghost use Rattle.session_outcomes.specs.Scenes.{scene};
+ghost use Rattle.session_gateway.specs.Calls.{HasNoNul, HasShortTerm, IsConfigured};
+ghost use Rattle.session_gateway.specs.Later.{first_due};
+ghost use Rattle.session_gateway.specs.Seen.{pins_of};
 ghost use Rattle.client_sessions.specs.Clients.{no_clients, joining, joined, joined_as, hung_up, closing, closed, heard, freed, with_sessions};
 ghost use Rattle.client_sessions.specs.Clients.{HasNoTransactions};
 ghost use Rattle.client_sessions.specs.Calls.{Comes, TookFrom, TookNext, TookTurn, told_conns, landed_at, told_at, lost_all, told_all_lost};
 ghost use Rattle.client_sessions.specs.Later.{Resumes, Finishes, turn_for};
 ghost use Rattle.client_sessions.specs.Sizes.{all_held, held_for, stream_size, streams_size};
-ghost use Rattle.client_sessions.specs.Seen.{clients_of, Agrees, StandOver, HasNoMarks};
+ghost use Rattle.client_sessions.specs.Seen.{clients_of, Agrees, AreValidOver, HasNoMarks};
 
 use crate::act::Act;
 use crate::answering::{come, finish, read_message, resume};
-use crate::joining::Joining;
+use crate::connect_result::ConnectResult;
 use crate::sending::messages_to;
 use client_connection::{CloseReason, Connection, PeerStream};
-use gateway::{Gateway, Read, View};
-use page_apply::Machine;
+use database_state::Machine;
+use session_gateway::{Gateway, Read, View};
 use sql_engine::Engine;
 use std::alloc::{AllocError, Global};
 use std::collections::{BTreeMap, VecDeque};
@@ -75,7 +75,7 @@ impl Clients {
     /// No clients. Takes no memory.
     pub fn new(alloc: Global) -> Clients
         ensures none { (databases : List Database) → clients_of result databases ≡ no_clients }
-        ensures stand { (databases : List Database) → HasNoMarks databases → StandOver result databases }
+        ensures stand { (databases : List Database) → HasNoMarks databases → AreValidOver result databases }
         ensures agrees { (databases : List Database) → IsMachine databases → Agrees [] result databases }
     {
         Clients {
@@ -109,11 +109,11 @@ impl Clients {
     }
 
     /// The same of one connection; 0 where there is no session of it. Takes no memory.
-    pub fn held_by(&self, conn: u64) -> u64
+    pub fn held_bytes_of(&self, conn: u64) -> u64
         ensures { result ≡ held_for conn self.now }
     {
         self.gateway
-            .held_by(conn)
+            .held_bytes_of(conn)
             .saturating_add(self.stream_size(conn))
     }
 
@@ -129,22 +129,22 @@ impl Clients {
 
     /// A client connects: it gets a session, unless its number is taken or 64 sessions are there, hung-up ones counted. `Err`
     /// is want of memory; nothing has changed then.
-    pub fn connect(&mut self, conn: u64) -> Result<Joining, AllocError>
-        ensures joined { OnOk result ((databases : List Database) → StandOver self.old databases →
+    pub fn connect(&mut self, conn: u64) -> Result<ConnectResult, AllocError>
+        ensures joined { OnOk result ((databases : List Database) → AreValidOver self.old databases →
             clients_of self.new databases ≡ joined (clients_of self.old databases) conn) }
-        ensures told { IfOk result (λ how. (databases : List Database) → StandOver self.old databases →
+        ensures told { IfOk result (λ how. (databases : List Database) → AreValidOver self.old databases →
             how ≡ joining (clients_of self.old databases).sessions conn) }
-        ensures stand { (databases : List Database) → StandOver self.old databases → StandOver self.new databases }
+        ensures stand { (databases : List Database) → AreValidOver self.old databases → AreValidOver self.new databases }
         ensures agrees { (known : List Known) (databases : List Database) → Agrees known self.old databases → Agrees known self.new databases }
         ensures failed { OnErr result ((databases : List Database) → clients_of self.new databases ≡ clients_of self.old databases) }
     {
         if self.is_taken(conn) {
-            return Ok(Joining::Taken);
+            return Ok(ConnectResult::Taken);
         }
         if self.join(conn)? {
-            Ok(Joining::Joined)
+            Ok(ConnectResult::Joined)
         } else {
-            Ok(Joining::Full)
+            Ok(ConnectResult::Full)
         }
     }
 
@@ -153,7 +153,7 @@ impl Clients {
     /// then, so the bytes may be given again.
     pub fn receive(&mut self, conn: u64, bytes: &[u8]) -> Result<(), AllocError>
         ensures heard { OnOk result ((databases : List Database) → clients_of self.new databases ≡ heard (clients_of self.old databases) conn bytes.now) }
-        ensures stand { (databases : List Database) → StandOver self.old databases → StandOver self.new databases }
+        ensures stand { (databases : List Database) → AreValidOver self.old databases → AreValidOver self.new databases }
         ensures agrees { (known : List Known) (databases : List Database) → Agrees known self.old databases → Agrees known self.new databases }
         ensures failed { OnErr result ((databases : List Database) → clients_of self.new databases ≡ clients_of self.old databases) }
     {
@@ -171,9 +171,9 @@ impl Clients {
     /// memory.
     pub fn take(&mut self) -> Option<(u64, Message)>
         ensures took { (databases : List Database) → TookNext (clients_of self.old databases) (clients_of self.new databases) result }
-        ensures ready { (databases : List Database) → StandOver self.old databases →
+        ensures ready { (databases : List Database) → AreValidOver self.old databases →
             IfSome result (λ took. may_ask ((clients_of self.new databases).sessions.session took.0) ≡ true) }
-        ensures stand { (databases : List Database) → StandOver self.old databases → StandOver self.new databases }
+        ensures stand { (databases : List Database) → AreValidOver self.old databases → AreValidOver self.new databases }
         ensures agrees { (known : List Known) (databases : List Database) → Agrees known self.old databases → Agrees known self.new databases }
     {
         self.take_next()
@@ -192,7 +192,7 @@ impl Clients {
         machine: &mut Machine,
         engine: &mut E,
     ) -> Result<Act, AllocError>
-        requires stand { StandOver self.old machine.old }
+        requires stand { AreValidOver self.old machine.old }
         requires ready { may_ask ((clients_of self.old machine.old).sessions.session conn) ≡ true }
         requires text { IfOk asked HasNoNul }
         requires term { HasShortTerm view.now }
@@ -205,7 +205,7 @@ impl Clients {
             (scene view.now (machine_of machine.old) (clients_of self.old machine.old).sessions conn) asked (E.refused_openings engine.old)
             (E.refused_openings engine.new) (clients_of self.new machine.new).sessions) }
         ensures rest { clients_of self.new machine.new ≡ with_sessions (clients_of self.old machine.old) (clients_of self.new machine.new).sessions }
-        ensures stands { StandOver self.new machine.new }
+        ensures stands { AreValidOver self.new machine.new }
         // Where the node doesn't serve, no transaction begins.
         ensures idle { view.now.serving ≡ false → HasNoTransactions (clients_of self.old machine.old) →
             HasNoTransactions (clients_of self.new machine.new) }
@@ -239,7 +239,7 @@ impl Clients {
         machine: &mut Machine,
         engine: &mut E,
     ) -> Result<Option<Act>, AllocError>
-        requires stand { StandOver self.old machine.old }
+        requires stand { AreValidOver self.old machine.old }
         requires term { HasShortTerm view.now }
         requires configured { IsConfigured view.now }
         // No number stands for two images, for the engine, the transactions and the databases; and so it is afterwards.
@@ -248,7 +248,7 @@ impl Clients {
         // The definition's outcome, by answers that the engine may give and told.
         ensures turn { IfOk result (TookTurn (call_on E.meaning E.kind E.told engine.old engine.new) view.now (machine_of machine.old)
             (clients_of self.old machine.old) (E.refused_openings engine.old) (E.refused_openings engine.new) (clients_of self.new machine.new)) }
-        ensures stands { StandOver self.new machine.new }
+        ensures stands { AreValidOver self.new machine.new }
         // Where the node doesn't serve, no transaction begins.
         ensures idle { view.now.serving ≡ false → HasNoTransactions (clients_of self.old machine.old) →
             HasNoTransactions (clients_of self.new machine.new) }
@@ -288,7 +288,7 @@ impl Clients {
         machine: &mut Machine,
         engine: &mut E,
     ) -> Result<Option<Act>, AllocError>
-        requires stand { StandOver self.old machine.old }
+        requires stand { AreValidOver self.old machine.old }
         requires term { HasShortTerm view.now }
         // No number stands for two images, for the engine, the transactions and the databases; and so it is afterwards.
         requires agrees { Agrees (E.known engine.old) self.old machine.old }
@@ -300,7 +300,7 @@ impl Clients {
             (clients_of self.new machine.new).sessions) }
         ensures rest { IfOk result (λ act. clients_of self.new machine.new ≡
             freed (clients_of self.old machine.old) (clients_of self.new machine.new).sessions (turn_for conn act)) }
-        ensures stands { StandOver self.new machine.new }
+        ensures stands { AreValidOver self.new machine.new }
         // Where the node doesn't serve, no transaction begins.
         ensures idle { view.now.serving ≡ false → HasNoTransactions (clients_of self.old machine.old) →
             HasNoTransactions (clients_of self.new machine.new) }
@@ -327,7 +327,7 @@ impl Clients {
             (lent_query ((clients_of self.old databases).sessions.session conn).later) (read_named read) (clients_of self.new databases).sessions act) }
         ensures rest { IfOk result (λ act. (databases : List Database) → clients_of self.new databases ≡
             freed (clients_of self.old databases) (clients_of self.new databases).sessions (turn_for conn act)) }
-        ensures stand { (databases : List Database) → StandOver self.old databases → StandOver self.new databases }
+        ensures stand { (databases : List Database) → AreValidOver self.old databases → AreValidOver self.new databases }
         ensures idle { (databases : List Database) → HasNoTransactions (clients_of self.old databases) →
             HasNoTransactions (clients_of self.new databases) }
         ensures agrees { (known : List Known) (databases : List Database) → Agrees known self.old databases → Agrees known self.new databases }
@@ -350,10 +350,10 @@ impl Clients {
         index: u64,
         machine: &mut Machine,
     ) -> Result<Vec<(u64, WireBytes)>, AllocError>
-        requires stand { StandOver self.old machine.old }
+        requires stand { AreValidOver self.old machine.old }
         ensures landed { OnOk result (clients_of self.new machine.new ≡ landed_at index (clients_of self.old machine.old)) }
         ensures told { IfOk result (λ told. told.items ≡ told_at index (clients_of self.old machine.old)) }
-        ensures stands { StandOver self.new machine.new }
+        ensures stands { AreValidOver self.new machine.new }
         ensures agrees { (known : List Known) → Agrees known self.old machine.old → Agrees known self.new machine.new }
         ensures files { machine_of machine.new ≡ machine_of machine.old }
     {
@@ -369,12 +369,12 @@ impl Clients {
     /// `Err` is want of memory. Proposals and transactions may have ended then and replies be lost; the clients stand over
     /// the machine as ever.
     pub fn on_lost(&mut self, machine: &mut Machine) -> Result<Vec<(u64, WireBytes)>, AllocError>
-        requires stand { StandOver self.old machine.old }
+        requires stand { AreValidOver self.old machine.old }
         ensures lost { OnOk result (clients_of self.new machine.new ≡ lost_all (clients_of self.old machine.old)) }
         ensures told { IfOk result (λ told. told.items ≡ told_all_lost (clients_of self.old machine.old)) }
         ensures ended { OnOk result (HasNoTransactions (clients_of self.new machine.new)) }
         ensures unmarked { OnOk result (HasNoMarks machine.new) }
-        ensures stands { StandOver self.new machine.new }
+        ensures stands { AreValidOver self.new machine.new }
         ensures agrees { (known : List Known) → Agrees known self.old machine.old → Agrees known self.new machine.new }
         ensures files { machine_of machine.new ≡ machine_of machine.old }
     {
@@ -388,7 +388,7 @@ impl Clients {
     /// engine that has forgotten all numbers; `clients_change_databases` has the rest.
     pub fn have_ended(&self)
         ensures unmarked { (databases : List Database) → HasNoTransactions (clients_of self.now databases) →
-            StandOver self.now databases → HasNoMarks databases }
+            AreValidOver self.now databases → HasNoMarks databases }
         ensures agree { (old new : List Database) → HasNoTransactions (clients_of self.now old) → IsMachine new → Agrees [] self.now new }
     {
         self.gateway.is_table();
@@ -398,9 +398,9 @@ impl Clients {
     /// is yet to be answered. A proposal in flight, and the turn to write with it, stays until it is applied or lost. Of a
     /// connection that isn't open nothing changes. Takes no memory.
     pub fn hang_up(&mut self, conn: u64, machine: &mut Machine)
-        requires stand { StandOver self.old machine.old }
+        requires stand { AreValidOver self.old machine.old }
         ensures left { clients_of self.new machine.new ≡ hung_up (clients_of self.old machine.old) conn }
-        ensures stands { StandOver self.new machine.new }
+        ensures stands { AreValidOver self.new machine.new }
         ensures agrees { (known : List Known) → Agrees known self.old machine.old → Agrees known self.new machine.new }
         ensures files { machine_of machine.new ≡ machine_of machine.old }
     {
@@ -411,10 +411,10 @@ impl Clients {
     /// taken, what is unread, and why it closes. The connection goes as one that hangs up. `None` where it isn't open; then nothing
     /// changes. To be called where `Act::Peer` is answered, before anything else is. Takes no memory.
     pub fn hand_over(&mut self, conn: u64, machine: &mut Machine) -> Option<PeerStream>
-        requires stand { StandOver self.old machine.old }
+        requires stand { AreValidOver self.old machine.old }
         ensures handed { result ≡ (clients_of self.old machine.old).streams conn }
         ensures left { clients_of self.new machine.new ≡ hung_up (clients_of self.old machine.old) conn }
-        ensures stands { StandOver self.new machine.new }
+        ensures stands { AreValidOver self.new machine.new }
         ensures agrees { (known : List Known) → Agrees known self.old machine.old → Agrees known self.new machine.new }
         ensures files { machine_of machine.new ≡ machine_of machine.old }
     {
@@ -427,10 +427,10 @@ impl Clients {
     /// Closes a connection whose stream is at its end or has no room for a byte, and answers why; it goes as one that hangs
     /// up. To be called once its messages have had their turn. Any other connection stays. Takes no memory.
     pub fn close(&mut self, conn: u64, machine: &mut Machine) -> Option<CloseReason>
-        requires stand { StandOver self.old machine.old }
+        requires stand { AreValidOver self.old machine.old }
         ensures closed { clients_of self.new machine.new ≡ closed (clients_of self.old machine.old) conn }
         ensures told { result ≡ closing ((clients_of self.old machine.old).streams conn) }
-        ensures stands { StandOver self.new machine.new }
+        ensures stands { AreValidOver self.new machine.new }
         ensures agrees { (known : List Known) → Agrees known self.old machine.old → Agrees known self.new machine.new }
         ensures files { machine_of machine.new ≡ machine_of machine.old }
     {
@@ -443,10 +443,10 @@ impl Clients {
 
     // Takes out a connection, where it is open, with its session.
     fn remove(&mut self, conn: u64, machine: &mut Machine) -> Option<Connection>
-        requires stand { StandOver self.old machine.old }
+        requires stand { AreValidOver self.old machine.old }
         ensures found { result ≡ (clients_of self.old machine.old).streams conn }
         ensures left { clients_of self.new machine.new ≡ hung_up (clients_of self.old machine.old) conn }
-        ensures stands { StandOver self.new machine.new }
+        ensures stands { AreValidOver self.new machine.new }
         ensures agrees { (known : List Known) → Agrees known self.old machine.old → Agrees known self.new machine.new }
         ensures files { machine_of machine.new ≡ machine_of machine.old }
     {
@@ -459,7 +459,7 @@ impl Clients {
 
     // Whether a number is that of a connection that is open, or of one that hung up while its proposal is in flight.
     fn is_taken(&self, conn: u64) -> bool
-        ensures there { (databases : List Database) → StandOver self.now databases → result ≡ ((clients_of self.now databases).sessions.session conn).there }
+        ensures there { (databases : List Database) → AreValidOver self.now databases → result ≡ ((clients_of self.now databases).sessions.session conn).there }
         ensures closed { result ≡ false → get nat_cmp self.now.connections conn ≡ None }
     {
         self.connections.contains_key(&conn) || self.gateway.busy(conn)
@@ -471,7 +471,7 @@ impl Clients {
         requires { get nat_cmp self.old.connections conn ≡ None }
         ensures told { IfOk result (λ new. (databases : List Database) → new ≡ events.connects (clients_of self.old databases).sessions conn) }
         ensures joined { IfOk result (λ new. (databases : List Database) → clients_of self.new databases ≡
-            (if new then joined_as (clients_of self.old databases) conn Joining.Joined else clients_of self.old databases)) }
+            (if new then joined_as (clients_of self.old databases) conn ConnectResult.Joined else clients_of self.old databases)) }
         ensures pins { pins_of self.new.gateway ≡ pins_of self.old.gateway }
         ensures agrees { (known : List Known) (databases : List Database) → Agrees known self.old databases → Agrees known self.new databases }
         ensures failed { OnErr result ((databases : List Database) → clients_of self.new databases ≡ clients_of self.old databases) }

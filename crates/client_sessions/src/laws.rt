@@ -1,17 +1,17 @@
 ghost use Rattle.std.specs.Prelude.{◌≡◌, ℕ, List, Some};
 ghost use Rattle.client_connection.specs.Connection.{Conn};
 ghost use Rattle.sql_engine.specs.Known.{Known};
-ghost use Rattle.frame_commands.specs.declared.command.Command.{Command};
-ghost use Rattle.page_apply.specs.declared.database.Database.{Database};
-ghost use Rattle.page_apply.specs.Databases.{act};
-ghost use Rattle.page_apply.specs.Machines.{IsMachine};
-ghost use Rattle.page_apply.specs.Pins.{Pinning, StillPinned};
-ghost use Rattle.session_rules.specs.Events as events;
+ghost use Rattle.log_commands.specs.declared.command.Command.{Command};
+ghost use Rattle.database_state.specs.declared.database.Database.{Database};
+ghost use Rattle.database_state.specs.Databases.{act};
+ghost use Rattle.database_state.specs.Machines.{IsMachine};
+ghost use Rattle.database_state.specs.Pins.{Pinning, StillPinned};
+ghost use Rattle.session_spec.specs.Events as events;
 ghost use Rattle.client_sessions.specs.declared.clients.Clients.{Clients as Held};
 ghost use Rattle.client_sessions.specs.Calls.{landed_at, lost_all};
 ghost use Rattle.client_sessions.specs.Clients.{Clients, no_clients, joined, without, hung_up, closed};
 ghost use Rattle.client_sessions.specs.Clients.{heard, Offer, next_offer, IsOffered, freed, HasNoTransactions, Sound};
-ghost use Rattle.client_sessions.specs.Seen.{clients_of, Agrees, HasNoMarks, StandOver};
+ghost use Rattle.client_sessions.specs.Seen.{clients_of, Agrees, HasNoMarks, AreValidOver};
 
 /// A law: the message whose turn it is is the first that waits on a connection that is open and whose session has no proposal
 /// in flight. So the requests of a connection come in the order of its stream, one at a time.
@@ -33,9 +33,9 @@ pub fn clients_stay_sound()
 /// the clause `shown` of `Machine::act`. And it leaves no number standing for two images.
 pub fn commands_keep_clients()
     ensures clients { (held : Held) (databases : List Database) (command : Command) → ((pin : Pinning) → StillPinned databases (act databases command) pin) →
-        StandOver held databases → clients_of held (act databases command) ≡ clients_of held databases }
+        AreValidOver held databases → clients_of held (act databases command) ≡ clients_of held databases }
     ensures stand { (held : Held) (databases : List Database) (command : Command) → ((pin : Pinning) → StillPinned databases (act databases command) pin) →
-        StandOver held databases → StandOver held (act databases command) }
+        AreValidOver held databases → AreValidOver held (act databases command) }
     ensures agree { (known : List Known) (held : Held) (databases : List Database) (command : Command) →
         IsMachine databases → IsMachine (act databases command) → Agrees known held databases → Agrees known held (act databases command) }
 {}
@@ -43,8 +43,8 @@ pub fn commands_keep_clients()
 /// A law: clients that stand over databases of which no image is pinned stand over any others of which none is, and are the same
 /// there. So a node whose transactions have ended may take over the databases of a snapshot; `Clients::have_ended` has the rest.
 pub fn clients_change_databases()
-    ensures clients { (held : Held) (old new : List Database) → HasNoMarks old → StandOver held old → clients_of held new ≡ clients_of held old }
-    ensures stand { (held : Held) (old new : List Database) → HasNoMarks old → HasNoMarks new → StandOver held old → StandOver held new }
+    ensures clients { (held : Held) (old new : List Database) → HasNoMarks old → AreValidOver held old → clients_of held new ≡ clients_of held old }
+    ensures stand { (held : Held) (old new : List Database) → HasNoMarks old → HasNoMarks new → AreValidOver held old → AreValidOver held new }
 {}
 
 /// A law: where no transaction is open, none begins by clients that come and go, by bytes, nor by entries that are applied; and

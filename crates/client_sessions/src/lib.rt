@@ -5,14 +5,14 @@
 mod act;
 mod answering;
 mod clients;
-mod joining;
+mod connect_result;
 mod laws;
 mod sending;
 
 pub use act::Act;
 pub use answering::read_message;
 pub use clients::Clients;
-pub use joining::Joining;
+pub use connect_result::ConnectResult;
 pub use laws::{
     clients_change_databases, clients_stay_sound, commands_keep_clients, no_transaction_begins,
     offers_are_first,

@@ -3,7 +3,7 @@ ghost use Rattle.std.specs.List.{AllByRecursion};
 ghost use Rattle.wire_msgs.specs.declared.response.Response.{Response};
 ghost use Rattle.wire_msgs.specs.declared.response.Response.TheVariants as responses;
 ghost use Rattle.wire_msgs.specs.Responses.{IsWritable, response_bytes};
-ghost use Rattle.session_rules.specs.Causes.{unread_cause, failure};
+ghost use Rattle.session_spec.specs.Causes.{unread_cause, failure};
 ghost use Rattle.client_sessions.specs.Calls.{bytes_of, sent};
 
 use dq_base::Items;

@@ -1,8 +1,8 @@
 ghost use Rattle.std.specs.Prelude.{◌≡◌, IfOk};
-ghost use Rattle.dq_client.specs.Driving.{IsBegun};
+ghost use Rattle.client.specs.Driving.{IsBegun};
 
+use client::*;
 use dq_base::{Bytes, MemSink};
-use dq_client::*;
 use std::alloc::{AllocError, Global};
 use std::test::*;
 use wire_words::WireText;

@@ -1,4 +1,4 @@
-use dq_client::Dialer;
+use client::Dialer;
 use std::io::{Read, Write};
 use std::net::TcpListener;
 use std::test::*;

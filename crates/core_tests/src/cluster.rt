@@ -1,10 +1,10 @@
 //! Nodes, and what they say.
 
-use crate::seat::Seat;
+use crate::seat::TestNode;
 use disk_model::Stop;
 use dq_base::Bytes;
-use node_core::{Event, Outs};
-use raft_vote::RaftMessage;
+use node_core::{Event, StepOutputs};
+use raft_messages::RaftMessage;
 use std::alloc::Global;
 use std::collections::VecDeque;
 use std::test::Fail;
@@ -58,7 +58,7 @@ fn reply_of(conn: u64, bytes: &WireBytes) -> Reply {
 #[derive(Drop)]
 pub(crate) struct Cluster {
     alloc: Global,
-    seats: Vec<Seat>,
+    seats: Vec<TestNode>,
     mail: VecDeque<RaftMessage>,
     replies: Vec<Reply>,
 }
@@ -72,7 +72,7 @@ impl Cluster {
     ) -> Result<Cluster, Fail> {
         let mut seats = Vec::new(alloc);
         for id in 1..=nodes {
-            seats.push(Seat::fresh(alloc, id, servers)?)?;
+            seats.push(TestNode::fresh(alloc, id, servers)?)?;
         }
         Ok(Cluster {
             alloc,
@@ -82,7 +82,7 @@ impl Cluster {
         })
     }
 
-    fn seat(&mut self, id: u64) -> Result<&mut Seat, Fail> {
+    fn seat(&mut self, id: u64) -> Result<&mut TestNode, Fail> {
         match self.seats.get_mut(id.saturating_sub(1) as usize) {
             Some(seat) => Ok(seat),
             None => Err(Fail::from("no such node")),
@@ -106,7 +106,7 @@ impl Cluster {
     }
 
     /// What a node said goes on its way.
-    fn say(&mut self, outs: Option<Outs>) -> Result<(), Fail> {
+    fn say(&mut self, outs: Option<StepOutputs>) -> Result<(), Fail> {
         let Some(outs) = outs else {
             return Ok(());
         };

@@ -2,9 +2,9 @@
 
 use disk_model::{MemDisk, Stop};
 use file_digest::digest;
-use gateway::StepLimits;
-use node_core::{Event, Node, NodeFault, NodeSpec, Outs};
-use raft_vote::read_servers;
+use node_core::{Event, Node, NodeFault, NodeSpec, StepOutputs};
+use raft_messages::read_servers;
+use session_gateway::StepLimits;
 use sql_engine::CellEngine;
 use std::alloc::Global;
 use std::marker::Model;
@@ -12,7 +12,7 @@ use std::test::Fail;
 
 /// A node over the disk that it has, with an engine of cells. None runs where it was stopped inside a step.
 #[derive(Drop)]
-pub(crate) struct Seat {
+pub(crate) struct TestNode {
     alloc: Global,
     id: u64,
     servers: &'static [u8],
@@ -21,7 +21,7 @@ pub(crate) struct Seat {
     node: Option<Node>,
 }
 
-impl Model for Seat {
+impl Model for TestNode {
     ghost use Rattle.core_tests.specs.Seats.{RunsWell};
 
     ghost Value = { Unit {0} };
@@ -31,10 +31,10 @@ impl Model for Seat {
     ghost invariant = { λ s. RunsWell s.node };
 }
 
-impl Seat {
+impl TestNode {
     /// A node that has kept nothing, in a cluster of these servers.
-    pub(crate) fn fresh(alloc: Global, id: u64, servers: &'static [u8]) -> Result<Seat, Fail> {
-        let mut seat = Seat {
+    pub(crate) fn fresh(alloc: Global, id: u64, servers: &'static [u8]) -> Result<TestNode, Fail> {
+        let mut seat = TestNode {
             alloc,
             id,
             servers,
@@ -82,7 +82,7 @@ impl Seat {
     }
 
     /// An event happens, and the node says this; none runs behind a step in which the disk stopped.
-    pub(crate) fn happens(&mut self, event: Event) -> Result<Option<Outs>, Fail> {
+    pub(crate) fn happens(&mut self, event: Event) -> Result<Option<StepOutputs>, Fail> {
         let Some(node) = &mut self.node else {
             return Ok(None);
         };

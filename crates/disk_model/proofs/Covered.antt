@@ -5,18 +5,18 @@ use Rattle.disk_model.specs.Disk.{Found, found, missing, Held, Sure, Absent, Lea
 use Rattle.disk_model.specs.Calls.{after_names}
 use Rattle.disk_model.specs.Memory.{done_to, half_of, done_in_turn, shown, named, after_file_sync, after_names_sync}
 use Rattle.disk_model.specs.Holds.{Fits, Allows, HoldsFile}
-use Rattle.disk_model.specs.declared.open_calls.Effect.{Effect}
-use Rattle.disk_model.specs.declared.open_calls.Effect.TheVariants.{Creation, Naming, Write, Truncation, Removal, Nothing}
+use Rattle.disk_model.specs.declared.open_calls.UnsyncedEffect.{UnsyncedEffect}
+use Rattle.disk_model.specs.declared.open_calls.UnsyncedEffect.TheVariants.{Creation, Naming, Write, Truncation, Removal, Nothing}
 use Rattle.disk_model.proofs.Changes.{same_bytes}
 use Rattle.disk_model.proofs.Fitting.{shown_there, shown_not}
 
 -- the effects that are left of each
-abbrev pub all_left : (Effect → List Effect) → List Effect → List Effect
+abbrev pub all_left : (UnsyncedEffect → List UnsyncedEffect) → List UnsyncedEffect → List UnsyncedEffect
 all_left left [] = []
 all_left left (c ∷ cs) = left c ++ all_left left cs
 
 -- whether a file is there after these effects, whatever its bytes
-left_there : (cs : List Effect) (f g : Found) → f.there ≡ g.there → (done_in_turn cs f).there ≡ (done_in_turn cs g).there
+left_there : (cs : List UnsyncedEffect) (f g : Found) → f.there ≡ g.there → (done_in_turn cs f).there ≡ (done_in_turn cs g).there
 left_there [] f g e = e
 left_there (Creation b ∷ cs) f g e = left_there cs (done_to (Creation b) f) (done_to (Creation b) g) refl
 left_there (Naming ∷ cs) f g e = left_there cs (done_to Naming f) (done_to Naming g) refl
@@ -30,7 +30,7 @@ abbrev with_bytes : List ℕ → Found → Found
 with_bytes bytes f = record { there = f.there; bytes = bytes }
 
 -- a sync of a file keeps whether it is there, and no effect that is left touches its bytes
-synced_now : (cs : List Effect) (bytes : List ℕ) (f : Found) → done_in_turn (all_left after_file_sync cs) (with_bytes bytes f) ≡ with_bytes bytes (done_in_turn cs f)
+synced_now : (cs : List UnsyncedEffect) (bytes : List ℕ) (f : Found) → done_in_turn (all_left after_file_sync cs) (with_bytes bytes f) ≡ with_bytes bytes (done_in_turn cs f)
 synced_now [] bytes f = refl
 synced_now (Creation b ∷ cs) bytes f = synced_now cs bytes (done_to (Creation b) f)
 synced_now (Naming ∷ cs) bytes f = synced_now cs bytes (done_to Naming f)
@@ -47,7 +47,7 @@ synced_fits h bytes x f fits t b = record {
   left = subst (LeavesBytes bytes []) (sym b) (same_bytes bytes);
 }
 
-synced_allows : (h : Held) (bytes : List ℕ) (cs : List Effect) (f : Found) → Allows h f cs → Allows (record { standing = h.standing; bytes = bytes; since = [] }) (with_bytes bytes f) (all_left after_file_sync cs)
+synced_allows : (h : Held) (bytes : List ℕ) (cs : List UnsyncedEffect) (f : Found) → Allows h f cs → Allows (record { standing = h.standing; bytes = bytes; since = [] }) (with_bytes bytes f) (all_left after_file_sync cs)
 synced_allows h bytes [] f a = synced_fits h bytes (with_bytes bytes f) f a refl refl
 synced_allows h bytes (Creation b ∷ cs) f a = (synced_fits h bytes (with_bytes bytes f) f a.0 refl refl, synced_fits h bytes (with_bytes bytes f) f a.0 refl refl, synced_allows h bytes cs (done_to (Creation b) f) a.2)
 synced_allows h bytes (Naming ∷ cs) f a = (synced_fits h bytes (with_bytes bytes f) f a.0 refl refl, synced_fits h bytes (with_bytes bytes f) f a.0 refl refl, synced_allows h bytes cs (done_to Naming f) a.2)
@@ -57,7 +57,7 @@ synced_allows h bytes (Removal ∷ cs) f a = (synced_fits h bytes (with_bytes by
 synced_allows h bytes (Nothing ∷ cs) f a = synced_allows h bytes cs f a.2
 
 -- a sync of a file that is there
-pub file_synced : (h : Held) (r base : Found) (cs : List Effect) → HoldsFile h r base cs → r.there ≡ true
+pub file_synced : (h : Held) (r base : Found) (cs : List UnsyncedEffect) → HoldsFile h r base cs → r.there ≡ true
     → HoldsFile (record { standing = h.standing; bytes = r.bytes; since = [] }) r (record { there = base.there; bytes = r.bytes }) (all_left after_file_sync cs)
 file_synced h r base cs holds t =
     let now : Found = done_in_turn cs base in
@@ -83,7 +83,7 @@ sure_fits h x f fits t b = record {
   left = subst (LeavesBytes h.bytes h.since) (sym b) fits.left;
 }
 
-named_allows : (h : Held) (cs : List Effect) (f : Found) → Allows h f cs → Allows (record { standing = Sure; bytes = h.bytes; since = h.since }) (found f.bytes) (all_left (after_names_sync true) cs)
+named_allows : (h : Held) (cs : List UnsyncedEffect) (f : Found) → Allows h f cs → Allows (record { standing = Sure; bytes = h.bytes; since = h.since }) (found f.bytes) (all_left (after_names_sync true) cs)
 named_allows h [] f a = sure_fits h (found f.bytes) f a refl refl
 named_allows h (Creation b ∷ cs) f a = (sure_fits h (found f.bytes) f a.0 refl refl, sure_fits h _ (done_to (half_of (Creation b)) f) a.1 refl refl, named_allows h cs (done_to (Creation b) f) a.2)
 named_allows h (Naming ∷ cs) f a = named_allows h cs (done_to Naming f) a.2
@@ -92,7 +92,7 @@ named_allows h (Truncation k ∷ cs) f a = (sure_fits h (found f.bytes) f a.0 re
 named_allows h (Removal ∷ cs) f a = named_allows h cs (done_to Removal f) a.2
 named_allows h (Nothing ∷ cs) f a = (sure_fits h (found f.bytes) f a.0 refl refl, sure_fits h (found f.bytes) f a.0 refl refl, named_allows h cs f a.2)
 
-named_now : (cs : List Effect) (f : Found) → done_in_turn (all_left (after_names_sync true) cs) (found f.bytes) ≡ found (done_in_turn cs f).bytes
+named_now : (cs : List UnsyncedEffect) (f : Found) → done_in_turn (all_left (after_names_sync true) cs) (found f.bytes) ≡ found (done_in_turn cs f).bytes
 named_now [] f = refl
 named_now (Creation b ∷ cs) f = named_now cs (done_to (Creation b) f)
 named_now (Naming ∷ cs) f = named_now cs (done_to Naming f)
@@ -105,7 +105,7 @@ named_now (Nothing ∷ cs) f = named_now cs f
 gone_fits : Fits (record { standing = Absent; bytes = []; since = [] }) missing
 gone_fits = record { sure = λ e. absurd cc; absent = λ e. refl; left = same_bytes [] }
 
-gone_allows : (cs : List Effect) → Allows (record { standing = Absent; bytes = []; since = [] }) missing (all_left (after_names_sync false) cs)
+gone_allows : (cs : List UnsyncedEffect) → Allows (record { standing = Absent; bytes = []; since = [] }) missing (all_left (after_names_sync false) cs)
 gone_allows [] = gone_fits
 gone_allows (Creation b ∷ cs) = (gone_fits, gone_fits, gone_allows cs)
 gone_allows (Naming ∷ cs) = gone_allows cs
@@ -114,7 +114,7 @@ gone_allows (Truncation k ∷ cs) = (gone_fits, gone_fits, gone_allows cs)
 gone_allows (Removal ∷ cs) = gone_allows cs
 gone_allows (Nothing ∷ cs) = (gone_fits, gone_fits, gone_allows cs)
 
-gone_now : (cs : List Effect) → done_in_turn (all_left (after_names_sync false) cs) missing ≡ missing
+gone_now : (cs : List UnsyncedEffect) → done_in_turn (all_left (after_names_sync false) cs) missing ≡ missing
 gone_now [] = refl
 gone_now (Creation b ∷ cs) = gone_now cs
 gone_now (Naming ∷ cs) = gone_now cs
@@ -124,7 +124,7 @@ gone_now (Removal ∷ cs) = gone_now cs
 gone_now (Nothing ∷ cs) = gone_now cs
 
 -- a sync of the names, for each file
-module _ (h : Held) (r base : Found) (cs : List Effect) (holds : HoldsFile h r base cs) where
+module _ (h : Held) (r base : Found) (cs : List UnsyncedEffect) (holds : HoldsFile h r base cs) where
   abbrev now : Found
   now = done_in_turn cs base
 

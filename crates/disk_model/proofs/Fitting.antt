@@ -6,8 +6,8 @@ use Rattle.disk_model.specs.Disk.{Found, found, missing, Wrote, Held, Gone, Abse
 use Rattle.disk_model.specs.Calls.{put, after_write, after_cut, after_remove}
 use Rattle.disk_model.specs.Memory.{done_to, half_of, half, done_in_turn, shown}
 use Rattle.disk_model.specs.Holds.{Fits, Allows, HoldsFile}
-use Rattle.disk_model.specs.declared.open_calls.Effect.{Effect}
-use Rattle.disk_model.specs.declared.open_calls.Effect.TheVariants.{Creation, Write, Truncation, Removal}
+use Rattle.disk_model.specs.declared.open_calls.UnsyncedEffect.{UnsyncedEffect}
+use Rattle.disk_model.specs.declared.open_calls.UnsyncedEffect.TheVariants.{Creation, Write, Truncation, Removal}
 use Rattle.disk_model.proofs.Changes.{still_bytes, put_bytes, put_front, cut_bytes, made_sure, made_present, gone_unsure, gone_absent, gone_now}
 
 pub shown_there : (f : Found) → f.there ≡ true → shown f ≡ found f.bytes
@@ -35,23 +35,23 @@ fits_left h f fits = elim (cases_Bool f.there) [
   | inr t ↦ subst (LeavesFile h) (sym (shown_not f t)) (record { sure = λ e. let z : false ≡ true = sym t ∙ fits.sure e in absurd cc; absent = λ e. refl; empty = λ e. refl; left = λ e. absurd cc })
 ]
 
-pub allows_first : (h : Held) (f : Found) (cs : List Effect) → Allows h f cs → Fits h f
+pub allows_first : (h : Held) (f : Found) (cs : List UnsyncedEffect) → Allows h f cs → Fits h f
 allows_first h f [] a = a
 allows_first h f (c ∷ cs) a = a.0
 
-pub allows_now : (h : Held) (f : Found) (cs : List Effect) → Allows h f cs → Fits h (done_in_turn cs f)
+pub allows_now : (h : Held) (f : Found) (cs : List UnsyncedEffect) → Allows h f cs → Fits h (done_in_turn cs f)
 allows_now h f [] a = a
 allows_now h f (c ∷ cs) a = allows_now h (done_to c f) cs a.2
 
-allows_more : (h k : Held) → ((x : Found) → Fits h x → Fits k x) → (f : Found) (cs : List Effect) → Allows h f cs → Allows k f cs
+allows_more : (h k : Held) → ((x : Found) → Fits h x → Fits k x) → (f : Found) (cs : List UnsyncedEffect) → Allows h f cs → Allows k f cs
 allows_more h k more f [] a = more f a
 allows_more h k more f (c ∷ cs) a = (more f a.0, more (done_to (half_of c) f) a.1, allows_more h k more (done_to c f) cs a.2)
 
-allows_last : (k : Held) (f : Found) (cs : List Effect) (c : Effect) → Allows k f cs → Fits k (done_to (half_of c) (done_in_turn cs f)) → Fits k (done_to c (done_in_turn cs f)) → Allows k f (cs ++ c ∷ [])
+allows_last : (k : Held) (f : Found) (cs : List UnsyncedEffect) (c : UnsyncedEffect) → Allows k f cs → Fits k (done_to (half_of c) (done_in_turn cs f)) → Fits k (done_to c (done_in_turn cs f)) → Allows k f (cs ++ c ∷ [])
 allows_last k f [] c a h w = (a, h, w)
 allows_last k f (x ∷ cs) c a h w = (a.0, a.1, allows_last k (done_to x f) cs c a.2 h w)
 
-one_more : (f : Found) (cs : List Effect) (c : Effect) → done_in_turn (cs ++ c ∷ []) f ≡ done_to c (done_in_turn cs f)
+one_more : (f : Found) (cs : List UnsyncedEffect) (c : UnsyncedEffect) → done_in_turn (cs ++ c ∷ []) f ≡ done_to c (done_in_turn cs f)
 one_more f [] c = refl
 one_more f (x ∷ cs) c = one_more (done_to x f) cs c
 
@@ -72,7 +72,7 @@ still_removed h x fits = record {
   left = fits.left;
 }
 
-module _ (h : Held) (r base : Found) (cs : List Effect) (holds : HoldsFile h r base cs) where
+module _ (h : Held) (r base : Found) (cs : List UnsyncedEffect) (holds : HoldsFile h r base cs) where
   abbrev now : Found
   now = done_in_turn cs base
 
@@ -97,7 +97,7 @@ module _ (h : Held) (r base : Found) (cs : List Effect) (holds : HoldsFile h r b
     present e = let z : true ≡ false = sym now_there ∙ fits.absent e in absurd cc
 
     -- a change of the bytes, which is done and noted
-    noted_bytes : (k : Held) (c : Effect) (bytes : List ℕ) → ((x : Found) → Fits h x → Fits k x) → Fits k (done_to (half_of c) now) → Fits k (done_to c now)
+    noted_bytes : (k : Held) (c : UnsyncedEffect) (bytes : List ℕ) → ((x : Found) → Fits h x → Fits k x) → Fits k (done_to (half_of c) now) → Fits k (done_to c now)
         → done_to c now ≡ found bytes → HoldsFile k (found bytes) base (cs ++ c ∷ [])
     noted_bytes k c bytes more halved whole is =
         let end : done_in_turn (cs ++ c ∷ []) base ≡ found bytes = one_more base cs c ∙ is in

@@ -5,8 +5,8 @@ use Rattle.disk_model.specs.Disk.{Found}
 use Rattle.disk_model.specs.Calls.{put}
 use Rattle.disk_model.specs.Memory.{done_to}
 use Rattle.disk_model.specs.Fronts.{SameFront, front_left}
-use Rattle.disk_model.specs.declared.open_calls.Effect.{Effect}
-use Rattle.disk_model.specs.declared.open_calls.Effect.TheVariants.{Creation, Naming, Write, Truncation, Removal, Nothing}
+use Rattle.disk_model.specs.declared.open_calls.UnsyncedEffect.{UnsyncedEffect}
+use Rattle.disk_model.specs.declared.open_calls.UnsyncedEffect.TheVariants.{Creation, Naming, Write, Truncation, Removal, Nothing}
 
 take_less : (s k : ℕ) (l : List ℕ) → s ≤ k → take s (take k l) ≡ take s l
 take_less zero k l h = refl
@@ -30,7 +30,7 @@ put_front s at bytes old h k =
     (omega (arith, e, l, m), take-append-le s (take at old ++ bytes) rest (omega (arith, e, m)) ∙ take-append-le s (take at old) bytes (omega (arith, e)) ∙ take_less s at old h)
 
 -- what a call does to what is read leaves this front
-pub front_done : (c : Effect) (s : ℕ) (read : Found) (base : List ℕ) → SameFront s read.bytes base → SameFront (front_left c s) (done_to c read).bytes base
+pub front_done : (c : UnsyncedEffect) (s : ℕ) (read : Found) (base : List ℕ) → SameFront s read.bytes base → SameFront (front_left c s) (done_to c read).bytes base
 front_done (Creation bytes) s read base same = front_none (put 0 bytes read.bytes) base
 front_done Naming s read base same = same
 front_done (Write at bytes) s read base same =

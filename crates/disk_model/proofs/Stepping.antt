@@ -9,8 +9,8 @@ use Rattle.disk_model.specs.Rest.{Rest, AfterCrash}
 use Rattle.disk_model.specs.Trait.{Text}
 use Rattle.disk_model.specs.Memory.{Memory, no_memory, effects_on, done_to, done_in_turn, kept, each_left, left_by_file_sync, after_file_sync, shown, at_name, noted, is_none, wrote, truncated, removed, synced, names_synced, crashed, named}
 use Rattle.disk_model.specs.Holds.{HoldsFile, Holds}
-use Rattle.disk_model.specs.declared.open_calls.Effect.{Effect}
-use Rattle.disk_model.specs.declared.open_calls.Effect.TheVariants.{Creation, Write, Truncation, Removal}
+use Rattle.disk_model.specs.declared.open_calls.UnsyncedEffect.{UnsyncedEffect}
+use Rattle.disk_model.specs.declared.open_calls.UnsyncedEffect.TheVariants.{Creation, Write, Truncation, Removal}
 use Rattle.disk_model.proofs.Changes.{same_bytes}
 use Rattle.disk_model.proofs.Fitting.{fits_left, there_shown, shown_empty, read_left, written, written_nothing, cut_down, cut_not, taken_away, not_taken, made_new, not_written, no_bytes}
 use Rattle.disk_model.proofs.Covered.{file_synced, file_named, at_rest, all_left}
@@ -72,26 +72,26 @@ module _ (n : Text) (m k : Memory) (d : Disk Text) (holds : Holds m d) (same_els
     | apart a ↦ subst (λ (x : Held). HoldsFile x (k.read j) (k.base j) (effects_on j k.uncovered)) (sym (else_held j a))
         (subst (λ (x : Found). HoldsFile (d.held j) x (k.base j) (effects_on j k.uncovered)) (sym (same_else.read j a))
         (subst (λ (x : Found). HoldsFile (d.held j) (m.read j) x (effects_on j k.uncovered)) (sym (same_else.base j a))
-        (subst (λ (x : List Effect). HoldsFile (d.held j) (m.read j) (m.base j) x) (sym (same_else.effects j a)) (holds.file j))))
+        (subst (λ (x : List UnsyncedEffect). HoldsFile (d.held j) (m.read j) (m.base j) x) (sym (same_else.effects j a)) (holds.file j))))
   ]
 
   turn : (e : Disk Text) × (Holds k e × Turns n d e h (k.read n))
   turn = (e, (record { read = reads; file = files }, record { others = record { read = else_read; held = else_held }; held = here_held; read = here_read }))
 
 -- one more call that is noted
-noted_alike : (n : Text) (c : Effect) (change : Found → Found) (m : Memory) → Alike n m (noted n c change m)
+noted_alike : (n : Text) (c : UnsyncedEffect) (change : Found → Found) (m : Memory) → Alike n m (noted n c change m)
 noted_alike n c change m = record {
   read = λ j a. cond-false (bytes_eq n j) (change (m.read j)) (m.read j) (eq_else n j (λ q. a (sym q)));
   base = λ j a. refl;
   effects = λ j a. on_other n j m.uncovered c (λ q. a (sym q));
 }
 
-noted_turn : (n : Text) (c : Effect) (change : Found → Found) (m : Memory) (d : Disk Text) → Holds m d → (h : Held) → HoldsFile h (change (m.read n)) (m.base n) (effects_on n m.uncovered ++ c ∷ [])
+noted_turn : (n : Text) (c : UnsyncedEffect) (change : Found → Found) (m : Memory) (d : Disk Text) → Holds m d → (h : Held) → HoldsFile h (change (m.read n)) (m.base n) (effects_on n m.uncovered ++ c ∷ [])
     → (e : Disk Text) × (Holds (noted n c change m) e × Turns n d e h (change (m.read n)))
 noted_turn n c change m d holds h file =
     let here : (noted n c change m).read n ≡ change (m.read n) = cond-true (bytes_eq n n) (change (m.read n)) (m.read n) (eq_here n) in
     let z = turn n m (noted n c change m) d holds (noted_alike n c change m) h
-    (subst (λ (x : List Effect). HoldsFile h ((noted n c change m).read n) (m.base n) x) (sym (on_one n m.uncovered c)) (subst (λ (x : Found). HoldsFile h x (m.base n) (effects_on n m.uncovered ++ c ∷ [])) (sym here) file)) in
+    (subst (λ (x : List UnsyncedEffect). HoldsFile h ((noted n c change m).read n) (m.base n) x) (sym (on_one n m.uncovered c)) (subst (λ (x : Found). HoldsFile h x (m.base n) (effects_on n m.uncovered ++ c ∷ [])) (sym here) file)) in
     (z.0, (z.1.0, subst (λ (x : Found). Turns n d z.0 h x) here z.1.1))
 
 -- a write that may be made, as the memory alone tells
@@ -260,7 +260,7 @@ module _ (n : Text) (m : Memory) (d : Disk Text) (holds : Holds m d) where
         } in
         let f = file_synced h (m.read n) (m.base n) (effects_on n m.uncovered) file t in
         let z = turn n m k d holds same_else held
-        (subst (λ (x : List Effect). HoldsFile held (m.read n) (k.base n) x) (sym (left_here n m.uncovered)) (subst (λ (x : Found). HoldsFile held (m.read n) x (all_left after_file_sync (effects_on n m.uncovered))) (sym here) f)) in
+        (subst (λ (x : List UnsyncedEffect). HoldsFile held (m.read n) (k.base n) x) (sym (left_here n m.uncovered)) (subst (λ (x : Found). HoldsFile held (m.read n) x (all_left after_file_sync (effects_on n m.uncovered))) (sym here) f)) in
         let becomes : after_sync (d.read n) h ≡ held = cond-true (d.read n).there _ h (there_read ∙ t) ∙ (λ i. record { standing = h.standing; bytes = (holds.read n i).bytes; since = [] }) in
         subst (λ (x : Memory). SyncIs x (after_sync (d.read n) h)) (sym (cond-true (m.read n).there k m t))
         (subst (SyncIs k) (sym becomes) (z.0, (z.1.0, as_read held (λ x. x) z.0 z.1.1)))
@@ -277,7 +277,7 @@ module _ (m : Memory) (d : Disk Text) (holds : Holds m d) where
   files_named : (n : Text) → HoldsFile (after_them.held n) (m.read n) ((names_synced m).base n) (effects_on n (names_synced m).uncovered)
   files_named n =
       subst (λ (x : Found). HoldsFile (after_names x (d.held n)) (m.read n) ((names_synced m).base n) (effects_on n (names_synced m).uncovered)) (sym (holds.read n))
-      (subst (λ (x : List Effect). HoldsFile (after_names (m.read n) (d.held n)) (m.read n) (named (m.read n) (m.base n)) x) (sym (left_named m.read n m.uncovered))
+      (subst (λ (x : List UnsyncedEffect). HoldsFile (after_names (m.read n) (d.held n)) (m.read n) (named (m.read n) (m.base n)) x) (sym (left_named m.read n m.uncovered))
       (file_named (d.held n) (m.read n) (m.base n) (effects_on n m.uncovered) (holds.file n)))
 
   pub names_does : (e : Disk Text) × (Holds (names_synced m) e × Does SyncNames d e)

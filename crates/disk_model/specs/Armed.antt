@@ -5,10 +5,10 @@ use Rattle.dq_base.specs.Faults.{one_more}
 use Rattle.disk_model.specs.declared.faults.DiskFault.{DiskFault}
 use Rattle.disk_model.specs.declared.faults.DiskFault.TheVariants.{Failed, NoMemory}
 use Rattle.disk_model.specs.declared.armed.Stop.{Stop}
-use Rattle.disk_model.specs.declared.armed.Armed.{Armed}
-use Rattle.disk_model.specs.declared.armed.Turn.{Turn}
+use Rattle.disk_model.specs.declared.armed.FaultInjector.{FaultInjector}
+use Rattle.disk_model.specs.declared.armed.CallOutcome.{CallOutcome}
 use Rattle.disk_model.specs.Memory.{Memory}
-use Rattle.disk_model.specs.declared.armed.Turn.TheVariants.{Goes, Stops}
+use Rattle.disk_model.specs.declared.armed.CallOutcome.TheVariants.{Goes, Stops}
 
 -- the pick of a stop, where it comes at this call
 abbrev pub pick_at : Option Stop → ℕ → Option ℕ
@@ -21,23 +21,23 @@ is_number None call = false
 is_number (Some number) call = number == call
 
 -- whether the disk is stopped after its next call: it was, or that call is the stop
-abbrev pub stopped_next : Armed → Option ℕ
+abbrev pub stopped_next : FaultInjector → Option ℕ
 stopped_next a = if is_some a.stopped then a.stopped else pick_at a.stop (one_more a.made)
 
 -- whether the next call does nothing: the disk is stopped, or that call is to fail
-abbrev pub is_idle_next : Armed → Bool
+abbrev pub is_idle_next : FaultInjector → Bool
 is_idle_next a = is_some a.stopped || is_number a.fail (one_more a.made)
 
 -- whether the next call answers Failed: the disk is then stopped, or that call is to fail
-abbrev pub fails_next : Armed → Bool
+abbrev pub fails_next : FaultInjector → Bool
 fails_next a = is_some (stopped_next a) || is_number a.fail (one_more a.made)
 
 -- how the next call begins: it fails at once, or goes on, and the disk stops in it or not
-abbrev pub turn_next : Armed → Result Turn DiskFault
+abbrev pub turn_next : FaultInjector → Result CallOutcome DiskFault
 turn_next a = cond (is_idle_next a) (Err Failed) (cond (is_some (stopped_next a)) (Ok Stops) (Ok Goes))
 
 -- the same of a call that is done whole or not at all
-abbrev pub whole_next : Armed → Result Unit DiskFault
+abbrev pub whole_next : FaultInjector → Result Unit DiskFault
 whole_next a = cond (fails_next a) (Err Failed) (Ok tt)
 
 -- What becomes of the memory by a call that would make this of it: a call that fails does nothing, that of the stop is
@@ -53,7 +53,7 @@ after_whole (Ok x) was done = done
 after_whole (Err e) was done = was
 
 -- What a call made of the counts: one more call, maybe a stop, and a fault at most where the call was to answer Failed.
-pub record Counted (old new : Armed) : Type 0 where
+pub record Counted (old new : FaultInjector) : Type 0 where
   pub made : new.made ≡ one_more old.made
   pub stop : new.stop ≡ old.stop
   pub fail : new.fail ≡ old.fail
@@ -61,32 +61,32 @@ pub record Counted (old new : Armed) : Type 0 where
   pub faults : fails_next old ≡ false → new.faults ≡ old.faults
 
 -- how the call goes on
-abbrev pub IsTurn : Bool → Turn → Type 0
+abbrev pub IsTurn : Bool → CallOutcome → Type 0
 IsTurn fails Goes = fails ≡ false
 IsTurn fails Stops = fails ≡ true
 
 -- the answer of a call that went on and did its part: the stop fails
-abbrev pub finished : Turn → Result Unit AllocError → Result Unit DiskFault
+abbrev pub finished : CallOutcome → Result Unit AllocError → Result Unit DiskFault
 finished turn (Err e) = Err NoMemory
 finished Goes (Ok x) = Ok x
 finished Stops (Ok x) = Err Failed
 
 -- the counts after it: the stop is a fault, and want of memory is counted apart
-abbrev pub with_end : Turn → Result Unit AllocError → Armed → Armed
+abbrev pub with_end : CallOutcome → Result Unit AllocError → FaultInjector → FaultInjector
 with_end turn (Err e) a = record a { wants = one_more a.wants }
 with_end Goes (Ok x) a = a
 with_end Stops (Ok x) a = record a { faults = one_more a.faults }
 
 -- the calls are counted anew, and these are to stop and to fail; a stop that came stands
-abbrev pub armed_with : Option Stop → Option ℕ → Armed → Armed
+abbrev pub armed_with : Option Stop → Option ℕ → FaultInjector → FaultInjector
 armed_with stop fail a = record { made = 0; faults = a.faults; wants = a.wants; stop = stop; fail = fail; stopped = a.stopped }
 
 -- nothing is to stop or to fail
-abbrev pub disarmed : Armed → Armed
+abbrev pub disarmed : FaultInjector → FaultInjector
 disarmed a = record { made = 0; faults = a.faults; wants = a.wants; stop = None; fail = None; stopped = None }
 
 -- before the first call
-abbrev pub unarmed : Armed
+abbrev pub unarmed : FaultInjector
 unarmed = record { made = 0; faults = 0; wants = 0; stop = None; fail = None; stopped = None }
 
 -- a pick of its own, or else another one

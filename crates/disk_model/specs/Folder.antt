@@ -6,7 +6,7 @@ use Rattle.disk_model.specs.SyncAll.{Among}
 use Rattle.disk_model.specs.Trait.{Text, Once}
 use Rattle.disk_model.specs.Memory.{at_name, shown, named, done_in_turn, effects_on}
 use Rattle.disk_model.specs.MemFiles.{MemFile}
-use Rattle.disk_model.specs.declared.open_calls.Uncovered.{Uncovered}
+use Rattle.disk_model.specs.declared.open_calls.UnsyncedCall.{UnsyncedCall}
 
 -- the files as they are read, and as they surely stand
 pub record Tables : Type 0 where
@@ -50,7 +50,7 @@ all_settled [] = []
 all_settled (f ∷ fs) = settled_file f ∷ all_settled fs
 
 -- calls done again, in turn, to what surely stands
-abbrev pub replayed : List Uncovered → Tables → Tables
+abbrev pub replayed : List UnsyncedCall → Tables → Tables
 replayed us t = record { read = t.read; base = λ n. done_in_turn (effects_on n us) (t.base n) }
 
 -- the file of a name stands at a place of the list

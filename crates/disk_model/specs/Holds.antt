@@ -3,7 +3,7 @@ use Rattle.std.specs.Prelude.{◌≡◌, ◌⊎◌, true, false, List, [], ◌�
 use Rattle.disk_model.specs.Disk.{Found, Held, Disk, Sure, Gone, Absent, LeavesBytes}
 use Rattle.disk_model.specs.Trait.{Text}
 use Rattle.disk_model.specs.Memory.{Memory, done_to, half_of, done_in_turn, effects_on, shown}
-use Rattle.disk_model.specs.declared.open_calls.Effect.{Effect}
+use Rattle.disk_model.specs.declared.open_calls.UnsyncedEffect.{UnsyncedEffect}
 
 -- a crash may leave what shows of this file
 pub record Fits (h : Held) (f : Found) : Type 0 where
@@ -12,12 +12,12 @@ pub record Fits (h : Held) (f : Found) : Type 0 where
   pub left : LeavesBytes h.bytes h.since f.bytes
 
 -- so it may of a file after each front of these effects, with or without half of the next one
-abbrev pub Allows : Held → Found → List Effect → Type 0
+abbrev pub Allows : Held → Found → List UnsyncedEffect → Type 0
 Allows h f [] = Fits h f
 Allows h f (c ∷ cs) = Fits h f × Fits h (done_to (half_of c) f) × Allows h (done_to c f) cs
 
 -- one file of the memory against what the disk holds of it
-pub record HoldsFile (h : Held) (f base : Found) (effects : List Effect) : Type 0 where
+pub record HoldsFile (h : Held) (f base : Found) (effects : List UnsyncedEffect) : Type 0 where
   pub read : f ≡ shown (done_in_turn effects base)
   pub allows : Allows h base effects
   pub clean : (done_in_turn effects base).there ≡ false → (h.standing ≡ Gone) ⊎ ((done_in_turn effects base).bytes ≡ [])

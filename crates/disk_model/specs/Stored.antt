@@ -7,13 +7,13 @@ use Rattle.disk_model.specs.Armed.{picked}
 use Rattle.disk_model.specs.Memory.{Memory}
 use Rattle.disk_model.specs.Folder.{file_of}
 use Rattle.disk_model.specs.MemFiles.{MemFile}
-use Rattle.disk_model.specs.declared.armed.Armed.{Armed}
-use Rattle.disk_model.specs.declared.open_calls.Uncovered.{Uncovered}
+use Rattle.disk_model.specs.declared.armed.FaultInjector.{FaultInjector}
+use Rattle.disk_model.specs.declared.open_calls.UnsyncedCall.{UnsyncedCall}
 
 -- the files, each as it is read and as it surely stands, and the calls that no sync covers yet
 pub record Contents : Type 0 where
   pub files : List MemFile
-  pub uncovered : List Uncovered
+  pub uncovered : List UnsyncedCall
 
 -- the same by names
 abbrev pub memory_of : Contents → Memory
@@ -22,12 +22,12 @@ memory_of c = record { read = λ n. (file_of c.files n).read; base = λ n. (file
 -- a disk over memory: what it holds, and its calls
 pub record OverMemory : Type 0 where
   pub contents : Contents
-  pub calls : Armed
+  pub calls : FaultInjector
 
 -- the states that it may be said to be in
 abbrev pub states_of : OverMemory → Disk Text → Type 0
 states_of m = Holds (memory_of m.contents)
 
 -- the pick of a crash: that of the stop, where one came, else the one that is given
-abbrev pub pick_of : Armed → ℕ → ℕ
+abbrev pub pick_of : FaultInjector → ℕ → ℕ
 pick_of calls pick = picked calls.stopped pick

@@ -16,7 +16,7 @@ pub struct Stop {
 /// Calls that are counted, of which one may be told to fail and one to stop the disk; faults and wants of memory are
 /// counted too. All counts stay at 18,446,744,073,709,551,615.
 #[derive(Clone, Copy)]
-pub struct Armed {
+pub struct FaultInjector {
     pub(crate) made: u64,
     pub(crate) faults: u64,
     pub(crate) wants: u64,
@@ -27,7 +27,7 @@ pub struct Armed {
 
 /// How a call goes on that doesn't fail at once.
 #[derive(Clone, Copy)]
-pub enum Turn {
+pub enum CallOutcome {
     Goes,
     /// The disk stops in this call.
     Stops,
@@ -66,12 +66,12 @@ fn is_number(number: Option<u64>, call: u64) -> bool
     }
 }
 
-impl Armed {
+impl FaultInjector {
     /// Before the first call, with nothing that is to stop or to fail.
-    pub(crate) fn unarmed() -> Armed
+    pub(crate) fn unarmed() -> FaultInjector
         ensures { result ≡ unarmed }
     {
-        Armed {
+        FaultInjector {
             made: 0,
             faults: 0,
             wants: 0,
@@ -140,7 +140,7 @@ impl Armed {
     /// Starts the next call. It fails at once where the disk is stopped or the call is to fail; else the call goes on,
     /// and the disk stops in it or not.
     #[tactic(auto, using(crate::proofs::Counts::caused, crate::proofs::Counts::spared, crate::proofs::Counts::not_wanted))]
-    pub(crate) fn start(&mut self) -> Result<Turn, DiskFault>
+    pub(crate) fn start(&mut self) -> Result<CallOutcome, DiskFault>
         ensures counted { Counted self.old self.new }
         ensures turn { IfOk result (IsTurn (fails_next self.old)) }
         ensures turns { result ≡ turn_next self.old }
@@ -154,15 +154,15 @@ impl Armed {
             return Err(self.fault());
         }
         if self.stopped.is_some() {
-            return Ok(Turn::Stops);
+            return Ok(CallOutcome::Stops);
         }
-        Ok(Turn::Goes)
+        Ok(CallOutcome::Goes)
     }
 
     /// Ends a call that went on, where this came of it.
     pub(crate) fn finish(
         &mut self,
-        turn: Turn,
+        turn: CallOutcome,
         done: Result<(), AllocError>,
     ) -> Result<(), DiskFault>
         ensures answer { result ≡ finished turn done }
@@ -173,8 +173,8 @@ impl Armed {
         match done {
             Err(_) => Err(self.want()),
             Ok(()) => match turn {
-                Turn::Goes => Ok(()),
-                Turn::Stops => Err(self.fault()),
+                CallOutcome::Goes => Ok(()),
+                CallOutcome::Stops => Err(self.fault()),
             },
         }
     }
@@ -189,8 +189,8 @@ impl Armed {
         ensures want { HasWant self.old.wants self.new.wants result }
     {
         match self.start()? {
-            Turn::Goes => Ok(()),
-            Turn::Stops => Err(self.fault()),
+            CallOutcome::Goes => Ok(()),
+            CallOutcome::Stops => Err(self.fault()),
         }
     }
 }

@@ -7,7 +7,7 @@ ghost use Rattle.disk_model.specs.Fronts.{front_left};
 ghost use Rattle.disk_model.specs.Folder.{file_of, tables_of, read_changed, base_changed, file_put_down, names_put_down, settled, settled_file, all_settled, named_file, has_name, ListsFiles, StandsAt};
 ghost use Rattle.disk_model.specs.MemFiles.{MemFile};
 
-use crate::open_calls::Effect;
+use crate::open_calls::UnsyncedEffect;
 use crate::stored::Stored;
 use dq_base::Name;
 use std::alloc::{AllocError, Global};
@@ -175,7 +175,11 @@ impl Folder {
 
     /// A call changes what is read of a file.
     #[tactic(auto, using(crate::proofs::Standing::read_taken))]
-    pub(crate) fn change_read(&mut self, name: &str, effect: &Effect) -> Result<(), AllocError>
+    pub(crate) fn change_read(
+        &mut self,
+        name: &str,
+        effect: &UnsyncedEffect,
+    ) -> Result<(), AllocError>
         requires { IsName name.now }
         ensures ok { OnOk result (tables_of self.new ≡ read_changed name.now (done_to effect.now) (tables_of self.old)) }
         ensures err { OnErr result (tables_of self.new ≡ tables_of self.old) }
@@ -187,7 +191,11 @@ impl Folder {
 
     /// A call changes what surely stands of a file.
     #[tactic(auto, using(crate::proofs::Standing::base_taken))]
-    pub(crate) fn change_base(&mut self, name: &str, effect: &Effect) -> Result<(), AllocError>
+    pub(crate) fn change_base(
+        &mut self,
+        name: &str,
+        effect: &UnsyncedEffect,
+    ) -> Result<(), AllocError>
         requires { IsName name.now }
         ensures ok { OnOk result (tables_of self.new ≡ base_changed name.now (done_to effect.now) (tables_of self.old)) }
         ensures err { OnErr result (tables_of self.new ≡ tables_of self.old) }
@@ -202,7 +210,7 @@ impl Folder {
     pub(crate) fn change_base_by_half(
         &mut self,
         name: &str,
-        effect: &Effect,
+        effect: &UnsyncedEffect,
     ) -> Result<(), AllocError>
         requires { IsName name.now }
         ensures ok { OnOk result (tables_of self.new ≡ base_changed name.now (done_to (half_of effect.now)) (tables_of self.old)) }
@@ -215,25 +223,25 @@ impl Folder {
 
     /// Nothing is read of a file any more.
     #[tactic(auto, using(crate::proofs::Standing::read_done, crate::proofs::Standing::hidden_nowhere))]
-    pub(crate) fn hide(&mut self, name: &str)
+    pub(crate) fn discard_unsynced(&mut self, name: &str)
         ensures { tables_of self.new ≡ read_changed name.now (λ file. missing) (tables_of self.old) }
     {
         if let Some(place) = place_of(self.files.as_slice(), name) {
             let file = &mut self.files[place];
-            file.hide(self.alloc);
+            file.discard_unsynced(self.alloc);
         }
     }
 
     /// What is read of a file surely stands. Copies the bytes that were changed since that last was so.
     #[tactic(auto, using(crate::proofs::Standing::put_down_taken))]
-    pub(crate) fn put_down(&mut self, name: &str) -> Result<(), AllocError>
+    pub(crate) fn commit_synced(&mut self, name: &str) -> Result<(), AllocError>
         requires { IsName name.now }
         ensures ok { OnOk result (tables_of self.new ≡ file_put_down name.now (tables_of self.old)) }
         ensures err { OnErr result (tables_of self.new ≡ tables_of self.old) }
     {
         let place = opened(self.alloc, &mut self.files, name)?;
         let file = &mut self.files[place];
-        file.put_down()
+        file.commit_synced()
     }
 
     /// Each name surely stands as it is read.
@@ -271,16 +279,16 @@ impl Folder {
     }
 }
 
-impl Effect {
+impl UnsyncedEffect {
     // How many bytes at the front of a file are left as they were.
     fn front_left(&self, same: usize) -> usize
         ensures { result ≡ front_left self.now same }
     {
         match self {
-            Effect::Creation { .. } => 0,
-            Effect::Write { at, .. } => at_most(same, *at),
-            Effect::Truncation { length } => at_most(same, *length),
-            Effect::Naming | Effect::Removal | Effect::Nothing => same,
+            UnsyncedEffect::Creation { .. } => 0,
+            UnsyncedEffect::Write { at, .. } => at_most(same, *at),
+            UnsyncedEffect::Truncation { length } => at_most(same, *length),
+            UnsyncedEffect::Naming | UnsyncedEffect::Removal | UnsyncedEffect::Nothing => same,
         }
     }
 }
@@ -326,7 +334,7 @@ impl MemFile {
     }
 
     #[tactic(auto, using(crate::proofs::Fronts::front_done))]
-    fn change_read(&mut self, effect: &Effect) -> Result<(), AllocError>
+    fn change_read(&mut self, effect: &UnsyncedEffect) -> Result<(), AllocError>
         ensures ok { OnOk result (self.new ≡ record { name = self.old.name; read = done_to effect.now self.old.read; base = self.old.base }) }
         ensures err { OnErr result (self.new ≡ self.old) }
     {
@@ -337,7 +345,7 @@ impl MemFile {
     }
 
     #[tactic(auto, using(crate::proofs::Fronts::front_none))]
-    fn change_base(&mut self, effect: &Effect) -> Result<(), AllocError>
+    fn change_base(&mut self, effect: &UnsyncedEffect) -> Result<(), AllocError>
         ensures ok { OnOk result (self.new ≡ record { name = self.old.name; read = self.old.read; base = done_to effect.now self.old.base }) }
         ensures err { OnErr result (self.new ≡ self.old) }
     {
@@ -346,7 +354,7 @@ impl MemFile {
     }
 
     #[tactic(auto, using(crate::proofs::Fronts::front_none))]
-    fn change_base_by_half(&mut self, effect: &Effect) -> Result<(), AllocError>
+    fn change_base_by_half(&mut self, effect: &UnsyncedEffect) -> Result<(), AllocError>
         ensures ok { OnOk result (self.new ≡ record { name = self.old.name; read = self.old.read; base = done_to (half_of effect.now) self.old.base }) }
         ensures err { OnErr result (self.new ≡ self.old) }
     {
@@ -355,14 +363,14 @@ impl MemFile {
     }
 
     #[tactic(auto, using(crate::proofs::Fronts::front_none))]
-    fn hide(&mut self, alloc: Global)
+    fn discard_unsynced(&mut self, alloc: Global)
         ensures { self.new ≡ record { name = self.old.name; read = missing; base = self.old.base } }
     {
         self.same = 0;
         self.read.vanish(alloc);
     }
 
-    fn put_down(&mut self) -> Result<(), AllocError>
+    fn commit_synced(&mut self) -> Result<(), AllocError>
         ensures ok { OnOk result (self.new ≡ record { name = self.old.name; read = self.old.read; base = record { there = self.old.base.there; bytes = self.old.read.bytes } }) }
         ensures err { OnErr result (self.new ≡ self.old) }
     {

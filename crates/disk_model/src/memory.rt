@@ -8,7 +8,7 @@ ghost use Rattle.disk_model.specs.Memory.{no_memory, wrote, truncated, removed, 
 ghost use Rattle.disk_model.specs.Armed.{armed_with, disarmed, unarmed, is_idle_next, after_call, after_whole, Counted};
 ghost use Rattle.disk_model.specs.Stored.{memory_of, states_of, pick_of};
 
-use crate::armed::{Armed, Stop};
+use crate::armed::{FaultInjector, Stop};
 use crate::disk::Disk;
 use crate::faults::DiskFault;
 use crate::storage::Storage;
@@ -29,7 +29,7 @@ use std::marker::Model;
 #[derive(Drop)]
 pub struct MemDisk {
     storage: Storage,
-    calls: Armed,
+    calls: FaultInjector,
 }
 
 impl Model for MemDisk {
@@ -50,7 +50,7 @@ impl MemDisk {
     {
         MemDisk {
             storage: Storage::new(alloc),
-            calls: Armed::unarmed(),
+            calls: FaultInjector::unarmed(),
         }
     }
 

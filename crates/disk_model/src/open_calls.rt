@@ -2,7 +2,7 @@ use dq_base::{Bytes, Name};
 
 /// What a call that no sync covers yet did to its file, as far as a crash may still drop it.
 #[derive(Drop)]
-pub enum Effect {
+pub enum UnsyncedEffect {
     /// The first write of a name, from the file's start on: a crash may drop the bytes and the name.
     Creation { bytes: Bytes },
     /// The first write of a name, whose bytes are synced: a crash may drop the name alone.
@@ -19,7 +19,7 @@ pub enum Effect {
 
 /// A call that no sync covers yet: its file, and what it did.
 #[derive(Drop)]
-pub struct Uncovered {
+pub struct UnsyncedCall {
     pub(crate) name: Name,
-    pub(crate) effect: Effect,
+    pub(crate) effect: UnsyncedEffect,
 }

@@ -8,7 +8,7 @@ ghost use Rattle.disk_model.specs.Trait.{Reads};
 ghost use Rattle.disk_model.specs.Stored.{memory_of};
 
 use crate::folder::Folder;
-use crate::open_calls::{Effect, Uncovered};
+use crate::open_calls::{UnsyncedCall, UnsyncedEffect};
 use dq_base::{Bytes, Name};
 use std::alloc::{AllocError, Global};
 use std::marker::Model;
@@ -19,7 +19,7 @@ use std::mem;
 pub struct Storage {
     alloc: Global,
     folder: Folder,
-    uncovered: Vec<Uncovered>,
+    uncovered: Vec<UnsyncedCall>,
 }
 
 impl Model for Storage {
@@ -58,7 +58,7 @@ fn named(alloc: Global, name: &str) -> Result<Name, AllocError>
     }
 }
 
-impl Uncovered {
+impl UnsyncedCall {
     /// A sync of the file of a name covers the call. Answers whether something of it is still uncovered.
     fn survives_file_sync(&mut self, name: &str) -> bool
         ensures { left_by_file_sync name.now self.old ≡ cond result (self.new ∷ []) [] }
@@ -67,12 +67,14 @@ impl Uncovered {
             return true;
         }
         match self.effect {
-            Effect::Creation { .. } | Effect::Naming => {
-                self.effect = Effect::Naming;
+            UnsyncedEffect::Creation { .. } | UnsyncedEffect::Naming => {
+                self.effect = UnsyncedEffect::Naming;
                 true
             }
-            Effect::Removal => true,
-            Effect::Write { .. } | Effect::Truncation { .. } | Effect::Nothing => false,
+            UnsyncedEffect::Removal => true,
+            UnsyncedEffect::Write { .. }
+            | UnsyncedEffect::Truncation { .. }
+            | UnsyncedEffect::Nothing => false,
         }
     }
 
@@ -92,26 +94,26 @@ impl Uncovered {
     }
 }
 
-impl Effect {
+impl UnsyncedEffect {
     /// The name of the file is sure.
     fn survives_naming(&mut self) -> bool
         ensures { after_names_sync true self.old ≡ cond result (self.new ∷ []) [] }
     {
-        match mem::replace(self, Effect::Nothing) {
-            Effect::Creation { bytes } => {
-                *self = Effect::Write { at: 0, bytes };
+        match mem::replace(self, UnsyncedEffect::Nothing) {
+            UnsyncedEffect::Creation { bytes } => {
+                *self = UnsyncedEffect::Write { at: 0, bytes };
                 true
             }
-            Effect::Naming | Effect::Removal => false,
-            Effect::Write { at, bytes } => {
-                *self = Effect::Write { at, bytes };
+            UnsyncedEffect::Naming | UnsyncedEffect::Removal => false,
+            UnsyncedEffect::Write { at, bytes } => {
+                *self = UnsyncedEffect::Write { at, bytes };
                 true
             }
-            Effect::Truncation { length } => {
-                *self = Effect::Truncation { length };
+            UnsyncedEffect::Truncation { length } => {
+                *self = UnsyncedEffect::Truncation { length };
                 true
             }
-            Effect::Nothing => true,
+            UnsyncedEffect::Nothing => true,
         }
     }
 
@@ -120,12 +122,12 @@ impl Effect {
         ensures { after_names_sync false self.old ≡ cond result (self.new ∷ []) [] }
     {
         match self {
-            Effect::Naming | Effect::Removal => false,
-            Effect::Creation { .. }
-            | Effect::Write { .. }
-            | Effect::Truncation { .. }
-            | Effect::Nothing => {
-                *self = Effect::Nothing;
+            UnsyncedEffect::Naming | UnsyncedEffect::Removal => false,
+            UnsyncedEffect::Creation { .. }
+            | UnsyncedEffect::Write { .. }
+            | UnsyncedEffect::Truncation { .. }
+            | UnsyncedEffect::Nothing => {
+                *self = UnsyncedEffect::Nothing;
                 true
             }
         }
@@ -134,7 +136,7 @@ impl Effect {
 
 /// A sync of the file of a name covers calls.
 #[tactic(auto, using(crate::proofs::Replaying::left_kept, crate::proofs::Replaying::left_gone))]
-fn cover_file(calls: &mut Vec<Uncovered>, name: &str)
+fn cover_file(calls: &mut Vec<UnsyncedCall>, name: &str)
     ensures { calls.new.items ≡ each_left (left_by_file_sync name.now) calls.old.items }
 {
     let mut place = 0;
@@ -149,7 +151,7 @@ fn cover_file(calls: &mut Vec<Uncovered>, name: &str)
 
 /// A sync of the names covers calls.
 #[tactic(auto, using(crate::proofs::Replaying::left_kept, crate::proofs::Replaying::left_gone))]
-fn cover_names(calls: &mut Vec<Uncovered>, folder: &Folder)
+fn cover_names(calls: &mut Vec<UnsyncedCall>, folder: &Folder)
     ensures { calls.new.items ≡ each_left (left_by_names_sync (tables_of folder.now).read) calls.old.items }
 {
     let mut place = 0;
@@ -163,7 +165,7 @@ fn cover_names(calls: &mut Vec<Uncovered>, folder: &Folder)
 }
 
 /// Does the calls again, in turn, to what surely stands.
-fn replay(folder: &mut Folder, calls: &[Uncovered]) -> Result<(), AllocError>
+fn replay(folder: &mut Folder, calls: &[UnsyncedCall]) -> Result<(), AllocError>
     ensures { OnOk result (tables_of folder.new ≡ replayed calls.now (tables_of folder.old)) }
 {
     for call in calls {
@@ -174,7 +176,7 @@ fn replay(folder: &mut Folder, calls: &[Uncovered]) -> Result<(), AllocError>
 
 /// Does half of the first call again.
 #[tactic(auto, using(crate::proofs::Replaying::half_replayed, crate::proofs::Replaying::no_half))]
-fn replay_half(folder: &mut Folder, calls: &[Uncovered]) -> Result<(), AllocError>
+fn replay_half(folder: &mut Folder, calls: &[UnsyncedCall]) -> Result<(), AllocError>
     ensures { OnOk result (tables_of folder.new ≡ replayed (first_half calls.now) (tables_of folder.old)) }
 {
     match calls {
@@ -202,7 +204,7 @@ fn keeps_half(pick: u64, count: usize) -> bool
 
 /// Does the calls again that a pick keeps.
 #[tactic(auto, using(crate::proofs::Replaying::picked_whole))]
-fn replay_picked(folder: &mut Folder, calls: &[Uncovered], pick: u64) -> Result<(), AllocError>
+fn replay_picked(folder: &mut Folder, calls: &[UnsyncedCall], pick: u64) -> Result<(), AllocError>
     ensures { OnOk result (tables_of folder.new ≡ replayed (kept pick calls.now) (tables_of folder.old)) }
 {
     let count = calls.len();
@@ -276,7 +278,7 @@ impl Storage {
     }
 
     /// Does a call to a file, and notes it.
-    fn note(&mut self, name: &str, effect: Effect) -> Result<(), AllocError>
+    fn note(&mut self, name: &str, effect: UnsyncedEffect) -> Result<(), AllocError>
         requires { IsName name.now }
         ensures ok { OnOk result (memory_of self.new ≡ noted name.now effect (done_to effect) (memory_of self.old)) }
         ensures err { OnErr result (memory_of self.new ≡ memory_of self.old) }
@@ -284,7 +286,7 @@ impl Storage {
         let own = named(self.alloc, name)?;
         self.uncovered.reserve(1)?;
         self.folder.change_read(name, &effect)?;
-        self.uncovered.push(Uncovered { name: own, effect })?;
+        self.uncovered.push(UnsyncedCall { name: own, effect })?;
         Ok(())
     }
 
@@ -295,12 +297,12 @@ impl Storage {
         ensures err { OnErr result (memory_of self.new ≡ memory_of self.old) }
     {
         if !self.is_there(name) {
-            return self.note(name, Effect::Creation { bytes });
+            return self.note(name, UnsyncedEffect::Creation { bytes });
         }
         if bytes.is_empty() {
             return Ok(());
         }
-        self.note(name, Effect::Write { at, bytes })
+        self.note(name, UnsyncedEffect::Write { at, bytes })
     }
 
     /// Writes bytes to a file. Copies them twice.
@@ -337,7 +339,7 @@ impl Storage {
         ensures err { OnErr result (memory_of self.new ≡ memory_of self.old) }
     {
         if length < self.length(name) as u64 {
-            return self.note(name, Effect::Truncation { length });
+            return self.note(name, UnsyncedEffect::Truncation { length });
         }
         Ok(())
     }
@@ -352,11 +354,11 @@ impl Storage {
             return Ok(());
         }
         let own = named(self.alloc, name)?;
-        self.uncovered.push(Uncovered {
+        self.uncovered.push(UnsyncedCall {
             name: own,
-            effect: Effect::Removal,
+            effect: UnsyncedEffect::Removal,
         })?;
-        self.folder.hide(name);
+        self.folder.discard_unsynced(name);
         Ok(())
     }
 
@@ -369,7 +371,7 @@ impl Storage {
         if !self.is_there(name) {
             return Ok(());
         }
-        self.folder.put_down(name)?;
+        self.folder.commit_synced(name)?;
         cover_file(&mut self.uncovered, name);
         Ok(())
     }

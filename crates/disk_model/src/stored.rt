@@ -4,7 +4,7 @@ ghost use Rattle.disk_model.specs.Calls.{put};
 ghost use Rattle.disk_model.specs.Memory.{done_to, half_of, shown};
 ghost use Rattle.disk_model.specs.Fronts.{SameFront};
 
-use crate::open_calls::Effect;
+use crate::open_calls::UnsyncedEffect;
 use std::alloc::{AllocError, Global};
 use std::marker::Model;
 
@@ -126,41 +126,41 @@ impl Stored {
     }
 
     /// Does what a call does to its file.
-    pub(crate) fn take(&mut self, effect: &Effect) -> Result<(), AllocError>
+    pub(crate) fn take(&mut self, effect: &UnsyncedEffect) -> Result<(), AllocError>
         ensures ok { OnOk result (self.new ≡ done_to effect.now self.old) }
         ensures err { OnErr result (self.new ≡ self.old) }
     {
         match effect {
-            Effect::Creation { bytes } => self.create(bytes.as_slice()),
-            Effect::Naming => {
+            UnsyncedEffect::Creation { bytes } => self.create(bytes.as_slice()),
+            UnsyncedEffect::Naming => {
                 self.there = true;
                 Ok(())
             }
-            Effect::Write { at, bytes } => self.write(*at as usize, bytes.as_slice()),
-            Effect::Truncation { length } => {
+            UnsyncedEffect::Write { at, bytes } => self.write(*at as usize, bytes.as_slice()),
+            UnsyncedEffect::Truncation { length } => {
                 self.bytes.truncate(*length as usize);
                 Ok(())
             }
-            Effect::Removal => {
+            UnsyncedEffect::Removal => {
                 self.there = false;
                 Ok(())
             }
-            Effect::Nothing => Ok(()),
+            UnsyncedEffect::Nothing => Ok(()),
         }
     }
 
     /// Does half of what a call does to its file: a write writes the first half of its bytes, rounded down, and
     /// nothing else is done by halves.
-    pub(crate) fn take_half(&mut self, effect: &Effect) -> Result<(), AllocError>
+    pub(crate) fn take_half(&mut self, effect: &UnsyncedEffect) -> Result<(), AllocError>
         ensures ok { OnOk result (self.new ≡ done_to (half_of effect.now) self.old) }
         ensures err { OnErr result (self.new ≡ self.old) }
     {
         match effect {
-            Effect::Creation { bytes } => {
+            UnsyncedEffect::Creation { bytes } => {
                 let bytes = bytes.as_slice();
                 self.create(&bytes[..bytes.len() / 2])
             }
-            Effect::Write { at, bytes } => {
+            UnsyncedEffect::Write { at, bytes } => {
                 let bytes = bytes.as_slice();
                 self.write(*at as usize, &bytes[..bytes.len() / 2])
             }

@@ -1,7 +1,7 @@
 ghost use Rattle.dq_base.specs.Names.{IsName};
 
-use dir_disk::DirDisk;
 use disk_model::{Disk, DiskFault};
+use folder_disk::DirDisk;
 use std::fs;
 use std::test::Fail;
 

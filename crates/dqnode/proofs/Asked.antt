@@ -1,19 +1,19 @@
 -- How it ends where a statement is asked for.
 use Rattle.std.proofs.Common.{◌≡◌, ◌≢◌, ◌⊎◌, inl, inr, ◌*◌, ℕ, List, [], length, Option, Some, None, refl, sym, ap, subst, ◌∙◌}
 use Rattle.dq_base.proofs.ContentLaws.{AppendsFront-whole}
-use Rattle.dq_client.specs.declared.events.ClientEnd.{ClientEnd}
-use Rattle.dq_client.specs.declared.events.ClientEnd.TheVariants as ends
-use Rattle.dq_client.specs.declared.course.Course.{Course}
-use Rattle.dq_client.specs.declared.status.ClientStatus.{ClientStatus}
-use Rattle.dq_client.specs.declared.status.ClientStatus.TheVariants as client
-use Rattle.dq_client.specs.Course.{step}
-use Rattle.dq_client.specs.Net.{Net}
-use Rattle.dq_client.specs.Running.{started, EndHasCause, HaveDialled}
-use Rattle.dq_client.specs.Driving.{IsBegun}
-use Rattle.dq_client.specs.Status.{HasRun, HasPrinted}
-use Rattle.program_words.specs.declared.asked.Asked.{Asked}
-use Rattle.program_words.specs.declared.asked.Asked.TheVariants as asks
-use Rattle.program_words.specs.declared.asked.Statement.{Statement}
+use Rattle.client.specs.declared.events.ClientEnd.{ClientEnd}
+use Rattle.client.specs.declared.events.ClientEnd.TheVariants as ends
+use Rattle.client.specs.declared.course.Course.{Course}
+use Rattle.client.specs.declared.status.ClientStatus.{ClientStatus}
+use Rattle.client.specs.declared.status.ClientStatus.TheVariants as client
+use Rattle.client.specs.Course.{step}
+use Rattle.client.specs.Net.{Net}
+use Rattle.client.specs.Running.{started, EndHasCause, HaveDialled}
+use Rattle.client.specs.Driving.{IsBegun}
+use Rattle.client.specs.Status.{HasRun, HasPrinted}
+use Rattle.arguments.specs.declared.invocation.Invocation.{Invocation}
+use Rattle.arguments.specs.declared.invocation.Invocation.TheVariants as asks
+use Rattle.arguments.specs.declared.invocation.Statement.{Statement}
 use Rattle.dqnode.specs.Asks.{ForStatement}
 use Rattle.dqnode.specs.declared.status.Status.TheVariants as status
 use Rattle.dqnode.specs.Status.{status_code, IsStatementCode}
@@ -57,7 +57,7 @@ write_failed client.NoMemory e = cc
 
 -- ---- the statement that was asked for
 
-statement_in : Statement → Option Asked → Statement
+statement_in : Statement → Option Invocation → Statement
 statement_in other None = other
 statement_in other (Some (asks.Script kind)) = other
 statement_in other (Some (asks.Statement statement)) = statement

@@ -6,15 +6,15 @@ use Rattle.dq_base.specs.Sink.{AppendsFront}
 use Rattle.dq_base.proofs.ContentLaws.{AppendsFront-longer}
 use Rattle.sql_engine.specs.declared.kind.EngineKind.TheVariants.{Cells}
 use Rattle.sql_engine.specs.Cells.{cells}
-use Rattle.script_nodes.specs.Knowing.{with_over}
-use Rattle.script_nodes.specs.Outcomes.{Item, Turn}
-use Rattle.script_nodes.specs.Run.{Fault, fault_text}
+use Rattle.script_cluster.specs.Knowing.{with_over}
+use Rattle.script_cluster.specs.Outcomes.{Item, Turn}
+use Rattle.script_cluster.specs.Run.{Fault, fault_text}
 use Rattle.script_runner.specs.Run.{Run, run, text_of, printed}
 use Rattle.script_runner.specs.Ending.{Anything, MayFollow}
-use Rattle.script_runs.specs.Mails.{ByNodes, OverByNode}
-use Rattle.script_runs.specs.Seats.{setup_of}
-use Rattle.script_repeats.specs.Plain.{plain_items, plain_turns}
-use Rattle.script_repeats.specs.Repeats.{AreAlike, Compared, Same, Shorter, Longer, IsWhole, StartWith}
+use Rattle.script_safety.specs.Mails.{ByNodes, OverByNode}
+use Rattle.script_safety.specs.Slots.{setup_of}
+use Rattle.script_determinism.specs.Plain.{plain_items, plain_turns}
+use Rattle.script_determinism.specs.Repeats.{AreAlike, Compared, Same, Shorter, Longer, IsWhole, StartWith}
 use Rattle.cell_scripts.specs.Decided.{GoesUntroubled, IsOfCells, BrokeOffCells, CellBrokenRepeat, CellScriptsCompare}
 use Rattle.dqnode.specs.Program.{BreaksOff, Gives}
 use Rattle.dqnode.specs.Decided.{WentWell, BrokeWell, BrokenDecideBy, ScriptsDecide, BrokenScriptsDecide}

@@ -3,22 +3,22 @@ use Rattle.std.proofs.Common.{◌≡◌, inl, inr, ℕ, List, [], ◌++◌, Opti
 use Rattle.dq_base.proofs.ContentLaws.{Consumes-nothing, AppendsFront-nothing}
 use Rattle.sql_engine.specs.declared.kind.EngineKind.{EngineKind}
 use Rattle.sqlite_engine.specs.Any.{any_meaning}
-use Rattle.script_nodes.specs.Outcomes.{Outcome as Came, Item, Turn}
-use Rattle.script_nodes.specs.Run.{Fault, Line, Large}
+use Rattle.script_cluster.specs.Outcomes.{Outcome as Came, Item, Turn}
+use Rattle.script_cluster.specs.Run.{Fault, Line, Large}
 use Rattle.script_runner.specs.declared.run.Outcome.{Outcome}
 use Rattle.script_runner.specs.declared.run.Outcome.TheVariants as outcome
 use Rattle.script_runner.specs.Ending.{MayFollow, Anything, Prints, PrintsFront, Ended}
 use Rattle.script_runner.specs.Run.{run}
 use Rattle.script_runner.proofs.Likeness.{run_twin}
 use Rattle.script_runner.proofs.Scening.{none_told}
-use Rattle.script_runs.specs.Laws.{IsSafe, IsSafeLater}
-use Rattle.script_runs.specs.Seats.{setup_of}
-use Rattle.script_runs.proofs.Completing.{scripts_are_complete_hold}
-use Rattle.script_runs.proofs.Running.{laters_are_safe_hold}
-use Rattle.script_runs.proofs.Scripts.{loads_never_fail_hold, scripts_are_safe_hold}
-use Rattle.script_places.specs.Safe.{AreOfNodes, IsFairTo}
-use Rattle.script_places.specs.Turns.{Knows}
-use Rattle.script_places.proofs.Guarding.{places_tell}
+use Rattle.script_safety.specs.Laws.{IsSafe, IsSafeLater}
+use Rattle.script_safety.specs.Slots.{setup_of}
+use Rattle.script_safety.proofs.Completing.{scripts_are_complete_hold}
+use Rattle.script_safety.proofs.Running.{laters_are_safe_hold}
+use Rattle.script_safety.proofs.Scripts.{loads_never_fail_hold, scripts_are_safe_hold}
+use Rattle.script_whole_nodes.specs.Safe.{AreOfNodes, IsFairTo}
+use Rattle.script_whole_nodes.specs.Turns.{Knows}
+use Rattle.script_whole_nodes.proofs.Guarding.{places_tell}
 use Rattle.dqnode.specs.Program.{SafeTurns, Gives, BreaksOff, RunsSafely, RunsAreSafe}
 use Rattle.dqnode.specs.Status.{status_for, OutcomeEnds, ScriptEnds}
 

@@ -3,10 +3,10 @@ use Rattle.std.proofs.Common.{◌≡◌, ◌⊎◌, inl, inr, ℕ, Bool, true, f
 use Rattle.std.specs.Io.KnownBytes.{Appends}
 use Rattle.dq_base.specs.Sink.{AppendsFront}
 use Rattle.dq_base.proofs.ContentLaws.{AppendsFront-nothing}
-use Rattle.program_words.specs.declared.asked.Asked.{Asked}
-use Rattle.program_words.specs.declared.asked.Asked.TheVariants as asks
+use Rattle.arguments.specs.declared.invocation.Invocation.{Invocation}
+use Rattle.arguments.specs.declared.invocation.Invocation.TheVariants as asks
 use Rattle.script_generator.specs.Generated.{script_text}
-use Rattle.script_nodes.specs.Outcomes.{Item}
+use Rattle.script_cluster.specs.Outcomes.{Item}
 use Rattle.dqnode.specs.Status.{IsScriptCode}
 use Rattle.dqnode.specs.Asks.{ForGenerated, ForRun}
 use Rattle.dqnode.specs.Generating.{GenerateEnds, RunEnds}
@@ -30,11 +30,11 @@ pub ungenerated : (number writes : ℕ) (written : Option (List ℕ)) → Genera
 ungenerated number writes written = written_in_part number writes 7 written written (inr refl) (AppendsFront-nothing written (script_text number writes))
 
 -- the script that was asked for
-number_in : ℕ → Option Asked → ℕ
+number_in : ℕ → Option Invocation → ℕ
 number_in other (Some (asks.Generate number count run)) = number
 number_in other asked = other
 
-count_in : ℕ → Option Asked → ℕ
+count_in : ℕ → Option Invocation → ℕ
 count_in other (Some (asks.Generate number count run)) = count
 count_in other asked = other
 

@@ -4,12 +4,12 @@ use Rattle.dq_base.specs.Sink.{AppendsFront}
 use Rattle.dq_base.proofs.ContentLaws.{Appends-nothing, AppendsFront-nothing}
 use Rattle.disk_model.specs.Disk.{Disk}
 use Rattle.disk_model.specs.Trait.{Text}
-use Rattle.dq_client.specs.declared.events.ClientEnd.TheVariants as ends
-use Rattle.dq_client.specs.Net.{Net, HaveFailed}
-use Rattle.dq_client.specs.Running.{started}
-use Rattle.dq_client.proofs.Failing.{none_failed}
-use Rattle.dq_client.proofs.Driven.{unmoved}
-use Rattle.program_words.specs.declared.asked.Statement.{Statement}
+use Rattle.client.specs.declared.events.ClientEnd.TheVariants as ends
+use Rattle.client.specs.Net.{Net, HaveFailed}
+use Rattle.client.specs.Running.{started}
+use Rattle.client.proofs.Failing.{none_failed}
+use Rattle.client.proofs.Driven.{unmoved}
+use Rattle.arguments.specs.declared.invocation.Statement.{Statement}
 use Rattle.dqnode.specs.Statements.{client_of, StatementEnds}
 use Rattle.dqnode.specs.Checks.{CheckEnds}
 

@@ -5,8 +5,8 @@ use Rattle.dq_base.specs.Sink.{AppendsFront}
 use Rattle.dq_base.proofs.ContentLaws.{Appends-nothing, Appends-then, AppendsFront-nothing, AppendsFront-longer, AppendsFront-then}
 use Rattle.sql_engine.specs.declared.kind.EngineKind.TheVariants.{Cells}
 use Rattle.script_generator.specs.Generated.{script_text}
-use Rattle.script_nodes.specs.Outcomes.{Item}
-use Rattle.script_nodes.specs.Run.{Fault, Line, Large}
+use Rattle.script_cluster.specs.Outcomes.{Item}
+use Rattle.script_cluster.specs.Run.{Fault, Line, Large}
 use Rattle.script_runner.specs.declared.run.Outcome.{Outcome}
 use Rattle.script_runner.specs.declared.run.Outcome.TheVariants as outcome
 use Rattle.script_runner.specs.Run.{Run, run, printed}

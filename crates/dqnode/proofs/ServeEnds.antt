@@ -2,22 +2,22 @@
 use Rattle.std.proofs.Common.{◌≡◌, ◌+◌, ◌⊎◌, inl, inr, ℕ, Bool, Option, Some, refl, sym, ap, subst, ◌∙◌}
 use Rattle.disk_model.specs.Disk.{Disk}
 use Rattle.disk_model.specs.Trait.{Text}
-use Rattle.session_decisions.specs.declared.job.Read.{Read}
-use Rattle.node_edge.specs.Looping.{Taken}
-use Rattle.node_server.specs.declared.done.Done.{Done}
-use Rattle.program_words.specs.declared.asked.Asked.{Asked}
-use Rattle.program_words.specs.declared.asked.Asked.TheVariants as asks
-use Rattle.program_words.specs.declared.asked.Serve.{Serve}
-use Rattle.node_service.specs.declared.end.ServeEnd.{ServeEnd}
-use Rattle.node_service.specs.declared.end.ServeEnd.TheVariants as ends
+use Rattle.session_outcomes.specs.declared.job.Read.{Read}
+use Rattle.serve_traits.specs.Looping.{Taken}
+use Rattle.serve_threads.specs.declared.host_counts.HostCounts.{HostCounts}
+use Rattle.arguments.specs.declared.invocation.Invocation.{Invocation}
+use Rattle.arguments.specs.declared.invocation.Invocation.TheVariants as asks
+use Rattle.arguments.specs.declared.invocation.Serve.{Serve}
+use Rattle.serve_node.specs.declared.end.ServeEnd.{ServeEnd}
+use Rattle.serve_node.specs.declared.end.ServeEnd.TheVariants as ends
 use Rattle.dqnode.specs.declared.status.Status.{Status}
 use Rattle.dqnode.specs.declared.status.Status.TheVariants as status
 use Rattle.dqnode.specs.Status.{status_code, IsScriptCode, IsStatementCode, IsCheckCode, IsServeCode}
 use Rattle.dqnode.specs.Asks.{ForServed}
-use Rattle.dqnode.specs.Serving.{serve_status, ServedBy, NotServed}
+use Rattle.dqnode.specs.Serving.{serve_status, WasServed, NotServed}
 
 -- the node that was asked for
-served_in : Serve → Option Asked → Serve
+served_in : Serve → Option Invocation → Serve
 served_in other (Some (asks.Serve served)) = served
 served_in other asked = other
 
@@ -25,11 +25,11 @@ same_served : (one other : Serve) → ForServed other (Some (asks.Serve one)) �
 unfolding served_in
 same_served one other e = ap (served_in one) e
 
-pub served_for : {D H : Type 0} (tells : Bool) (states : D → Disk Text → Type 0) (faults : D → ℕ) (done : H → Done) (one : Serve)
-    (host : H) (disk disk_after : D) (events events_after : Taken Read) (code : ℕ) → ServedBy tells states faults done one host disk disk_after events events_after code
-    → (served : Serve) → ForServed served (Some (asks.Serve one)) → ServedBy tells states faults done served host disk disk_after events events_after code
+pub served_for : {D H : Type 0} (tells : Bool) (states : D → Disk Text → Type 0) (faults : D → ℕ) (done : H → HostCounts) (one : Serve)
+    (host : H) (disk disk_after : D) (events events_after : Taken Read) (code : ℕ) → WasServed tells states faults done one host disk disk_after events events_after code
+    → (served : Serve) → ForServed served (Some (asks.Serve one)) → WasServed tells states faults done served host disk disk_after events events_after code
 served_for tells states faults done one host disk disk_after events events_after code h served e =
-    subst (λ (s : Serve). ServedBy tells states faults done s host disk disk_after events events_after code) (same_served one served e) h
+    subst (λ (s : Serve). WasServed tells states faults done s host disk disk_after events events_after code) (same_served one served e) h
 
 spent_status : (s : Status) → status_code s ≡ 10 → s ≡ status.Spent
 spent_status status.Spent e = refl
@@ -53,8 +53,8 @@ pub spent_for : (was now : ℕ) (one : Serve) (s : Status) → (s ≡ status.Spe
 spent_for was now one s h served e code = subst (λ (x : Serve). now ≡ was + x.events) (same_served one served e) (h (spent_status s code))
 
 -- where nothing is done, as there is not enough memory to read the words
-pub unserved : {D H : Type 0} (tells : Bool) (states : D → Disk Text → Type 0) (faults : D → ℕ) (done : H → Done) (served : Serve)
-    (host : H) (disk : D) (events : Taken Read) → ServedBy tells states faults done served host disk disk events events 7 ⊎ NotServed disk disk host host 7
+pub unserved : {D H : Type 0} (tells : Bool) (states : D → Disk Text → Type 0) (faults : D → ℕ) (done : H → HostCounts) (served : Serve)
+    (host : H) (disk : D) (events : Taken Read) → WasServed tells states faults done served host disk disk events events 7 ⊎ NotServed disk disk host host 7
 unserved tells states faults done served host disk events = inr (record { code_is = refl; disk_is = refl; host_is = refl })
 
 -- ---- the end of a served node, by its status

@@ -5,9 +5,9 @@ use Rattle.dq_base.specs.Sink.{AppendsFront}
 use Rattle.disk_model.specs.Disk.{Disk}
 use Rattle.disk_model.specs.Trait.{Text}
 use Rattle.segment_store.specs.declared.load_fault.LoadFault.{LoadFault}
-use Rattle.dir_check.specs.declared.ends.CheckEnd.{CheckEnd}
-use Rattle.dir_check.specs.declared.ends.CheckEnd.TheVariants as ends
-use Rattle.dir_check.specs.Checking.{Checks, CheckShows}
+use Rattle.folder_check.specs.declared.ends.CheckEnd.{CheckEnd}
+use Rattle.folder_check.specs.declared.ends.CheckEnd.TheVariants as ends
+use Rattle.folder_check.specs.Checking.{Checks, CheckShows}
 use Rattle.dqnode.specs.declared.status.Status.{Status}
 use Rattle.dqnode.specs.declared.status.Status.TheVariants as status
 use Rattle.dqnode.specs.Status.{status_code}

@@ -9,9 +9,9 @@ use Rattle.segment_store.specs.declared.load_fault.LoadFault.{LoadFault}
 use Rattle.segment_store.specs.declared.load_fault.LoadFault.TheVariants as fault
 use Rattle.segment_store.specs.Keeps.{folder}
 use Rattle.segment_store.specs.Loading.{IsPlain, LookShows}
-use Rattle.dir_check.specs.declared.ends.CheckEnd.{CheckEnd}
-use Rattle.dir_check.specs.declared.ends.CheckEnd.TheVariants as ends
-use Rattle.dir_check.specs.Checking.{HasLines, HasBadSnapshot, IsOfFiles}
+use Rattle.folder_check.specs.declared.ends.CheckEnd.{CheckEnd}
+use Rattle.folder_check.specs.declared.ends.CheckEnd.TheVariants as ends
+use Rattle.folder_check.specs.Checking.{HasLines, HasBadSnapshot, IsOfFiles}
 
 -- the line of a fault of the files
 abbrev pub load_line : LoadFault → List ℕ

@@ -4,12 +4,12 @@ use Rattle.std.specs.List.{AllByRecursion}
 use Rattle.std.specs.Io.KnownBytes.{Appends}
 use Rattle.dq_base.specs.Sink.{AppendsFront}
 use Rattle.sql_engine.specs.declared.kind.EngineKind.TheVariants.{Cells}
-use Rattle.script_nodes.specs.Knowing.{with_over}
-use Rattle.script_nodes.specs.Outcomes.{Item, Turn}
-use Rattle.script_nodes.specs.Run.{Fault}
-use Rattle.script_places.specs.Safe.{IsFairTo, IsFairOver}
-use Rattle.script_repeats.specs.Plain.{plain_items, plain_turns}
-use Rattle.script_repeats.specs.Repeats.{IsWhole}
+use Rattle.script_cluster.specs.Knowing.{with_over}
+use Rattle.script_cluster.specs.Outcomes.{Item, Turn}
+use Rattle.script_cluster.specs.Run.{Fault}
+use Rattle.script_whole_nodes.specs.Safe.{IsFairTo, IsFairOver}
+use Rattle.script_determinism.specs.Plain.{plain_items, plain_turns}
+use Rattle.script_determinism.specs.Repeats.{IsWhole}
 use Rattle.cell_scripts.specs.Decided.{GoesUntroubled}
 use Rattle.script_runner.specs.Ending.{Anything, MayFollow}
 use Rattle.dqnode.specs.Program.{BreaksOff, Gives}

@@ -5,8 +5,8 @@ use Rattle.dq_base.specs.Sink.{AppendsFront}
 use Rattle.dq_base.specs.Texts.{behind}
 use Rattle.sql_engine.specs.declared.kind.EngineKind.TheVariants.{Cells}
 use Rattle.script_generator.specs.Generated.{script_text}
-use Rattle.script_nodes.specs.Outcomes.{Outcome, Item}
-use Rattle.script_nodes.specs.Run.{Fault, Line, Large}
+use Rattle.script_cluster.specs.Outcomes.{Outcome, Item}
+use Rattle.script_cluster.specs.Run.{Fault, Line, Large}
 use Rattle.script_runner.specs.declared.run.Outcome.{Outcome as Ended}
 use Rattle.script_runner.specs.declared.run.Outcome.TheVariants as ended
 use Rattle.script_runner.specs.Run.{run, printed}

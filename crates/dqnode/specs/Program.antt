@@ -4,17 +4,17 @@ use Rattle.std.specs.Io.KnownBytes.{Appends, Consumes, IsAtEnd}
 use Rattle.dq_base.specs.Sink.{AppendsFront}
 use Rattle.sql_engine.specs.declared.kind.EngineKind.{EngineKind}
 use Rattle.sqlite_engine.specs.Any.{any_meaning}
-use Rattle.script_nodes.specs.Knowing.{outcomes_in, outcomes_over, with_over}
-use Rattle.script_nodes.specs.Outcomes.{Outcome, Item, Turn}
-use Rattle.script_nodes.specs.Run.{Fault}
-use Rattle.script_places.specs.Safe.{AreOfNodes, IsFairOver, IsFairTo}
+use Rattle.script_cluster.specs.Knowing.{outcomes_in, outcomes_over, with_over}
+use Rattle.script_cluster.specs.Outcomes.{Outcome, Item, Turn}
+use Rattle.script_cluster.specs.Run.{Fault}
+use Rattle.script_whole_nodes.specs.Safe.{AreOfNodes, IsFairOver, IsFairTo}
 use Rattle.script_runner.specs.Ending.{MayFollow, BeginWith, IsBeside}
 use Rattle.script_runner.specs.Run.{run, printed}
-use Rattle.script_runs.specs.Complete.{IsComplete}
-use Rattle.script_runs.specs.Laws.{IsSafe, IsSafeLater}
-use Rattle.script_runs.specs.Mails.{ByNodes}
-use Rattle.script_runs.specs.Seats.{setup_of}
-use Rattle.script_runs.specs.Turns.{AllLoad}
+use Rattle.script_safety.specs.Complete.{IsComplete}
+use Rattle.script_safety.specs.Laws.{IsSafe, IsSafeLater}
+use Rattle.script_safety.specs.Mails.{ByNodes}
+use Rattle.script_safety.specs.Slots.{setup_of}
+use Rattle.script_safety.specs.Turns.{AllLoad}
 
 -- the line for words that ask for nothing
 abbrev pub words_error : List ℕ

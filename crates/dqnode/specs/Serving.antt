@@ -2,17 +2,17 @@
 use Rattle.std.specs.Prelude.{◌≡◌, ℕ, Bool, [], None}
 use Rattle.disk_model.specs.Disk.{Disk}
 use Rattle.disk_model.specs.Trait.{Text}
-use Rattle.session_decisions.specs.declared.job.Read.{Read}
+use Rattle.session_outcomes.specs.declared.job.Read.{Read}
 use Rattle.sqlite_engine.specs.declared.any.AnyEngine.{AnyEngine}
 use Rattle.sqlite_engine.specs.Any.{any_meaning, any_kind, any_refused, any_known}
-use Rattle.program_words.specs.declared.asked.Serve.{Serve}
-use Rattle.node_edge.specs.Looping.{Taken}
-use Rattle.node_server.specs.declared.done.Done.{Done}
-use Rattle.served_node.specs.Serving.{RunsByRules}
-use Rattle.node_service.specs.declared.end.ServeEnd.{ServeEnd}
-use Rattle.node_service.specs.declared.end.ServeEnd.TheVariants as ends
-use Rattle.node_service.specs.Rules.{IsRunOfRules}
-use Rattle.node_service.specs.Serving.{Serves}
+use Rattle.arguments.specs.declared.invocation.Serve.{Serve}
+use Rattle.serve_traits.specs.Looping.{Taken}
+use Rattle.serve_threads.specs.declared.host_counts.HostCounts.{HostCounts}
+use Rattle.serve_loop.specs.Serving.{RunsByRules}
+use Rattle.serve_node.specs.declared.end.ServeEnd.{ServeEnd}
+use Rattle.serve_node.specs.declared.end.ServeEnd.TheVariants as ends
+use Rattle.serve_node.specs.Rules.{IsRunOfRules}
+use Rattle.serve_node.specs.Serving.{Serves}
 use Rattle.dqnode.specs.declared.status.Status.{Status}
 use Rattle.dqnode.specs.declared.status.Status.TheVariants as status
 use Rattle.dqnode.specs.Status.{status_code}
@@ -27,7 +27,7 @@ serve_status ends.Spent = status.Spent
 
 -- By an engine of the kind that the words name, which knew no image, the node was served over this disk, with the events of this host,
 -- and came to an end for which this status stands. What was served is a run of the rules.
-pub record ServedBy {D H : Type 0} (tells : Bool) (states : D → Disk Text → Type 0) (faults : D → ℕ) (done : H → Done) (served : Serve)
+pub record WasServed {D H : Type 0} (tells : Bool) (states : D → Disk Text → Type 0) (faults : D → ℕ) (done : H → HostCounts) (served : Serve)
     (host : H) (disk disk_after : D) (events events_after : Taken Read) (code : ℕ) : Type 0 where
   pub engine : AnyEngine
   pub engine_after : AnyEngine

@@ -2,17 +2,17 @@
 use Rattle.std.specs.Prelude.{◌≡◌, ◌⊎◌, ◌<◌, ℕ, List, [], length, Option}
 use Rattle.std.specs.Io.KnownBytes.{Appends}
 use Rattle.dq_base.specs.Sink.{AppendsFront}
-use Rattle.dq_client.specs.declared.events.ClientEnd.{ClientEnd}
-use Rattle.dq_client.specs.declared.events.ClientEnd.TheVariants as ends
-use Rattle.dq_client.specs.declared.course.Course.{Course}
-use Rattle.dq_client.specs.declared.status.ClientStatus.{ClientStatus}
-use Rattle.dq_client.specs.declared.status.ClientStatus.TheVariants as client
-use Rattle.dq_client.specs.Course.{begun}
-use Rattle.dq_client.specs.Net.{Net}
-use Rattle.dq_client.specs.Running.{started, EndHasCause}
-use Rattle.dq_client.specs.Driving.{HaveNamed, HaveEnded}
-use Rattle.dq_client.specs.Printing.{end_text}
-use Rattle.program_words.specs.declared.asked.Statement.{Statement}
+use Rattle.client.specs.declared.events.ClientEnd.{ClientEnd}
+use Rattle.client.specs.declared.events.ClientEnd.TheVariants as ends
+use Rattle.client.specs.declared.course.Course.{Course}
+use Rattle.client.specs.declared.status.ClientStatus.{ClientStatus}
+use Rattle.client.specs.declared.status.ClientStatus.TheVariants as client
+use Rattle.client.specs.Course.{begun}
+use Rattle.client.specs.Net.{Net}
+use Rattle.client.specs.Running.{started, EndHasCause}
+use Rattle.client.specs.Driving.{HaveNamed, HaveEnded}
+use Rattle.client.specs.Printing.{end_text}
+use Rattle.arguments.specs.declared.invocation.Statement.{Statement}
 use Rattle.dqnode.specs.declared.status.Status.{Status}
 use Rattle.dqnode.specs.declared.status.Status.TheVariants.{Done, WriteFault, NoMemory, Refused, NoLeader, Unknown}
 use Rattle.dqnode.specs.Status.{status_code}
@@ -36,7 +36,7 @@ client_status client.NoMemory = NoMemory
 
 -- The client came to an end, for which this status stands, by the calls that it named and the events that their answers make,
 -- where these are told; it dialled for it; and what is printed of the end was printed.
-pub record ComesTo (statement : Statement) (start now : Net) (written written' : Option (List ℕ)) (code : ℕ) : Type 0 where
+pub record ClientReaches (statement : Statement) (start now : Net) (written written' : Option (List ℕ)) (code : ℕ) : Type 0 where
   pub end : ClientEnd
   pub code_is : code ≡ status_code (end_status end)
   pub driven : HaveEnded (started (client_of statement)) start.calls now.calls end
@@ -52,7 +52,7 @@ pub record BreaksOff (statement : Statement) (start now : Net) (written written'
   pub unprinted : code ≡ 7 → Appends written written' []
 
 abbrev pub StatementEnds : Statement → Net → Net → Option (List ℕ) → Option (List ℕ) → ℕ → Type 0
-StatementEnds statement start now written written' code = ComesTo statement start now written written' code ⊎ BreaksOff statement start now written written' code
+StatementEnds statement start now written written' code = ClientReaches statement start now written written' code ⊎ BreaksOff statement start now written written' code
 
 -- a server has answered it: by a result or rows, by a refusal, or so that nobody knows what came of it
 abbrev pub IsAnswered : ℕ → Type 0

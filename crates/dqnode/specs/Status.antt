@@ -1,8 +1,8 @@
 -- The numbers of the ways in which the program ends.
 use Rattle.std.specs.Prelude.{◌≡◌, ◌⊎◌, ℕ, Option, Some, List}
 use Rattle.sql_engine.specs.declared.kind.EngineKind.{EngineKind}
-use Rattle.script_nodes.specs.Outcomes.{Item}
-use Rattle.script_nodes.specs.Run.{Line, Large as TooLarge}
+use Rattle.script_cluster.specs.Outcomes.{Item}
+use Rattle.script_cluster.specs.Run.{Line, Large as TooLarge}
 use Rattle.script_runner.specs.declared.run.Outcome.{Outcome}
 use Rattle.script_runner.specs.declared.run.Outcome.TheVariants as outcome
 use Rattle.script_runner.specs.Ending.{MayFollow, Anything}

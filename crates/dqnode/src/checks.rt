@@ -8,9 +8,9 @@ ghost use Rattle.dqnode.specs.Checks.{fault_line, CheckEnds};
 ghost use Rattle.dqnode.specs.Status.{IsCheckCode, status_code};
 
 use crate::status::Status;
-use dir_check::{CheckEnd, check};
 use disk_model::Disk;
 use dq_base::Sink;
+use folder_check::{CheckEnd, check};
 use segment_store::LoadFault;
 use std::alloc::{AllocError, Global};
 

@@ -1,9 +1,9 @@
 //! Lines on the error stream.
 
-use dir_disk::DirDisk;
-use gateway::Read;
-use node_service::{Note, Notes};
-use server_hosts::{HostFault, TcpHost};
+use folder_disk::DirDisk;
+use serve_node::{Note, Notes};
+use serve_sockets::{HostFault, TcpHost};
+use session_gateway::Read;
 use std::io::ErrorKind;
 use std::sync::Wait;
 

@@ -2,8 +2,8 @@
 
 ghost use Rattle.std.specs.Prelude.{◌≡◌, vec_len, IfOk};
 
+use arguments::Serve;
 use disk_model::{Disk, DiskFault};
-use program_words::Serve;
 use std::alloc::{AllocError, Global};
 
 /// The name of the file that tells it.
@@ -14,7 +14,7 @@ const ROOM: usize = 4_096;
 
 /// Whose a folder is.
 #[derive(Drop)]
-pub enum Owner {
+pub enum FolderOwner {
     /// The node's that the words name, or nobody's so far.
     Ours,
     /// Another node's, or that of a node with other voters: what its file says.
@@ -71,15 +71,19 @@ fn write<D: Disk>(disk: &mut D, text: &str) -> Result<(), DiskFault> {
 }
 
 /// Looks whose a folder is. Where its file isn't there, or was begun and not ended, it is written.
-pub fn owner_of<D: Disk>(alloc: Global, words: &Serve, disk: &mut D) -> Result<Owner, DiskFault> {
+pub fn owner_of<D: Disk>(
+    alloc: Global,
+    words: &Serve,
+    disk: &mut D,
+) -> Result<FolderOwner, DiskFault> {
     let text = text_of(alloc, words)?;
     let held = held(alloc, disk)?;
     if held.as_slice() == text.as_bytes() {
-        return Ok(Owner::Ours);
+        return Ok(FolderOwner::Ours);
     }
     if text.as_bytes().starts_with(held.as_slice()) {
         write(disk, text.as_str())?;
-        return Ok(Owner::Ours);
+        return Ok(FolderOwner::Ours);
     }
-    Ok(Owner::Another(String::from_utf8_lossy(alloc, held.as_slice())?))
+    Ok(FolderOwner::Another(String::from_utf8_lossy(alloc, held.as_slice())?))
 }

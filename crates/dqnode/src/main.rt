@@ -16,17 +16,17 @@ mod statements;
 mod status;
 mod words;
 
-use dir_disk::DirDisk;
+use arguments::{Invocation, Serve, read_words};
 use disk_model::DiskFault;
 use dq_base::{ReadSource, WriteSink};
 use error_stream::{ErrorStream, tell_disk, tell_host, tell_memory, tell_owner};
-use founding::{Owner, owner_of};
-use gateway::Read;
+use folder_disk::DirDisk;
+use founding::{FolderOwner, owner_of};
 pub use network::Network;
 pub use program::dqnode;
-use program_words::{Asked, Serve, read_words};
-use script_nodes::ClusterJournal;
-use server_hosts::TcpHost;
+use script_cluster::ClusterJournal;
+use serve_sockets::TcpHost;
+use session_gateway::Read;
 pub use status::Status;
 use std::alloc::AllocError;
 use std::io;
@@ -37,7 +37,7 @@ use tcp_dialer::TcpDialer;
 /// The node that the words name, where they ask for one to be served.
 fn served(rt: &HostRuntime, words: &[String]) -> Option<Serve> {
     match read_words(rt.alloc(), words) {
-        Ok(Some(Asked::Serve(words))) => Some(words),
+        Ok(Some(Invocation::Serve(words))) => Some(words),
         _ => None,
     }
 }
@@ -50,8 +50,8 @@ fn take_folder(
     disk: &mut DirDisk<HostRuntime>,
 ) -> Result<(), AllocError> {
     match owner_of(rt.alloc(), words, disk) {
-        Ok(Owner::Ours) => return Ok(()),
-        Ok(Owner::Another(held)) => tell_owner(rt, held.as_str()),
+        Ok(FolderOwner::Ours) => return Ok(()),
+        Ok(FolderOwner::Another(held)) => tell_owner(rt, held.as_str()),
         Err(DiskFault::Failed) => tell_disk(rt, disk),
         Err(DiskFault::NoMemory) => return Err(AllocError),
     }

@@ -1,7 +1,7 @@
-use dq_client::Dialer;
-use gateway::Read;
-use node_server::Host;
-use node_service::Notes;
+use client::Dialer;
+use serve_node::Notes;
+use serve_threads::Host;
+use session_gateway::Read;
 
 /// What the program has of the world beside its input, its output and its disk.
 #[derive(Drop)]

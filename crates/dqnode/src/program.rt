@@ -4,16 +4,16 @@ ghost use Rattle.std.specs.Prelude.{◌≡◌, ◌≢◌, ◌≤◌, ◌⊎◌, 
 ghost use Rattle.std.specs.Io.KnownBytes.{Appends, Keeps};
 ghost use Rattle.dq_base.specs.Faults.{Rose};
 ghost use Rattle.dq_base.specs.Sink.{AppendsFront};
-ghost use Rattle.script_nodes.specs.Outcomes.{Outcome};
-ghost use Rattle.script_nodes.specs.Run.{Line, Large};
-ghost use Rattle.dq_client.specs.Net.{HaveFailed};
-ghost use Rattle.dq_client.specs.Running.{HaveDialled};
+ghost use Rattle.script_cluster.specs.Outcomes.{Outcome};
+ghost use Rattle.script_cluster.specs.Run.{Line, Large};
+ghost use Rattle.client.specs.Net.{HaveFailed};
+ghost use Rattle.client.specs.Running.{HaveDialled};
 ghost use Rattle.script_runner.specs.Alike.{KeepsAlike};
 ghost use Rattle.script_runner.specs.Ending.{MayFollow, Anything};
-ghost use Rattle.program_words.specs.declared.asked.Serve.{Serve};
-ghost use Rattle.program_words.specs.declared.asked.Statement.{Statement};
-ghost use Rattle.program_words.specs.Asking.{IsAskable};
-ghost use Rattle.node_service.specs.Rules.{GoesWell};
+ghost use Rattle.arguments.specs.declared.invocation.Serve.{Serve};
+ghost use Rattle.arguments.specs.declared.invocation.Statement.{Statement};
+ghost use Rattle.arguments.specs.Asking.{IsAskable};
+ghost use Rattle.serve_node.specs.Rules.{GoesWell};
 ghost use Rattle.dqnode.specs.Asks.{asks_for, ForStatement, ForGenerated, ForRun, ForServed, IsScript, IsRun, IsStatement, IsServed, IsCheck, IsNothing, RunsWith};
 ghost use Rattle.dqnode.specs.Program.{words_error, Gives, Completes, BreaksOff, RunsSafely, RunsAreSafe};
 ghost use Rattle.dqnode.specs.Status.{IsStatus, IsBroken, IsServeCode};
@@ -21,7 +21,7 @@ ghost use Rattle.dqnode.specs.Statements.{StatementEnds, IsAnswered, IsOfStateme
 ghost use Rattle.dqnode.specs.Checks.{CheckEnds};
 ghost use Rattle.dqnode.specs.Decided.{BrokenScriptsDecide, ScriptsDecide};
 ghost use Rattle.dqnode.specs.Generating.{GenerateEnds, RunEnds};
-ghost use Rattle.dqnode.specs.Serving.{ServedBy, NotServed};
+ghost use Rattle.dqnode.specs.Serving.{WasServed, NotServed};
 
 use crate::checks::tell;
 use crate::generating::{make_script, run_made};
@@ -30,14 +30,14 @@ use crate::scripts::script;
 use crate::serving::serve_node;
 use crate::statements::ask;
 use crate::status::Status;
+use arguments::{Invocation, read_words};
+use client::Dialer;
 use disk_model::Disk;
 use dq_base::{Sink, Source};
-use dq_client::Dialer;
-use gateway::Read;
-use node_server::Host;
-use node_service::Notes;
-use program_words::{Asked, read_words};
-use script_nodes::ClusterJournal;
+use script_cluster::ClusterJournal;
+use serve_node::Notes;
+use serve_threads::Host;
+use session_gateway::Read;
 use std::alloc::Global;
 
 /// Refuses the words.
@@ -67,7 +67,7 @@ fn give_up(alloc: Global, journal: &mut ClusterJournal) -> Status
 #[tactic(auto, using(crate::proofs::Asked::ends_for, crate::proofs::Asked::unled_for, crate::proofs::Asked::statement_linked, crate::proofs::Asked::statement_code, crate::proofs::Idle::no_call, crate::proofs::Generated::generated_for, crate::proofs::Generated::generated_code, crate::proofs::Generated::made_for, crate::proofs::Generated::made_code, crate::proofs::ServeEnds::served_for, crate::proofs::ServeEnds::spent_for))]
 fn run<S: Source, K: Sink, D: Disk, N: Dialer, H: Host<Read>, W: Notes>(
     alloc: Global,
-    asked: Option<Asked>,
+    asked: Option<Invocation>,
     input: &mut S,
     output: &mut K,
     journal: &mut ClusterJournal,
@@ -111,7 +111,7 @@ fn run<S: Source, K: Sink, D: Disk, N: Dialer, H: Host<Read>, W: Notes>(
     ensures serve_codes { IsServed asked → IsServeCode result }
     ensures host_fault { result ≡ 6 → IsServed asked × Rose (H.faults network.old.host) (H.faults network.new.host) }
     ensures of_spent { result ≡ 10 → IsServed asked }
-    ensures serves { (served : Serve) → ForServed served asked → ServedBy D.tells D.states D.faults H.done served network.old.host disk.old disk.new
+    ensures serves { (served : Serve) → ForServed served asked → WasServed D.tells D.states D.faults H.done served network.old.host disk.old disk.new
         (record { left = H.left network.old.host; count = H.taken network.old.host }) (record { left = H.left network.new.host; count = H.taken network.new.host }) result }
     ensures spent { (served : Serve) → ForServed served asked → result ≡ 10 → H.taken network.new.host ≡ H.taken network.old.host + served.events }
     ensures serves_well { IsServed asked → GoesWell (D.states disk.old) (D.faults disk.old) (D.faults disk.new) (H.faults network.old.host) (H.faults network.new.host) →
@@ -125,24 +125,29 @@ fn run<S: Source, K: Sink, D: Disk, N: Dialer, H: Host<Read>, W: Notes>(
     ensures disk_count { D.faults disk.old ≤ D.faults disk.new }
 {
     let status = match asked {
-        Some(Asked::Script(engine)) => script(alloc, engine, input, output, journal),
-        Some(Asked::Statement(statement)) => ask(alloc, statement, output, &mut network.dialer),
-        Some(Asked::Check) => tell(alloc, output, disk),
+        Some(Invocation::Script(engine)) => script(alloc, engine, input, output, journal),
+        Some(Invocation::Statement(statement)) => ask(
+            alloc,
+            statement,
+            output,
+            &mut network.dialer,
+        ),
+        Some(Invocation::Check) => tell(alloc, output, disk),
         Some(
-            Asked::Generate {
+            Invocation::Generate {
                 number,
                 count,
                 run: false,
             },
         ) => make_script(alloc, number, count, output),
         Some(
-            Asked::Generate {
+            Invocation::Generate {
                 number,
                 count,
                 run: true,
             },
         ) => run_made(alloc, number, count, output, journal),
-        Some(Asked::Serve(words)) => {
+        Some(Invocation::Serve(words)) => {
             serve_node(alloc, words, disk, &mut network.host, &mut network.notes)
         }
         None => refuse_words(output),
@@ -270,7 +275,7 @@ pub fn dqnode<S: Source, K: Sink, D: Disk, N: Dialer, H: Host<Read>, W: Notes>(
     // With an engine of the kind that is named, which knew no image, the node that the words name was started over the disk, behind that the
     // host listened and took all workers, and the node made a step for each event that the host gave; where there is not enough memory to
     // read the words, nothing was done.
-    ensures serves { (served : Serve) → ForServed served (asks_for words.now) → ServedBy D.tells D.states D.faults H.done served network.old.host disk.old disk.new
+    ensures serves { (served : Serve) → ForServed served (asks_for words.now) → WasServed D.tells D.states D.faults H.done served network.old.host disk.old disk.new
         (record { left = H.left network.old.host; count = H.taken network.old.host }) (record { left = H.left network.new.host; count = H.taken network.new.host }) result
         ⊎ NotServed disk.old disk.new network.old.host network.new.host result }
     ensures spent { (served : Serve) → ForServed served (asks_for words.now) → result ≡ 10 → H.taken network.new.host ≡ H.taken network.old.host + served.events }

@@ -7,9 +7,9 @@ ghost use Rattle.dqnode.specs.Status.{OutcomeEnds, ScriptEnds, IsScriptCode, sta
 
 use crate::status::Status;
 use dq_base::{Sink, Source};
-use script_nodes::ClusterJournal;
-use script_places::{CellChoice, EngineChoice, SqliteChoice, WholePlace};
+use script_cluster::ClusterJournal;
 use script_runner::{Outcome, run_script};
+use script_whole_nodes::{CellChoice, EngineChoice, SqliteChoice, WholePlace};
 use sql_engine::EngineKind;
 use std::alloc::Global;
 

@@ -2,18 +2,18 @@
 
 ghost use Rattle.std.specs.Prelude.{◌≡◌, ◌≤◌, ◌⊎◌, ◌+◌, []};
 ghost use Rattle.dq_base.specs.Faults.{Rose};
-ghost use Rattle.program_words.specs.Serving.{IsServable};
+ghost use Rattle.arguments.specs.Serving.{IsServable};
 ghost use Rattle.sqlite_engine.specs.Any.{any_kind, any_known};
-ghost use Rattle.node_service.specs.Rules.{GoesWell};
-ghost use Rattle.dqnode.specs.Serving.{serve_status, ServedBy};
+ghost use Rattle.serve_node.specs.Rules.{GoesWell};
+ghost use Rattle.dqnode.specs.Serving.{serve_status, WasServed};
 ghost use Rattle.dqnode.specs.Status.{IsServeCode, status_code};
 
 use crate::status::Status;
+use arguments::Serve;
 use disk_model::Disk;
-use gateway::Read;
-use node_server::Host;
-use node_service::{Notes, ServeEnd, serve};
-use program_words::Serve;
+use serve_node::{Notes, ServeEnd, serve};
+use serve_threads::Host;
+use session_gateway::Read;
 use sql_engine::{CellEngine, EngineKind};
 use sqlite_engine::{AnyEngine, SqliteEngine};
 use std::alloc::Global;
@@ -51,7 +51,7 @@ pub(crate) fn serve_node<D: Disk, H: Host<Read>, W: Notes>(
     notes: &mut W,
 ) -> Status
     requires { IsServable words }
-    ensures served { ServedBy D.tells D.states D.faults H.done words host.old disk.old disk.new (record { left = H.left host.old; count = H.taken host.old })
+    ensures served { WasServed D.tells D.states D.faults H.done words host.old disk.old disk.new (record { left = H.left host.old; count = H.taken host.old })
         (record { left = H.left host.new; count = H.taken host.new }) (status_code result) }
     ensures codes { IsServeCode (status_code result) }
     ensures disk_fault { result ≡ Status.DiskFault → Rose (D.faults disk.old) (D.faults disk.new) }

@@ -2,15 +2,15 @@
 
 ghost use Rattle.std.specs.Prelude.{◌≡◌, ◌≤◌};
 ghost use Rattle.dq_base.specs.Faults.{Rose};
-ghost use Rattle.dq_client.specs.Net.{HaveFailed};
-ghost use Rattle.program_words.specs.Asking.{CanBeSent};
+ghost use Rattle.client.specs.Net.{HaveFailed};
+ghost use Rattle.arguments.specs.Asking.{CanBeSent};
 ghost use Rattle.dqnode.specs.Statements.{client_of, client_status, StatementEnds};
 ghost use Rattle.dqnode.specs.Status.{status_code};
 
 use crate::status::Status;
+use arguments::Statement;
+use client::{ClientCore, ClientEnd, ClientStatus, Dialer, run_client};
 use dq_base::Sink;
-use dq_client::{ClientCore, ClientEnd, ClientStatus, Dialer, run_client};
-use program_words::Statement;
 use std::alloc::Global;
 
 /// The status for how it ended for a client.

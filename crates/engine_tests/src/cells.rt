@@ -1,5 +1,5 @@
 use dq_base::{Image, ImageNumber, Name, NumberedPage, PageSet, apply_pages};
-use frame_commands::{can_split, split, write_command};
+use log_commands::{can_split, split, write_command};
 use sql_engine::{CellEngine, Engine, EngineFault, ImageNumbers};
 use std::alloc::{AllocError, Global};
 use std::test::*;

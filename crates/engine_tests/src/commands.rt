@@ -1,5 +1,5 @@
 use dq_base::{Items, Name, NumberedPage, Page, PageSet};
-use frame_commands::*;
+use log_commands::*;
 use std::alloc::{AllocError, Global};
 use std::test::*;
 use wire_words::{WireBytes, WordFault};

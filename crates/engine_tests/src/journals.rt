@@ -1,5 +1,5 @@
 use dq_base::{Image, ImageNumber, apply_pages};
-use engine_journal::{Journal, Noted, NotedEngine};
+use engine_recording::{Journal, RecordedItem, RecordingEngine};
 use sql_engine::{CellEngine, Engine, EngineFault, ImageNumbers};
 use std::alloc::{AllocError, Global};
 use std::test::*;
@@ -10,13 +10,13 @@ type Kept = Result<(u64, usize, usize), EngineFault>;
 /// What the item of this number keeps.
 fn item(journal: &Journal, number: usize) -> Option<Kept> {
     match journal.items().get(number)? {
-        Noted::Ran(ran) => Some(Ok((ran.affected, ran.after.pages.len(), ran.rows.len()))),
-        Noted::Fault(fault) => Some(Err(*fault)),
+        RecordedItem::Ran(ran) => Some(Ok((ran.affected, ran.after.pages.len(), ran.rows.len()))),
+        RecordedItem::Fault(fault) => Some(Err(*fault)),
     }
 }
 
 /// Runs a statement without parameters, and applies its pages to the image. No answer is want of memory.
-fn run(engine: &mut NotedEngine<CellEngine>, image: &mut Image, text: &str) {
+fn run(engine: &mut RecordingEngine<CellEngine>, image: &mut Image, text: &str) {
     let numbers = ImageNumbers {
         before: ImageNumber::Working(0),
         after: 1,
@@ -33,7 +33,7 @@ fn run(engine: &mut NotedEngine<CellEngine>, image: &mut Image, text: &str) {
 /// Runs the statements one after the other by a fork of an engine that keeps its answers. The journal takes them after each
 /// two statements.
 fn journal_of(alloc: Global, texts: &[&str]) -> Result<Journal, AllocError> {
-    let mut engine = NotedEngine::new(alloc, CellEngine::new(alloc)).fork()?;
+    let mut engine = RecordingEngine::new(alloc, CellEngine::new(alloc)).fork()?;
     let mut image = Image::new(alloc);
     let mut journal = Journal::new(alloc);
     for pair in texts.chunks(2) {

@@ -1,8 +1,11 @@
-use sql_scan::{Piece, ScanFault, WordKind, scan};
+use sql_scan::{ScanFault, StatementSpan, WordKind, scan};
 use std::test::Fail;
 
 // The first statement of a text, and how many there are.
-fn first(text: &str, alloc: std::alloc::Global) -> Result<(Option<Piece>, usize), ScanFault> {
+fn first(
+    text: &str,
+    alloc: std::alloc::Global,
+) -> Result<(Option<StatementSpan>, usize), ScanFault> {
     let found = scan(alloc, text)?;
     Ok((
         found.statements.as_slice().first().copied(),
@@ -28,7 +31,7 @@ const STATEMENTS: &[(&str, u64, u64, WordKind, u64, u64)] = &[
 #[test]
 fn statements_are_found(rt: HostRuntime) -> Result<(), Fail> {
     for &(text, start, end, word, params, after) in STATEMENTS {
-        let piece = Piece {
+        let piece = StatementSpan {
             start,
             end,
             word,

@@ -3,7 +3,7 @@ use Rattle.std.specs.Prelude.{ℕ, List, ◌++◌, length}
 use Rattle.std.specs.List.{flat_map}
 use Rattle.sha2.specs.Sha256.{sha256}
 use Rattle.wire_words.specs.Items.{word, text}
-use Rattle.page_apply.specs.Files.{Content}
+use Rattle.database_state.specs.Files.{Content}
 
 -- a file behind the word of its length
 abbrev pub file_message : List ℕ → List ℕ

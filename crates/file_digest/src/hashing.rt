@@ -1,15 +1,15 @@
 ghost use Rattle.std.specs.Prelude.{◌≡◌, ◌+◌, ◌*◌, ◌<◌, ◌≤◌, ◌^◌, ◌++◌, ℕ, List, length, take, drop};
 ghost use Rattle.sha2.specs.Hashers.{Holds256};
 ghost use Rattle.wire_words.specs.Items.{word, text};
-ghost use Rattle.checkpoint_core.specs.Store.{newest_image};
-ghost use Rattle.page_apply.specs.Databases.{content_of, contents_of};
+ghost use Rattle.page_store.specs.Store.{newest_image};
+ghost use Rattle.database_state.specs.Databases.{content_of, contents_of};
 ghost use Rattle.file_digest.specs.Pages.{bytes_of};
 ghost use Rattle.file_digest.specs.Digest.{file_message, message_of, digest};
 
 use crate::file::File;
 use byteorder::{ByteOrder, LittleEndian};
+use database_state::Database;
 use dq_base::PAGE_SIZE;
-use page_apply::Database;
 use sha2::{Digest, Sha256};
 
 const ZEROS: [u8; 8] = [0; 8];

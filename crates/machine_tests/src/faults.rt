@@ -1,8 +1,8 @@
 //! Each fault of a snapshot, and what it says.
 
+use database_state::{Machine, PinFault, SnapFault};
 use dq_base::{Name, PAGE_SIZE, Page, PageFault};
-use frame_commands::Command;
-use page_apply::{Machine, PinFault, SnapFault};
+use log_commands::Command;
 use std::alloc::{AllocError, Global};
 use std::test::Fail;
 use wal_frames::{Frame, WalFault, write_wal};

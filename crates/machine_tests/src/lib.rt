@@ -1,4 +1,4 @@
-//! The tests of the machine and of its snapshots, which call `page_apply` from outside. A crate with tests of its own is
+//! The tests of the machine and of its snapshots, which call `database_state` from outside. A crate with tests of its own is
 //! proved once more with them, so these stand here.
 #![tactic(auto)]
 

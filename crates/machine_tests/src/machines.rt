@@ -2,9 +2,9 @@
 
 ghost use Rattle.dq_base.specs.Names.{IsName};
 
+use database_state::{Machine, PinFault};
 use dq_base::{ImageNumber, Items, Name, NumberedPage, Page, PageSet};
-use frame_commands::{Command, can_split, split};
-use page_apply::{Machine, PinFault};
+use log_commands::{Command, can_split, split};
 use std::alloc::{AllocError, Global};
 use std::test::Fail;
 
@@ -44,7 +44,7 @@ fn set_of_65(alloc: Global) -> Result<PageSet, AllocError> {
 type State = (Option<u64>, Option<u64>, Option<u64>, Option<u64>);
 
 // That after each of these commands, up to the first whose numbers are out of their range.
-#[tactic(auto, using(frame_commands::proofs::InOtherWords::fit_low))]
+#[tactic(auto, using(log_commands::proofs::InOtherWords::fit_low))]
 fn states(
     alloc: Global,
     machine: &mut Machine,

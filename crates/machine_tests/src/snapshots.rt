@@ -1,7 +1,7 @@
 //! A machine with two databases, one of them with pending pages, as a snapshot and back.
 
 use crate::machines::{pending_in, pinned_byte, states_of_a_split_set};
-use page_apply::{Machine, SnapFault};
+use database_state::{Machine, SnapFault};
 use std::alloc::{AllocError, Global};
 use std::test::Fail;
 

@@ -8,32 +8,32 @@ use Rattle.wire_msgs.specs.declared.request.Request.{Request}
 use Rattle.client_connection.specs.Connection.{Conn}
 use Rattle.sql_engine.specs.declared.kind.EngineKind.{EngineKind}
 use Rattle.sql_engine.specs.Meanings.{Meaning, Told}
-use Rattle.statement_runs.specs.Running.{TellsAll}
-use Rattle.statement_runs.proofs.Telling.{tells_none, tells_join}
-use Rattle.session_rules.specs.Sessions.{Reply, Job}
-use Rattle.page_apply.specs.Machines.{IsMachine}
-use Rattle.raft_rules.specs.Node as raft
-use Rattle.raft_vote.specs.declared.message.RaftMessage.{RaftMessage}
-use Rattle.raft_world.specs.Members.{Setup}
+use Rattle.session_statements.specs.Running.{TellsAll}
+use Rattle.session_statements.proofs.Telling.{tells_none, tells_join}
+use Rattle.session_spec.specs.Sessions.{Reply, Job}
+use Rattle.database_state.specs.Machines.{IsMachine}
+use Rattle.raft_spec.specs.Node as raft
+use Rattle.raft_messages.specs.declared.message.RaftMessage.{RaftMessage}
+use Rattle.raft_safety.specs.Members.{Setup}
 use Rattle.store_laws.specs.Store.{Kept}
-use Rattle.node_replica.specs.Mails.{MailValue, no_mail, posted, all_posted, sent}
-use Rattle.node_replica.specs.Replicas.{kept_of}
-use Rattle.node_rules.specs.Accounts.{Moment, resting, Piece, no_piece, both, read_by, Goes, Begins, SameTerm, MayEnd, with_input, LeftBy}
-use Rattle.node_rules.specs.Steps.{Letter, Made, TellsSo, AllSent}
-use Rattle.node_rules.specs.ClientTurns.{Hears}
-use Rattle.node_rules.specs.RaftTurns.{HasServers}
-use Rattle.node_rules.proofs.Connecting.{hearing_goes_holds}
-use Rattle.node_rules.proofs.Ends.{goes_to_end_holds, stops_between_holds, stops_within_holds}
-use Rattle.node_rules.proofs.Stretches.{nothing_goes_holds, goes_begins_holds, goes_on_holds, begins_on_holds, sent_on_holds}
+use Rattle.raft_on_disk.specs.Mails.{MailValue, no_mail, posted, all_posted, sent}
+use Rattle.raft_on_disk.specs.Replicas.{kept_of}
+use Rattle.node_spec.specs.Accounts.{Moment, resting, Piece, no_piece, both, read_by, Goes, Begins, SameTerm, MayEnd, with_input, LeftBy}
+use Rattle.node_spec.specs.Steps.{Letter, Made, TellsVoters, AllSent}
+use Rattle.node_spec.specs.ClientTurns.{Hears}
+use Rattle.node_spec.specs.RaftTurns.{HasServers}
+use Rattle.node_spec.proofs.Connecting.{hearing_goes_holds}
+use Rattle.node_spec.proofs.Ends.{goes_to_end_holds, stops_between_holds, stops_within_holds}
+use Rattle.node_spec.proofs.Stretches.{nothing_goes_holds, goes_begins_holds, goes_on_holds, begins_on_holds, sent_on_holds}
 use Rattle.node_core.specs.declared.event.Event.{Event}
 use Rattle.node_core.specs.declared.event.Event.TheVariants as events
-use Rattle.node_core.specs.declared.outs.Outs.{Outs}
+use Rattle.node_core.specs.declared.outs.StepOutputs.{StepOutputs}
 use Rattle.node_core.specs.declared.running.Running.{Running}
 use Rattle.node_core.specs.Values.{seen, clients_in, waiting_on}
-use Rattle.node_core.specs.Account.{moment_of, letter_of, lived, responses_in, sent_so, Sends, Says, Brought, IsOwn, Adds, Turns, KnowsServers, Since, Begin, IsLost, Brings, Comes_in, Takes, AtRest, none_made, made_both, Act, Acts, Stopped, Fresh, SoFar, Between, Went, IsMore, Happens, Comes, Compacts, message_by, messages_of, NoneAsks, heard_on, acts_asks, AreOf, IsAlone, AreAlone, Underway, StepsBy, StopsBy}
-use Rattle.node_core.specs.Taking.{TurnsOn}
+use Rattle.node_core.specs.Account.{moment_of, letter_of, lived, responses_in, sent_so, Sends, Says, Brought, IsOwn, Adds, Turns, KnowsServers, Since, Begin, IsLost, Brings, Comes_in, Takes, AtRest, none_made, made_both, Act, Acts, Stopped, Fresh, SoFar, Between, Went, IsMore, Happens, Comes, Compacts, message_by, messages_of, NoneAsks, heard_on, acts_asks, AreOf, IsAlone, AreAlone, Underway, AccountsForStep, AccountsForStop}
+use Rattle.node_core.specs.Taking.{TurnsInTerm}
 use Rattle.node_core.specs.Voters.{Beside, MayBe}
-use Rattle.node_core.specs.Carrying.{MovesLines, LinesSince, LinesBy, LinesUpTo}
+use Rattle.node_core.specs.Carrying.{MovesLines, LinesSince, ConnectionsOfStep, ConnectionsOfStop}
 use Rattle.node_core.proofs.Carried.{since_still, since_on as lines_on, since_up_to}
 use Rattle.node_core.proofs.Besides.{beside_none, beside_on, tells_act, tells_begun}
 
@@ -216,7 +216,7 @@ since_stops m kind setup x late a b begin stood comes s beside = record {
 
 -- a stop within the step of one input more, which the node added
 pub since_within : {before now : Option Told} (m : Meaning) (kind : EngineKind) (setup : Setup) (x : Brought) (late : Bool) (a b : Running) (begin : Begin) (i : raft.Input) (kept : Kept) → AtRest a → Comes_in a begin x → (s : Since m kind setup x late a b before now) → IsOwn i →
-    TellsSo setup a.replica.id (seen a) (read_by x.bytes x.joins x.read (with_input s.piece i)) → (KnowsServers setup a → LeftBy setup a.replica.id x.bytes x.joins (moment_of b) i kept) → Stopped m kind setup a begin kept
+    TellsVoters setup a.replica.id (seen a) (read_by x.bytes x.joins x.read (with_input s.piece i)) → (KnowsServers setup a → LeftBy setup a.replica.id x.bytes x.joins (moment_of b) i kept) → Stopped m kind setup a begin kept
 since_within m kind setup x late a b begin i kept stood comes s own tells left = record {
   tells = tells;
   stood = stood;
@@ -329,9 +329,9 @@ unfolding went_on
 went_asks before mid now m kind setup a b c d begins begin ys w between act says heard conn = acts_asks_end m kind setup a b c d begins begin w.made ys w.acts between.same act conn
 
 -- what is said at the end is what was said since the begin, where nothing had been
-pub went_steps : {before now : Option Told} (m : Meaning) (kind : EngineKind) (setup : Setup) (a b c : Running) (begins : List Begin) (event : Event) (outs : Outs) → a.mail ≡ no_mail → a.outs.replies.items ≡ [] → a.outs.reads.items ≡ [] → AreOf event begins →
-    (w : Went m kind setup a b begins before now) → seen c ≡ seen b → outs.messages.items ≡ sent b.mail → outs.replies.items ≡ b.outs.replies.items → outs.reads.items ≡ b.outs.reads.items → c.has_links ≡ a.has_links → AreAlone a begins → LinesBy event a c outs (messages_of begins)
-    → Brings a (Happens event) (acts_asks m kind setup a b begins w.made w.acts) → StepsBy m kind setup a c event outs before now
+pub went_steps : {before now : Option Told} (m : Meaning) (kind : EngineKind) (setup : Setup) (a b c : Running) (begins : List Begin) (event : Event) (outs : StepOutputs) → a.mail ≡ no_mail → a.outs.replies.items ≡ [] → a.outs.reads.items ≡ [] → AreOf event begins →
+    (w : Went m kind setup a b begins before now) → seen c ≡ seen b → outs.messages.items ≡ sent b.mail → outs.replies.items ≡ b.outs.replies.items → outs.reads.items ≡ b.outs.reads.items → c.has_links ≡ a.has_links → AreAlone a begins → ConnectionsOfStep event a c outs (messages_of begins)
+    → Brings a (Happens event) (acts_asks m kind setup a b begins w.made w.acts) → AccountsForStep m kind setup a c event outs before now
 went_steps m kind setup a b c begins event outs quiet silent unread are w same messages replies reads links alone lines asks = record {
   lines = lines;
   asks = subst (Brings a (Happens event)) (λ i. λ conn. sym (acts_asks_still m kind setup a b c begins w.made w.acts same conn) i) asks;
@@ -350,7 +350,7 @@ went_steps m kind setup a b c begins event outs quiet silent unread are w same m
 }
 
 -- what the last act left, behind those before it
-pub went_stops : {before now : Option Told} (m : Meaning) (kind : EngineKind) (setup : Setup) (a b c : Running) (begins : List Begin) (last : Begin) (event : Event) (kept : Kept) → AreOf event (begins ++ last ∷ []) → Went m kind setup a b begins before now → Between b c → Stopped m kind setup c last kept → AreAlone a (begins ++ last ∷ []) → LinesUpTo event a (messages_of (begins ++ last ∷ [])) → StopsBy m kind setup a event kept
+pub went_stops : {before now : Option Told} (m : Meaning) (kind : EngineKind) (setup : Setup) (a b c : Running) (begins : List Begin) (last : Begin) (event : Event) (kept : Kept) → AreOf event (begins ++ last ∷ []) → Went m kind setup a b begins before now → Between b c → Stopped m kind setup c last kept → AreAlone a (begins ++ last ∷ []) → ConnectionsOfStop event a (messages_of (begins ++ last ∷ [])) → AccountsForStop m kind setup a event kept
 went_stops m kind setup a b c begins last event kept are w between stopped alone lines = record {
   alone = alone;
   lines = lines;
@@ -420,7 +420,7 @@ underway_starts m kind setup a from b event between streams stood lines so_far =
 }
 
 -- a turn more, in which nothing comes in, and which leaves term, leadership and the kept snapshot
-pub so_far_on : {before mid now : Option Told} (m : Meaning) (kind : EngineKind) (setup : Setup) (a b c : Running) (begin : Begin) → SoFar m kind setup a b begin before mid → ((bytes : List ℕ) (joins : Option ℕ) → TurnsOn m kind setup bytes joins b c mid now) → SoFar m kind setup a c begin before now
+pub so_far_on : {before mid now : Option Told} (m : Meaning) (kind : EngineKind) (setup : Setup) (a b c : Running) (begin : Begin) → SoFar m kind setup a b begin before mid → ((bytes : List ℕ) (joins : Option ℕ) → TurnsInTerm m kind setup bytes joins b c mid now) → SoFar m kind setup a c begin before now
 unfolding since_on
 so_far_on m kind setup a b c begin f t =
     let x = f.brought in
@@ -434,11 +434,11 @@ so_far_on m kind setup a b c begin f t =
     }
 
 brought_on : {before mid now : Option Told} (m : Meaning) (kind : EngineKind) (setup : Setup) (a b c : Running) (begin : Begin) (f : SoFar m kind setup a b begin before mid)
-    (t : (bytes : List ℕ) (joins : Option ℕ) → TurnsOn m kind setup bytes joins b c mid now) → (so_far_on m kind setup a b c begin f t).brought ≡ f.brought
+    (t : (bytes : List ℕ) (joins : Option ℕ) → TurnsInTerm m kind setup bytes joins b c mid now) → (so_far_on m kind setup a b c begin f t).brought ≡ f.brought
 unfolding so_far_on
 brought_on m kind setup a b c begin f t = refl
 
-pub underway_on : {before mid now : Option Told} (m : Meaning) (kind : EngineKind) (setup : Setup) (a b c : Running) (event : Event) → Underway m kind setup a b event before mid → MovesLines b c [] → ((bytes : List ℕ) (joins : Option ℕ) → TurnsOn m kind setup bytes joins b c mid now) → Underway m kind setup a c event before now
+pub underway_on : {before mid now : Option Told} (m : Meaning) (kind : EngineKind) (setup : Setup) (a b c : Running) (event : Event) → Underway m kind setup a b event before mid → MovesLines b c [] → ((bytes : List ℕ) (joins : Option ℕ) → TurnsInTerm m kind setup bytes joins b c mid now) → Underway m kind setup a c event before now
 underway_on m kind setup a b c event u moves t = record {
   lines = since_still event a b c (messages_of (u.begins ++ u.begin ∷ [])) u.lines moves;
   begins = u.begins;
@@ -513,9 +513,9 @@ underway_next m kind setup a b c d event u end id between stood next more alone 
     }
 
 -- the step ends, and what was said is taken from it
-pub underway_ends : {before now : Option Told} (m : Meaning) (kind : EngineKind) (setup : Setup) (a b c : Running) (event : Event) (outs : Outs) (u : Underway m kind setup a b event before now) → MayEnd (moment_of b) → b.replica.raft.id ≡ b.replica.id →
+pub underway_ends : {before now : Option Told} (m : Meaning) (kind : EngineKind) (setup : Setup) (a b c : Running) (event : Event) (outs : StepOutputs) (u : Underway m kind setup a b event before now) → MayEnd (moment_of b) → b.replica.raft.id ≡ b.replica.id →
     a.mail ≡ no_mail → a.outs.replies.items ≡ [] → a.outs.reads.items ≡ [] → seen c ≡ seen b → outs.messages.items ≡ sent b.mail → outs.replies.items ≡ b.outs.replies.items → outs.reads.items ≡ b.outs.reads.items → c.has_links ≡ b.has_links
-    → LinesBy event a c outs (messages_of (u.begins ++ u.begin ∷ [])) → StepsBy m kind setup a c event outs before now
+    → ConnectionsOfStep event a c outs (messages_of (u.begins ++ u.begin ∷ [])) → AccountsForStep m kind setup a c event outs before now
 underway_ends m kind setup a b c event outs u end id quiet silent unread same messages replies reads links lines =
     let f = u.so_far in
     let r = since_ends m kind setup f.brought f.late u.from b u.begin u.stood f.comes f.since f.beside end id in
@@ -523,6 +523,6 @@ underway_ends m kind setup a b c event outs u end id quiet silent unread same me
     (subst (Brings a (Happens event)) (λ i. λ conn. sym (ended_asks m kind setup a b event u end id conn) i) u.asks)
 
 -- the act under way was stopped
-pub underway_stops : {before now : Option Told} (m : Meaning) (kind : EngineKind) (setup : Setup) (a b : Running) (event : Event) (kept : Kept) (u : Underway m kind setup a b event before now) → Stopped m kind setup u.from u.begin kept → StopsBy m kind setup a event kept
+pub underway_stops : {before now : Option Told} (m : Meaning) (kind : EngineKind) (setup : Setup) (a b : Running) (event : Event) (kept : Kept) (u : Underway m kind setup a b event before now) → Stopped m kind setup u.from u.begin kept → AccountsForStop m kind setup a event kept
 underway_stops m kind setup a b event kept u stopped =
     went_stops m kind setup a u.mid u.from u.begins u.begin event kept u.are u.went u.between stopped u.alone (since_up_to event a b (messages_of (u.begins ++ u.begin ∷ [])) u.lines)

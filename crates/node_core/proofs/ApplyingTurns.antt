@@ -3,16 +3,16 @@ use Rattle.std.proofs.Common.{◌≡◌, ◌≤◌, ◌<◌, ◌-◌, ℕ, suc, 
 use Rattle.std.specs.List.{slice_get}
 use Rattle.std.specs.Prelude.{slice_index_or, length}
 use Rattle.std.proofs.lemmas.Option.{slice_get_read}
-use Rattle.raft_rules.specs.Log.{Entry}
-use Rattle.raft_member.specs.Members.{IsOf}
-use Rattle.page_apply.specs.Machines.{IsMachine}
-use Rattle.session_rules.specs.Machine.{machine_of}
+use Rattle.raft_spec.specs.Log.{Entry}
+use Rattle.raft_membership.specs.Members.{IsOf}
+use Rattle.database_state.specs.Machines.{IsMachine}
+use Rattle.session_spec.specs.Machine.{machine_of}
 use Rattle.client_sessions.specs.Calls.{landed_at, told_at}
 use Rattle.client_sessions.specs.Clients.{Clients}
-use Rattle.node_state.specs.declared.applied.Applied.{Applied}
-use Rattle.node_replica.specs.Replicas.{ReplicaValue, kept_of}
+use Rattle.applied_state.specs.declared.applied.Applied.{Applied}
+use Rattle.raft_on_disk.specs.Replicas.{ReplicaValue, kept_of}
 use Rattle.node_core.specs.declared.running.Running.{Running}
-use Rattle.node_core.specs.Applying.{TakesEntry, AppliesSo}
+use Rattle.node_core.specs.Applying.{TakesEntry, AppliesEntry}
 use Rattle.node_core.specs.Values.{clients_in, waiting_on}
 use Rattle.node_core.specs.Account.{proposals_in}
 use Rattle.node_core.specs.Voters.{SettlesAt}
@@ -21,7 +21,7 @@ use Rattle.node_core.specs.Whole.{IsGoing}
 pub applies_so : (old mid new : Running) → IsGoing old → old.applied.index < old.replica.raft.commit → IsMachine old.applied.machine → TakesEntry old mid → clients_in mid ≡ clients_in old
     → mid ≡ record old { applied = mid.applied; members = mid.members; view = mid.view } → mid.view.serving ≡ old.view.serving → SettlesAt old.members mid.members (suc old.applied.index) → clients_in new ≡ landed_at mid.applied.index (clients_in mid)
     → new.outs.replies.items ≡ mid.outs.replies.items ++ told_at mid.applied.index (clients_in mid) → new.outs.reads.items ≡ mid.outs.reads.items → machine_of new.applied.machine ≡ machine_of mid.applied.machine
-    → new ≡ record mid { clients = new.clients; applied = record mid.applied { machine = new.applied.machine }; outs = new.outs } → IsMachine new.applied.machine → AppliesSo old new
+    → new ≡ record mid { clients = new.clients; applied = record mid.applied { machine = new.applied.machine }; outs = new.outs } → IsMachine new.applied.machine → AppliesEntry old new
 applies_so old mid new going more stood t same entered serving settled landed said unread files told machine =
     let index : mid.applied.index ≡ suc old.applied.index = ap (λ (a : Applied). a.index) t.applied in
     let land : clients_in new ≡ landed_at (suc old.applied.index) (clients_in old) =

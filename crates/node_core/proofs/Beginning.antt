@@ -2,22 +2,22 @@
 use Rattle.std.proofs.Common.{◌≡◌, inl, inr, ⊎_elim, ℕ, Bool, false, List, [], ◌∷◌, Option, Some, None, refl, sym, ap, subst}
 use Rattle.sql_engine.specs.declared.kind.EngineKind.{EngineKind}
 use Rattle.sql_engine.specs.Meanings.{Meaning, Told}
-use Rattle.session_decisions.specs.declared.job.Read.{Read}
-use Rattle.session_decisions.specs.Reading.{read_named}
-use Rattle.raft_rules.specs.Node.{Input, Local, Snapped}
-use Rattle.raft_vote.specs.declared.message.RaftMessage.{RaftMessage}
+use Rattle.session_outcomes.specs.declared.job.Read.{Read}
+use Rattle.session_outcomes.specs.Reading.{read_named}
+use Rattle.raft_spec.specs.Node.{Input, Local, Snapped}
+use Rattle.raft_messages.specs.declared.message.RaftMessage.{RaftMessage}
 use Rattle.raft_core.specs.declared.event.RaftEvent.{RaftEvent}
 use Rattle.raft_core.specs.declared.event.RaftEvent.TheVariants as raft_events
 use Rattle.raft_core.specs.Events.{input_of}
-use Rattle.raft_world.specs.Members.{Setup}
-use Rattle.node_replica.specs.Replicas.{ReplicaValue, kept_of}
-use Rattle.node_rules.specs.ClientTurns.{Stays, Connects, HangsUp}
-use Rattle.node_rules.specs.RaftTurns.{SnapshotGoes}
+use Rattle.raft_safety.specs.Members.{Setup}
+use Rattle.raft_on_disk.specs.Replicas.{ReplicaValue, kept_of}
+use Rattle.node_spec.specs.ClientTurns.{Stays, Connects, HangsUp}
+use Rattle.node_spec.specs.RaftTurns.{SnapshotGoes}
 use Rattle.node_core.specs.declared.event.Event.TheVariants as happens
 use Rattle.node_core.specs.declared.running.Running.{Running}
 use Rattle.node_core.specs.Account.{moment_of, Brought, Begin, Happens, Comes, Compacts, inputs_of, bytes_of, joins_of, read_of, IsLost, Brings, told_of, Comes_in, Fresh, SoFar}
-use Rattle.node_core.specs.Taking.{TurnsOn, bytes_with, came_by, IsLostBy, BeganBy, takes, loses, CompactsSo}
-use Rattle.node_core.specs.Performing.{SaysNothing, ComesOr, GoesOr, HearsSo, ReadsSo}
+use Rattle.node_core.specs.Taking.{TurnsInTerm, bytes_with, came_by, IsLostBy, BeganStep, takes, loses, KeepsSnapshot}
+use Rattle.node_core.specs.Performing.{SaysNothing, MayConnect, MayClose, ReceivesBytes, DeliversRead}
 use Rattle.node_core.specs.Voters.{Beside}
 use Rattle.node_core.proofs.Accounting.{SinceIn, says_none, nothing_since, since_fresh}
 use Rattle.node_core.proofs.Besides.{beside_none, beside_same, beside_from}
@@ -38,7 +38,7 @@ pub record BeginsWith (old : Running) (begin : Begin) (e : RaftEvent) : Type 0 w
   pub asks : Brings old begin (λ conn. [])
   pub lost : IsLostBy old e → IsLost old begin
 
-pub begins_raft : {before now : Option Told} (m : Meaning) (kind : EngineKind) (setup : Setup) (old new : Running) (begin : Begin) (e : RaftEvent) → BeginsWith old begin e → BeganBy m kind setup old new e before now → SoFar m kind setup old new begin before now
+pub begins_raft : {before now : Option Told} (m : Meaning) (kind : EngineKind) (setup : Setup) (old new : Running) (begin : Begin) (e : RaftEvent) → BeginsWith old begin e → BeganStep m kind setup old new e before now → SoFar m kind setup old new begin before now
 begins_raft m kind setup old new begin e w (takes since beside) = record {
   brought = came_by e;
   late = false;
@@ -71,7 +71,7 @@ with_letter old message = record { inputs = refl; bytes = refl; joins = refl; re
 
 -- ---- an own snapshot
 
-pub begins_compact : {told : Option Told} (m : Meaning) (kind : EngineKind) (setup : Setup) (old new : Running) → SnapshotGoes m kind → CompactsSo setup old new → SoFar m kind setup old new (Compacts old.applied.index) told told
+pub begins_compact : {told : Option Told} (m : Meaning) (kind : EngineKind) (setup : Setup) (old new : Running) → SnapshotGoes m kind → KeepsSnapshot setup old new → SoFar m kind setup old new (Compacts old.applied.index) told told
 begins_compact m kind setup old new law c =
     let s = since_snapshot m kind setup old new c.id [] law old.applied.index c.letters c.takes c.says c.sent in
     record {
@@ -85,7 +85,7 @@ begins_compact m kind setup old new law c =
 -- ---- a client's events
 
 module _ (m : Meaning) (kind : EngineKind) (setup : Setup) (old new : Running) where
-  pub begins_connect : {told : Option Told} → (conn : ℕ) → ComesOr old new conn → SaysNothing old new → new.replica ≡ old.replica → SoFar m kind setup old new (Happens (happens.Connect conn)) told told
+  pub begins_connect : {told : Option Told} → (conn : ℕ) → MayConnect old new conn → SaysNothing old new → new.replica ≡ old.replica → SoFar m kind setup old new (Happens (happens.Connect conn)) told told
   begins_connect conn c quiet replica =
       let id = ap (λ (r : ReplicaValue). r.id) replica in
       let says = says_none old new quiet.mail quiet.replies quiet.reads in
@@ -97,7 +97,7 @@ module _ (m : Meaning) (kind : EngineKind) (setup : Setup) (old new : Running) w
       (λ (s : Connects (moment_of old) (moment_of new) conn). made x comes (since_connects m kind setup old new id conn s says) same)
       c
 
-  pub begins_hangup : {told : Option Told} → (conn : ℕ) → GoesOr old new conn → SaysNothing old new → new.replica ≡ old.replica → SoFar m kind setup old new (Happens (happens.Hangup conn)) told told
+  pub begins_hangup : {told : Option Told} → (conn : ℕ) → MayClose old new conn → SaysNothing old new → new.replica ≡ old.replica → SoFar m kind setup old new (Happens (happens.Hangup conn)) told told
   begins_hangup conn c quiet replica =
       let id = ap (λ (r : ReplicaValue). r.id) replica in
       let says = says_none old new quiet.mail quiet.replies quiet.reads in
@@ -109,7 +109,7 @@ module _ (m : Meaning) (kind : EngineKind) (setup : Setup) (old new : Running) w
       (λ (s : HangsUp (moment_of old) (moment_of new) conn). made x comes (since_turn m kind setup old new id x [] refl (λ other. refl) (turns_hangs m kind setup old new id [] None conn s says)) same)
       c
 
-  pub begins_bytes : {told : Option Told} → (conn : ℕ) (bytes : List ℕ) → HearsSo old new conn bytes → SaysNothing old new → new.replica ≡ old.replica → SoFar m kind setup old new (Happens (happens.Bytes conn bytes)) told told
+  pub begins_bytes : {told : Option Told} → (conn : ℕ) (bytes : List ℕ) → ReceivesBytes old new conn bytes → SaysNothing old new → new.replica ≡ old.replica → SoFar m kind setup old new (Happens (happens.Bytes conn bytes)) told told
   begins_bytes conn bytes h quiet replica =
       let id = ap (λ (r : ReplicaValue). r.id) replica in
       let says = says_none old new quiet.mail quiet.replies quiet.reads in
@@ -152,12 +152,12 @@ module _ (m : Meaning) (kind : EngineKind) (setup : Setup) (old mid : Running) (
   begins_unread = made told comes_told (told_fresh mid told [] (nothing_since m kind setup told mid refl (λ other. refl))) (told_beside mid [] (beside_none setup [] mid))
 
   -- the query was run here
-  pub begins_given_back : {before now : Option Told} → (new : Running) → TurnsOn m kind setup [] None mid new before now → new.replica ≡ mid.replica → SoFar m kind setup old new (Happens (happens.ReadDone conn read)) before now
+  pub begins_given_back : {before now : Option Told} → (new : Running) → TurnsInTerm m kind setup [] None mid new before now → new.replica ≡ mid.replica → SoFar m kind setup old new (Happens (happens.ReadDone conn read)) before now
   begins_given_back new t replica =
       let inputs = t.turns.piece.inputs in
       made told comes_told (told_fresh new told inputs (since_turn m kind setup mid new (ap (λ (r : ReplicaValue). r.id) replica) told inputs refl (λ other. refl) (t.turns, refl))) (told_beside new inputs t.beside)
 
-  pub begins_told : {told : Option Told} → (new : Running) → ReadsSo mid new conn (read_named read) → new.replica ≡ mid.replica → SoFar m kind setup old new (Happens (happens.ReadDone conn read)) told told
+  pub begins_told : {told : Option Told} → (new : Running) → DeliversRead mid new conn (read_named read) → new.replica ≡ mid.replica → SoFar m kind setup old new (Happens (happens.ReadDone conn read)) told told
   begins_told new (inl s) replica =
       let id = ap (λ (r : ReplicaValue). r.id) replica in
       made told comes_told

@@ -1,20 +1,20 @@
 -- What a node is told of its voters in parts of a step: they join, and are what an act tells, or one that was stopped.
 use Rattle.std.proofs.Common.{◌≡◌, ℕ, List, [], ◌∷◌, ◌++◌, refl, sym, ap, subst, ◌∙◌, arith}
 use Rattle.std.specs.Prelude.{Option}
-use Rattle.session_rules.specs.Sessions.{Reply}
-use Rattle.raft_rules.specs.Node as raft
-use Rattle.raft_rules.specs.Node.{Server}
-use Rattle.raft_world.specs.Members.{Setup}
+use Rattle.session_spec.specs.Sessions.{Reply}
+use Rattle.raft_spec.specs.Node as raft
+use Rattle.raft_spec.specs.Node.{Server}
+use Rattle.raft_safety.specs.Members.{Setup}
 use Rattle.raft_core.specs.declared.event.RaftEvent.{RaftEvent}
 use Rattle.raft_core.specs.declared.event.RaftEvent.TheVariants as events
 use Rattle.raft_core.specs.Events.{input_of}
-use Rattle.raft_member.specs.Members.{read_setup, IsOf}
-use Rattle.node_replica.specs.Replicas.{ReplicaValue}
-use Rattle.node_rules.specs.Accounts.{Moment, Piece, read_by}
-use Rattle.node_rules.specs.Steps.{TellsSo, CountsSo}
-use Rattle.node_rules.specs.Voting.{MayTell, Tells, IsPlain}
-use Rattle.node_rules.proofs.Telling.{tells_on, tells_to_end, tells_to_stop}
-use Rattle.node_rules.proofs.VoterTurns.{rest_tells, plain_stops}
+use Rattle.raft_membership.specs.Members.{read_setup, IsOf}
+use Rattle.raft_on_disk.specs.Replicas.{ReplicaValue}
+use Rattle.node_spec.specs.Accounts.{Moment, Piece, read_by}
+use Rattle.node_spec.specs.Steps.{TellsVoters, VotersWereTold}
+use Rattle.node_spec.specs.Voting.{MayTell, Tells, IsPlain}
+use Rattle.node_spec.proofs.Telling.{tells_on, tells_to_end, tells_to_stop}
+use Rattle.node_spec.proofs.VoterTurns.{rest_tells, plain_stops}
 use Rattle.node_core.specs.declared.running.Running.{Running}
 use Rattle.node_core.specs.Account.{Fresh}
 use Rattle.node_core.specs.Values.{seen}
@@ -68,17 +68,17 @@ module _ (setup : Setup) (bytes : List ℕ) where
 
   -- a whole act
   pub tells_act : (a b : Running) (joins : Option ℕ) (read : Option (ℕ × Reply)) (p : Piece) → Beside setup a b bytes p.inputs →
-      TellsSo setup a.replica.id (seen a) (read_by bytes joins read p) × CountsSo setup a.replica.id (seen a) (seen b) (read_by bytes joins read p)
+      TellsVoters setup a.replica.id (seen a) (read_by bytes joins read p) × VotersWereTold setup a.replica.id (seen a) (seen b) (read_by bytes joins read p)
   tells_act a b joins read p x = tells_to_end setup a.replica.id (seen a) (seen b) (read_by bytes joins read p) x.voters
 
   -- one that was stopped in a further step
   pub tells_stop : (a b : Running) (joins : Option ℕ) (read : Option (ℕ × Reply)) (p : Piece) (xs ys : List raft.Input) → b.replica.id ≡ a.replica.id → Beside setup a b bytes xs → MayBe setup b bytes ys → p.inputs ≡ xs ++ ys →
-      TellsSo setup a.replica.id (seen a) (read_by bytes joins read p)
+      TellsVoters setup a.replica.id (seen a) (read_by bytes joins read p)
   tells_stop a b joins read p xs ys id x may is =
       tells_to_stop setup a.replica.id (seen a) (seen b) (read_by bytes joins read p) xs ys x.voters (subst (λ me. MayTell setup me bytes (seen b) ys) id may) is
 
   -- by what stood before it
-  pub tells_begun : (a : Running) (joins : Option ℕ) (read : Option (ℕ × Reply)) (p : Piece) → MayBe setup a bytes p.inputs → TellsSo setup a.replica.id (seen a) (read_by bytes joins read p)
+  pub tells_begun : (a : Running) (joins : Option ℕ) (read : Option (ℕ × Reply)) (p : Piece) → MayBe setup a bytes p.inputs → TellsVoters setup a.replica.id (seen a) (read_by bytes joins read p)
   tells_begun a joins read p may = tells_stop a a joins read p [] p.inputs refl (beside_none a) may refl
 
 -- ---- steps that propose no change

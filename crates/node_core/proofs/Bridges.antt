@@ -12,35 +12,35 @@ use Rattle.wire_msgs.specs.Responses.{response_bytes}
 use Rattle.sql_engine.specs.declared.kind.EngineKind.{EngineKind}
 use Rattle.sql_engine.specs.Meanings.{Meaning, Told}
 use Rattle.sql_engine.specs.Replies.{Statement}
-use Rattle.session_rules.specs.Causes.{failure, unread_cause}
-use Rattle.session_rules.specs.Engines.{AllowsFor, used_for}
-use Rattle.session_rules.specs.Events.{on_hangup, connects, connected}
-use Rattle.session_rules.specs.Machine.{machine_of}
-use Rattle.session_rules.specs.Requests.{on_request, handed, on_later, handed_later, without_later}
-use Rattle.session_rules.specs.Sessions.{Reply, Session, Gateway, View, HandsOver, JoinsPeer, Weighs, Turned, Refused, Lacks, Answers, Proposes, Lends, Affects, responses_of, may_ask, later_query, lent_query}
-use Rattle.session_world.specs.Answering.{comes}
-use Rattle.session_world.specs.Lending.{lends_by}
-use Rattle.session_world.specs.Nodes.{Standing}
-use Rattle.session_world.proofs.JobsKnown.{laters_stay_hold}
-use Rattle.statement_runs.specs.Running.{TellsAll}
-use Rattle.raft_rules.specs.Node.{is_leader}
-use Rattle.raft_rules.specs.NodeValues.{node_of}
+use Rattle.session_spec.specs.Causes.{failure, unread_cause}
+use Rattle.session_spec.specs.Engines.{AllowsFor, used_for}
+use Rattle.session_spec.specs.Events.{on_hangup, connects, connected}
+use Rattle.session_spec.specs.Machine.{machine_of}
+use Rattle.session_spec.specs.Requests.{on_request, handed, on_later, handed_later, without_later}
+use Rattle.session_spec.specs.Sessions.{Reply, Session, Gateway, View, HandsOver, JoinsPeer, Weighs, Turned, Refused, Lacks, Answers, Proposes, Lends, Affects, responses_of, may_ask, later_query, lent_query}
+use Rattle.session_safety.specs.Answering.{comes}
+use Rattle.session_safety.specs.Lending.{lends_by}
+use Rattle.session_safety.specs.Nodes.{Standing}
+use Rattle.session_safety.proofs.JobsKnown.{laters_stay_hold}
+use Rattle.session_statements.specs.Running.{TellsAll}
+use Rattle.raft_spec.specs.Node.{is_leader}
+use Rattle.raft_spec.specs.NodeValues.{node_of}
 use Rattle.client_connection.specs.Connection.{Conn, opened, with_more, room, received}
 use Rattle.wire_words.specs.Stream.{going_on, client_limit}
-use Rattle.gateway.specs.declared.act.Act.{Act as GatewayAct}
-use Rattle.gateway.specs.Calls.{Is}
+use Rattle.session_gateway.specs.declared.act.Act.{Act as GatewayAct}
+use Rattle.session_gateway.specs.Calls.{Is}
 use Rattle.client_sessions.specs.declared.act.Act.{Act}
 use Rattle.client_sessions.specs.declared.act.Act.TheVariants as acts
-use Rattle.client_sessions.specs.declared.joining.Joining.TheVariants.{Joined, Full, Taken}
+use Rattle.client_sessions.specs.declared.connect_result.ConnectResult.TheVariants.{Joined, Full, Taken}
 use Rattle.client_sessions.specs.Calls.{bytes_of, act_on, Asked, Unread, Comes, TookOffer, sent_to, call_of, scene}
 use Rattle.client_sessions.specs.Clients.{Clients, with_stream, joining, joined_as, joined, without, hung_up, closing, closed, heard_on, heard, Offer, IsOffered, Fits, Sound}
 use Rattle.client_sessions.specs.Later.{RanLater, Finishes}
 use Rattle.client_sessions.proofs.Asking.{offered_asks}
 use Rattle.client_sessions.proofs.Offers.{next_is_first}
-use Rattle.node_rules.specs.Accounts.{Moment}
-use Rattle.node_rules.specs.ClientTurns.{Stays, Connects, HangsUp, Hears, Resumes, Reads}
-use Rattle.node_rules.specs.Turns.{KeepsRaft, view_at, gate_after, told_at_once, due_by, MayPropose, AreSpelled, Handles}
-use Rattle.node_rules.proofs.MayPropose.{requests_may_propose_hold, laters_may_propose_hold}
+use Rattle.node_spec.specs.Accounts.{Moment}
+use Rattle.node_spec.specs.ClientTurns.{Stays, Connects, HangsUp, Hears, Resumes, Reads}
+use Rattle.node_spec.specs.Turns.{KeepsRaft, view_at, gate_after, told_at_once, due_by, MayPropose, AreSpelled, Handles}
+use Rattle.node_spec.proofs.MayPropose.{requests_may_propose_hold, laters_may_propose_hold}
 use Rattle.node_core.specs.Account.{heard_on as bytes_asked}
 use Rattle.node_core.specs.Acts.{messages_by, proposals_by, jobs_by}
 use Rattle.node_core.specs.Values.{request_in, requests_in, waiting_on}

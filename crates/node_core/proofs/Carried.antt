@@ -8,25 +8,25 @@ use Rattle.wire_words.specs.declared.message.Message.{Message}
 use Rattle.client_connection.specs.declared.connection.CloseReason.{CloseReason}
 use Rattle.client_connection.specs.declared.connection.CloseReason.TheVariants.{Peer}
 use Rattle.client_connection.specs.Connection.{Conn, received}
-use Rattle.session_rules.specs.Machine.{machine_of}
-use Rattle.statement_runs.specs.Calls.{EngineCall}
-use Rattle.raft_vote.specs.declared.message.RaftMessage.{RaftMessage}
+use Rattle.session_spec.specs.Machine.{machine_of}
+use Rattle.session_statements.specs.Calls.{EngineCall}
+use Rattle.raft_messages.specs.declared.message.RaftMessage.{RaftMessage}
 use Rattle.client_sessions.specs.declared.act.Act.{Act}
 use Rattle.client_sessions.specs.declared.act.Act.TheVariants as acts
-use Rattle.client_sessions.specs.declared.joining.Joining.{Joining}
+use Rattle.client_sessions.specs.declared.connect_result.ConnectResult.{ConnectResult}
 use Rattle.client_sessions.specs.Calls.{TookOffer, TookTurn}
 use Rattle.client_sessions.specs.Clients.{Clients, IsOffered, with_stream, joining, joined, hung_up, closing, closed, heard, heard_on, without}
 use Rattle.client_sessions.proofs.Offers.{next_is_first}
-use Rattle.node_replica.specs.Replicas.{ReplicaValue}
+use Rattle.raft_on_disk.specs.Replicas.{ReplicaValue}
 use Rattle.node_core.specs.declared.event.Event.{Event}
 use Rattle.node_core.specs.declared.event.Event.TheVariants as events
 use Rattle.node_core.specs.declared.links.Link.{Link}
-use Rattle.node_core.specs.declared.outs.Outs.{Outs}
+use Rattle.node_core.specs.declared.outs.StepOutputs.{StepOutputs}
 use Rattle.node_core.specs.declared.running.Running.{Running}
 use Rattle.node_core.specs.Carrying.{Lines, lines_in, link_on, without_link, heard_link, close_of, full_for, came_unless, full_unless, heard_by_line, begun_by, closed_first, reason_at, gone_at}
 use Rattle.node_core.specs.Carrying.{Move, TakesAsked, TakesConnect, TakesSent, FindsWrong, LooksAt, sent_by, closed_by, with_first, MovesBy, Runs, first_waiting}
-use Rattle.node_core.specs.Carrying.{BeginsLines, MovesLines, LinesSince, LinesBy, LinesUpTo}
-use Rattle.node_core.specs.Conns.{KeepsConns, LeavesConns, ConnsBehind, link_for}
+use Rattle.node_core.specs.Carrying.{BeginsLines, MovesLines, LinesSince, ConnectionsOfStep, ConnectionsOfStop}
+use Rattle.node_core.specs.Conns.{KeepsConns, LeavesConns, StreamsAfterMessage, link_for}
 use Rattle.node_core.specs.Values.{clients_in}
 use Rattle.node_core.proofs.PeerActs.{IfPeer, IsConnect, took_peer}
 
@@ -100,8 +100,8 @@ lines_counted a replica event b x = since_begins event a b (record { is = x.is; 
 pub since_still : (event : Event) (a b c : Running) (xs : List RaftMessage) → LinesSince event a b xs → MovesLines b c [] → LinesSince event a c xs
 since_still event a b c xs x y = subst (LinesSince event a c) (append-nil xs) (since_on event a b c xs [] x y)
 
-pub since_ends : (event : Event) (a b c : Running) (outs : Outs) (xs : List RaftMessage) → LinesSince event a b xs → a.outs.closed.items ≡ [] → lines_in c ≡ lines_in b
-    → outs.closed.items ≡ b.outs.closed.items → c.heard ≡ None → (c.has_links ≡ true → first_waiting c.links.all.items ≡ None) → LinesBy event a c outs xs
+pub since_ends : (event : Event) (a b c : Running) (outs : StepOutputs) (xs : List RaftMessage) → LinesSince event a b xs → a.outs.closed.items ≡ [] → lines_in c ≡ lines_in b
+    → outs.closed.items ≡ b.outs.closed.items → c.heard ≡ None → (c.has_links ≡ true → first_waiting c.links.all.items ≡ None) → ConnectionsOfStep event a c outs xs
 since_ends event a b c outs xs x quiet same said looked none = record {
   moves = x.moves;
   runs = runs_to (begun_by event (clients_in a) (lines_in a)) (lines_in b) (lines_in c) x.moves x.runs same;
@@ -111,11 +111,11 @@ since_ends event a b c outs xs x quiet same said looked none = record {
   none_waits = none;
 }
 
-pub since_up_to : (event : Event) (a b : Running) (xs : List RaftMessage) → LinesSince event a b xs → LinesUpTo event a xs
+pub since_up_to : (event : Event) (a b : Running) (xs : List RaftMessage) → LinesSince event a b xs → ConnectionsOfStop event a xs
 since_up_to event a b xs x = record { moves = x.moves; last = lines_in b; runs = x.runs; sent_is = x.sent_is }
 
 -- none has happened yet
-pub none_yet : (event : Event) (a : Running) → LinesUpTo event a []
+pub none_yet : (event : Event) (a : Running) → ConnectionsOfStop event a []
 none_yet event a = record { moves = []; last = begun_by event (clients_in a) (lines_in a); runs = refl; sent_is = refl }
 
 -- ---- a message of a client
@@ -146,7 +146,7 @@ module _ (old mid new : Running) (message : Message) (conn : ℕ) (stream now : 
     moves = TakesAsked conn ∷ [];
     runs = (lines_in mid, record { message = message; now = now; opens = here; is = taken_lines }, kept_lines mid new k);
     sent_is = refl;
-    closed = k.closed ∙ ap (λ (o : Outs). o.closed.items) outs ∙ sym (append-nil old.outs.closed.items);
+    closed = k.closed ∙ ap (λ (o : StepOutputs). o.closed.items) outs ∙ sym (append-nil old.outs.closed.items);
   }
 
   connected : (peer : ℕ) → IsConnect old.view conn message conn peer → LeavesConns mid new conn peer → MovesLines old new []
@@ -179,10 +179,10 @@ module _ (old mid new : Running) (message : Message) (conn : ℕ) (stream now : 
           refl,
         );
         sent_is = refl;
-        closed = l.closed ∙ ap (λ (o : Outs). o.closed.items) outs ∙ sym (append-nil old.outs.closed.items);
+        closed = l.closed ∙ ap (λ (o : StepOutputs). o.closed.items) outs ∙ sym (append-nil old.outs.closed.items);
       }
 
-  came_to : (act : Act) → IfPeer (IsConnect old.view conn message) act → ConnsBehind act mid new → MovesLines old new []
+  came_to : (act : Act) → IfPeer (IsConnect old.view conn message) act → StreamsAfterMessage act mid new → MovesLines old new []
   came_to (acts.Reply other messages) p k = asked k
   came_to (acts.Propose other entries) p k = asked k
   came_to (acts.Lend other job) p k = asked k
@@ -194,7 +194,7 @@ module _ (old mid new : Running) (message : Message) (conn : ℕ) (stream now : 
 -- A message was taken, and what came of it was done.
 pub message_moves : (c : EngineCall) (old mid new : Running) (refused refused_now : ℕ) (given : Option Act) (act : Act)
     → TookTurn c old.view (machine_of old.applied.machine) (clients_in old) refused refused_now (clients_in mid) given → given ≡ Some act
-    → mid.outs ≡ old.outs → mid.heard ≡ old.heard → mid.links ≡ old.links → mid.view ≡ old.view → mid.has_links ≡ old.has_links → ConnsBehind act mid new → MovesLines old new []
+    → mid.outs ≡ old.outs → mid.heard ≡ old.heard → mid.links ≡ old.links → mid.view ≡ old.view → mid.has_links ≡ old.has_links → StreamsAfterMessage act mid new → MovesLines old new []
 message_moves c old mid new refused refused_now given act t is outs heard links view has_links done =
     let x : TookOffer c old.view (machine_of old.applied.machine) (clients_in old) refused refused_now (clients_in mid) act =
     subst (TookTurn c old.view (machine_of old.applied.machine) (clients_in old) refused refused_now (clients_in mid)) is t in
@@ -259,7 +259,7 @@ peer_lines message old new k = record { is = kept_lines old new k; closed = k.cl
 pub read_lines : (conn : ℕ) (read : _) (old new : Running) → KeepsConns old new → BeginsLines (events.ReadDone conn read) old new
 read_lines conn read old new k = record { is = kept_lines old new k; closed = k.closed ∙ sym (append-nil old.outs.closed.items) }
 
-pub comes_lines : (old new : Running) (conn : ℕ) (how : Joining) → link_on conn old.links.all.items ≡ None → how ≡ joining (clients_in old).sessions conn
+pub comes_lines : (old new : Running) (conn : ℕ) (how : ConnectResult) → link_on conn old.links.all.items ≡ None → how ≡ joining (clients_in old).sessions conn
     → clients_in new ≡ joined (clients_in old) conn → new.outs.closed.items ≡ old.outs.closed.items ++ full_for conn how → new.heard ≡ old.heard → new.links ≡ old.links
     → new.view ≡ old.view → new.has_links ≡ old.has_links → BeginsLines (events.Connect conn) old new
 comes_lines old new conn how none told is closed heard links view has_links = record {
@@ -285,7 +285,7 @@ hears_lines old new conn bytes stream opens is outs heard links view has_links =
     record {
       is = (λ i. record { me = (view i).id; takes = has_links i; allows = (view i).links; streams = streams i; links = (links i).all.items; heard = heard i })
           ∙ sym (ap (λ (o : Option Conn). heard_by_line o conn bytes (lines_in old)) opens);
-      closed = ap (λ (o : Outs). o.closed.items) outs ∙ sym (append-nil old.outs.closed.items);
+      closed = ap (λ (o : StepOutputs). o.closed.items) outs ∙ sym (append-nil old.outs.closed.items);
     }
 
 pub link_hears_lines : (old new : Running) (conn : ℕ) (bytes : List ℕ) → (clients_in old).streams conn ≡ None → clients_in new ≡ clients_in old → new.outs ≡ old.outs → new.heard ≡ Some conn
@@ -293,14 +293,14 @@ pub link_hears_lines : (old new : Running) (conn : ℕ) (bytes : List ℕ) → (
 link_hears_lines old new conn bytes none same outs heard links view has_links = record {
   is = (λ i. record { me = (view i).id; takes = has_links i; allows = (view i).links; streams = (same i).streams; links = links i; heard = heard i })
       ∙ sym (ap (λ (o : Option Conn). heard_by_line o conn bytes (lines_in old)) none);
-  closed = ap (λ (o : Outs). o.closed.items) outs ∙ sym (append-nil old.outs.closed.items);
+  closed = ap (λ (o : StepOutputs). o.closed.items) outs ∙ sym (append-nil old.outs.closed.items);
 }
 
 pub hangs_lines : (old new : Running) (conn : ℕ) → clients_in new ≡ hung_up (clients_in old) conn → new.outs ≡ old.outs → new.heard ≡ old.heard
     → new.links.all.items ≡ without_link conn old.links.all.items → new.view ≡ old.view → new.has_links ≡ old.has_links → BeginsLines (events.Hangup conn) old new
 hangs_lines old new conn is outs heard links view has_links = record {
   is = λ i. record { me = (view i).id; takes = has_links i; allows = (view i).links; streams = (is i).streams; links = links i; heard = heard i };
-  closed = ap (λ (o : Outs). o.closed.items) outs ∙ sym (append-nil old.outs.closed.items);
+  closed = ap (λ (o : StepOutputs). o.closed.items) outs ∙ sym (append-nil old.outs.closed.items);
 }
 
 -- ---- a message on a peer's connection
@@ -312,7 +312,7 @@ sent_moves old mid new message x outs k = record {
   moves = TakesSent message ∷ [];
   runs = (lines_in mid, x, kept_lines mid new k);
   sent_is = refl;
-  closed = k.closed ∙ ap (λ (o : Outs). o.closed.items) outs ∙ sym (append-nil old.outs.closed.items);
+  closed = k.closed ∙ ap (λ (o : StepOutputs). o.closed.items) outs ∙ sym (append-nil old.outs.closed.items);
 }
 
 pub wrong_moves : (old new : Running) (conn : ℕ) → MovesBy (lines_in old) (lines_in new) (FindsWrong conn)

@@ -2,16 +2,16 @@
 use Rattle.std.proofs.Common.{◌≡◌, ◌≢◌, inr, ℕ, Bool, false, not, is_none, List, [], ◌∷◌, ◌++◌, Option, Some, None, refl, sym, ap, ◌∙◌, append-nil}
 use Rattle.wire_msgs.specs.declared.request.Request.{Request}
 use Rattle.client_connection.specs.Connection.{Conn, received}
-use Rattle.page_apply.specs.Machines.{IsMachine}
-use Rattle.session_rules.specs.Machine.{machine_of}
+use Rattle.database_state.specs.Machines.{IsMachine}
+use Rattle.session_spec.specs.Machine.{machine_of}
 use Rattle.raft_core.specs.declared.event.RaftEvent.TheVariants as raft_events
-use Rattle.raft_vote.specs.declared.message.RaftMessage.{RaftMessage}
+use Rattle.raft_messages.specs.declared.message.RaftMessage.{RaftMessage}
 use Rattle.client_sessions.specs.Clients.{Clients, joined, hung_up, closed, heard, Sound}
-use Rattle.node_rules.specs.ClientTurns.{Stays}
-use Rattle.node_rules.specs.Turns.{KeepsRaft}
+use Rattle.node_spec.specs.ClientTurns.{Stays}
+use Rattle.node_spec.specs.Turns.{KeepsRaft}
 use Rattle.node_core.specs.declared.running.Running.{Running}
 use Rattle.node_core.specs.Account.{proposals_in, moment_of, heard_on, BytesAsk}
-use Rattle.node_core.specs.Performing.{ComesOr, GoesOr, HearsSo}
+use Rattle.node_core.specs.Performing.{MayConnect, MayClose, ReceivesBytes}
 use Rattle.node_core.specs.Values.{clients_in, requests_in, waiting_on}
 use Rattle.node_core.proofs.Bridges.{Shows, same_stays, hung_up_goes, closed_goes, joined_connects, heard_hears}
 use Rattle.node_core.proofs.ClientTurns.{keeps_raft}
@@ -36,14 +36,14 @@ pub stays_so : (old new : Running) → SameTurn old new → clients_in new ≡ c
 stays_so old new s is =
     same_stays (moment_of old) (moment_of new) (clients_in old) (clients_in new) (shows_itself old) (shows_itself new) (keeps old new s) s.due (ap (λ (k : Clients). k.sessions) is) (λ conn. ap (λ (k : Clients). k.streams conn) is)
 
-pub comes_so : (old new : Running) (conn : ℕ) → SameTurn old new → Sound (clients_in old) → clients_in new ≡ joined (clients_in old) conn → ComesOr old new conn
+pub comes_so : (old new : Running) (conn : ℕ) → SameTurn old new → Sound (clients_in old) → clients_in new ≡ joined (clients_in old) conn → MayConnect old new conn
 comes_so old new conn s sound is =
     inr (joined_connects (moment_of old) (moment_of new) (clients_in old) (clients_in new) (shows_itself old) (shows_itself new) (keeps old new s) s.due conn sound is)
 
-pub hangs_so : (old new : Running) (conn : ℕ) → SameTurn old new → clients_in new ≡ hung_up (clients_in old) conn → GoesOr old new conn
+pub hangs_so : (old new : Running) (conn : ℕ) → SameTurn old new → clients_in new ≡ hung_up (clients_in old) conn → MayClose old new conn
 hangs_so old new conn s is = hung_up_goes (moment_of old) (moment_of new) (clients_in old) (clients_in new) (shows_itself old) (shows_itself new) (keeps old new s) s.due conn is
 
-pub closes_so : (old new : Running) (conn : ℕ) → SameTurn old new → clients_in new ≡ closed (clients_in old) conn → GoesOr old new conn
+pub closes_so : (old new : Running) (conn : ℕ) → SameTurn old new → clients_in new ≡ closed (clients_in old) conn → MayClose old new conn
 closes_so old new conn s is = closed_goes (moment_of old) (moment_of new) (clients_in old) (clients_in new) (shows_itself old) (shows_itself new) (keeps old new s) s.due conn is
 
 -- bytes on a connection of a client
@@ -58,7 +58,7 @@ asked_by old conn bytes asks (Some c) is others some none = record {
   others = others;
 }
 
-pub hears_so : (old new : Running) (conn : ℕ) (bytes : List ℕ) → SameTurn old new → clients_in new ≡ heard (clients_in old) conn bytes → HearsSo old new conn bytes
+pub hears_so : (old new : Running) (conn : ℕ) (bytes : List ℕ) → SameTurn old new → clients_in new ≡ heard (clients_in old) conn bytes → ReceivesBytes old new conn bytes
 hears_so old new conn bytes s is =
     let h = heard_hears (moment_of old) (moment_of new) (clients_in old) (clients_in new) (shows_itself old) (shows_itself new) (keeps old new s) s.due conn bytes is in
     (h.0, h.1, asked_by old conn bytes h.0 ((clients_in old).streams conn) refl h.2 h.3 h.4)
@@ -68,7 +68,7 @@ not_open : (o : Option Conn) (is_open : Bool) → is_open ≡ not (is_none o) �
 not_open None is_open e f = refl
 not_open (Some c) is_open e f = absurd (cc (e, f))
 
-pub hears_none : (old new : Running) (conn : ℕ) (bytes : List ℕ) (is_open : Bool) → is_open ≡ not (is_none ((clients_in old).streams conn)) → is_open ≡ false → SameTurn old new → clients_in new ≡ clients_in old → HearsSo old new conn bytes
+pub hears_none : (old new : Running) (conn : ℕ) (bytes : List ℕ) (is_open : Bool) → is_open ≡ not (is_none ((clients_in old).streams conn)) → is_open ≡ false → SameTurn old new → clients_in new ≡ clients_in old → ReceivesBytes old new conn bytes
 hears_none old new conn bytes is_open e f s is =
     let none = not_open ((clients_in old).streams conn) is_open e f in
     let stays = stays_so old new s is in (

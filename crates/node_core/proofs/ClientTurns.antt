@@ -8,31 +8,31 @@ use Rattle.wire_msgs.specs.Reading.{request_of}
 use Rattle.sql_engine.specs.declared.kind.EngineKind.{EngineKind}
 use Rattle.sql_engine.specs.Meanings.{Meaning, Told}
 use Rattle.sql_engine.specs.Replies.{Statement}
-use Rattle.page_apply.specs.Machines.{IsMachine}
-use Rattle.session_rules.specs.Machine.{machine_of}
-use Rattle.session_rules.specs.Engines.{Answer}
-use Rattle.session_rules.specs.Sessions.{Reply, Job, responses_of, later_query, lent_query}
-use Rattle.session_world.specs.Lending.{lends_by}
-use Rattle.statement_runs.specs.Running.{TellsAll}
-use Rattle.statement_runs.proofs.Telling.{tells_none}
-use Rattle.raft_rules.specs.Log.{Entry}
-use Rattle.raft_rules.specs.Node.{is_leader}
-use Rattle.raft_rules.specs.NodeValues.{NodeValue}
+use Rattle.database_state.specs.Machines.{IsMachine}
+use Rattle.session_spec.specs.Machine.{machine_of}
+use Rattle.session_spec.specs.Engines.{Answer}
+use Rattle.session_spec.specs.Sessions.{Reply, Job, responses_of, later_query, lent_query}
+use Rattle.session_safety.specs.Lending.{lends_by}
+use Rattle.session_statements.specs.Running.{TellsAll}
+use Rattle.session_statements.proofs.Telling.{tells_none}
+use Rattle.raft_spec.specs.Log.{Entry}
+use Rattle.raft_spec.specs.Node.{is_leader}
+use Rattle.raft_spec.specs.NodeValues.{NodeValue}
 use Rattle.raft_core.specs.declared.event.RaftEvent.{RaftEvent}
-use Rattle.raft_world.specs.Members.{Setup}
+use Rattle.raft_safety.specs.Members.{Setup}
 use Rattle.client_sessions.specs.declared.act.Act.{Act}
 use Rattle.client_sessions.specs.declared.act.Act.TheVariants as acts
 use Rattle.client_sessions.specs.Calls.{TookOffer, WasIdle, TookTurn, sent_to, bytes_of, call_of, scene}
 use Rattle.client_sessions.specs.Clients.{Clients, freed}
 use Rattle.client_sessions.specs.Later.{RanLater, turn_for, Resumes as ResumesBy, Finishes}
-use Rattle.node_replica.specs.Replicas.{ReplicaValue, kept_of}
-use Rattle.node_state.specs.declared.office.Office.{Office}
-use Rattle.node_rules.specs.Accounts.{Moment, Piece, no_piece, both, Goes, GoesOn, NothingGoes}
-use Rattle.node_rules.specs.ClientTurns.{Stays, HangsUp, StayingGoes, HangingGoes, ResumingGoes}
-use Rattle.node_rules.specs.Turns.{KeepsRaft, HandlingGoes}
+use Rattle.raft_on_disk.specs.Replicas.{ReplicaValue, kept_of}
+use Rattle.applied_state.specs.declared.leadership.Leadership.{Leadership}
+use Rattle.node_spec.specs.Accounts.{Moment, Piece, no_piece, both, Goes, GoesOn, NothingGoes}
+use Rattle.node_spec.specs.ClientTurns.{Stays, HangsUp, StayingGoes, HangingGoes, ResumingGoes}
+use Rattle.node_spec.specs.Turns.{KeepsRaft, HandlingGoes}
 use Rattle.node_core.specs.declared.running.Running.{Running}
 use Rattle.node_core.specs.Account.{proposals_in, moment_of, Item, Lived, Unread, lived, responses_in, Sends}
-use Rattle.node_core.specs.Performing.{SaysNothing, gone_by, Performed, ReadsSo}
+use Rattle.node_core.specs.Performing.{SaysNothing, gone_by, Performed, DeliversRead}
 use Rattle.node_core.specs.Acts.{messages_by, proposals_by, jobs_by}
 use Rattle.node_core.specs.Values.{clients_in}
 use Rattle.node_core.specs.Whole.{InOffice, IsGoing}
@@ -74,7 +74,7 @@ keeps_raft old new replica index serving machine files = record {
 }
 
 -- who serves leads
-pub serving_leads : (o : Option Office) (serving : Bool) (h : NodeValue) → InOffice o serving h → serving ≡ true → is_leader h.role ≡ true
+pub serving_leads : (o : Option Leadership) (serving : Bool) (h : NodeValue) → InOffice o serving h → serving ≡ true → is_leader h.role ≡ true
 serving_leads None serving h g e = absurd cc
 serving_leads (Some o) serving h g e = g.0
 
@@ -290,7 +290,7 @@ module _ (old mid new : Running) (conn : ℕ) (is : mid ≡ record old { clients
 
   -- nothing was told
   pub reads_nothing : (told : Option Reply) (act : Option Act) → Finishes (clients_in old).sessions conn (lent_query ((clients_in old).sessions.session conn).later) told (clients_in mid).sessions act
-      → clients_in mid ≡ freed (clients_in old) (clients_in mid).sessions (turn_for conn act) → act ≡ None → ReadsSo old mid conn told
+      → clients_in mid ≡ freed (clients_in old) (clients_in mid).sessions (turn_for conn act) → act ≡ None → DeliversRead old mid conn told
   reads_nothing told act f rest none =
       inl (
         told_nothing (none_told (lent_query ((clients_in old).sessions.session conn).later) told act f none) (λ other. ap (λ (k : Clients). k.streams other) rest),
@@ -305,7 +305,7 @@ module _ (old mid new : Running) (conn : ℕ) (is : mid ≡ record old { clients
 
   -- a reply was told
   told_by : (query : Option Statement) (told : Option Reply) (result : Option Act) (act : Act) → lent_query ((clients_in old).sessions.session conn).later ≡ query → Finishes (clients_in old).sessions conn query told (clients_in mid).sessions result
-      → clients_in mid ≡ freed (clients_in old) (clients_in mid).sessions (turn_for conn result) → result ≡ Some act → Performed mid new act → ReadsSo old new conn told
+      → clients_in mid ≡ freed (clients_in old) (clients_in mid).sessions (turn_for conn result) → result ≡ Some act → Performed mid new act → DeliversRead old new conn told
   told_by None told result act lent f rest some done = let same = sym f.1 ∙ some in absurd cc
   told_by (Some statement) None result act lent f rest some done = let same = sym f.1 ∙ some in absurd cc
   told_by (Some statement) (Some reply) result act lent f rest some done =
@@ -343,7 +343,7 @@ module _ (old mid new : Running) (conn : ℕ) (is : mid ≡ record old { clients
       inside e = cc
 
   pub reads_reply : (told : Option Reply) (result : Option Act) (act : Act) → Finishes (clients_in old).sessions conn (lent_query ((clients_in old).sessions.session conn).later) told (clients_in mid).sessions result
-      → clients_in mid ≡ freed (clients_in old) (clients_in mid).sessions (turn_for conn result) → result ≡ Some act → Performed mid new act → ReadsSo old new conn told
+      → clients_in mid ≡ freed (clients_in old) (clients_in mid).sessions (turn_for conn result) → result ≡ Some act → Performed mid new act → DeliversRead old new conn told
   reads_reply told result act f rest some done = told_by (lent_query ((clients_in old).sessions.session conn).later) told result act refl f rest some done
 
 -- nothing happened

@@ -1,29 +1,29 @@
 -- An own snapshot, as the account has it.
 use Rattle.std.proofs.Common.{◌≡◌, ℕ, ◌+◌, ◌<◌, ◌≤◌, arith, Bool, true, List, [], refl, sym, ap, subst, ◌∙◌, append-nil}
 use Rattle.std.specs.Prelude.{map, Option, Some, None}
-use Rattle.page_apply.specs.Machines.{IsMachine}
-use Rattle.session_rules.specs.Sessions.{View}
+use Rattle.database_state.specs.Machines.{IsMachine}
+use Rattle.session_spec.specs.Sessions.{View}
 use Rattle.std.proofs.lemmas.Bool.{leb-true}
-use Rattle.raft_rules.specs.Log.{Entry, LogEnd}
+use Rattle.raft_spec.specs.Log.{Entry, LogEnd}
 use Rattle.raft_snapshot.specs.Compacting.{is_due}
-use Rattle.raft_rules.specs.Node as raft
-use Rattle.raft_rules.specs.Node.{Server, is_leader}
-use Rattle.raft_rules.specs.NodeValues.{NodeValue, node_of}
-use Rattle.raft_vote.specs.declared.message.RaftMessage.{RaftMessage}
-use Rattle.raft_member.specs.Members.{read_setup}
+use Rattle.raft_spec.specs.Node as raft
+use Rattle.raft_spec.specs.Node.{Server, is_leader}
+use Rattle.raft_spec.specs.NodeValues.{NodeValue, node_of}
+use Rattle.raft_messages.specs.declared.message.RaftMessage.{RaftMessage}
+use Rattle.raft_membership.specs.Members.{read_setup}
 use Rattle.store_laws.specs.Store.{Snap}
-use Rattle.node_state.specs.declared.office.Office.{Office as Held}
-use Rattle.node_state.specs.Applied.{HasApplied}
-use Rattle.node_state.specs.Snapshot.{SpellsSnapshot, made_by}
-use Rattle.node_replica.specs.Letters.{Tells}
-use Rattle.node_replica.specs.Mails.{MailValue, all_posted}
-use Rattle.node_replica.specs.Replicas.{ReplicaValue, IsWhole, stepped, said, snapped, own_snap}
-use Rattle.node_rules.specs.RaftTurns.{HasEnded, SpellsApplied}
-use Rattle.node_rules.proofs.VoterTurns.{compact_tells}
+use Rattle.applied_state.specs.declared.leadership.Leadership.{Leadership as Held}
+use Rattle.applied_state.specs.Applied.{HasApplied}
+use Rattle.applied_state.specs.Snapshot.{SpellsSnapshot, made_by}
+use Rattle.raft_on_disk.specs.Letters.{Tells}
+use Rattle.raft_on_disk.specs.Mails.{MailValue, all_posted}
+use Rattle.raft_on_disk.specs.Replicas.{ReplicaValue, IsWhole, stepped, said, snapped, own_snap}
+use Rattle.node_spec.specs.RaftTurns.{HasEnded, SpellsApplied}
+use Rattle.node_spec.proofs.VoterTurns.{compact_tells}
 use Rattle.node_core.specs.declared.running.Running.{Running}
 use Rattle.node_core.specs.Account.{proposals_in, moment_of, letter_of, KnowsServers}
 use Rattle.node_core.specs.Posting.{Posts}
-use Rattle.node_core.specs.Taking.{CompactsSo}
+use Rattle.node_core.specs.Taking.{KeepsSnapshot}
 use Rattle.node_core.specs.Values.{seen, clients_in}
 use Rattle.node_core.specs.Whole.{LeadsInOffice, ServesLast, IsFree, IsLed}
 use Rattle.node_core.proofs.Accounting.{sends_none}
@@ -49,7 +49,7 @@ spells_so opening old bytes past same spelled known = record {
 compacts_at : (opening : List Server) (old : Running) (r : ReplicaValue) (mail : MailValue) (v : View) (bytes : List ℕ) (messages : List RaftMessage) → IsWhole old.replica → old.replica.raft.snapshot.index < old.applied.index →
     node_of r.raft ≡ stepped old.replica (snapped old.replica old.applied.index) → IsWhole r → r.snap ≡ own_snap old.replica old.applied.index bytes → Tells (said old.replica (snapped old.replica old.applied.index)) r.snap messages →
     mail ≡ all_posted old.mail messages → r.id ≡ old.replica.id → v.serving ≡ old.view.serving → IsMachine old.applied.machine → old.members.servers ≡ old.applied.servers →
-    ((lacks : List ℕ → ℕ) (front : List Entry) → HasApplied opening lacks front old.applied → SpellsSnapshot (made_by opening front) bytes) → CompactsSo (read_setup opening) old (record old { replica = r; mail = mail; view = v })
+    ((lacks : List ℕ → ℕ) (front : List Entry) → HasApplied opening lacks front old.applied → SpellsSnapshot (made_by opening front) bytes) → KeepsSnapshot (read_setup opening) old (record old { replica = r; mail = mail; view = v })
 compacts_at opening old r mail v bytes messages was past made whole snap tells posted id serving machine same spelled =
     let mid : Running = record old { replica = r; mail = mail } in
     let new : Running = record old { replica = r; mail = mail; view = v } in
@@ -79,9 +79,9 @@ compacts_at opening old r mail v bytes messages was past made whole snap tells p
 pub compacts_so : (opening : List Server) (old new : Running) (r : ReplicaValue) (mail : MailValue) (bytes : List ℕ) (messages : List RaftMessage) → IsWhole old.replica → old.replica.raft.snapshot.index < old.applied.index →
     node_of r.raft ≡ stepped old.replica (snapped old.replica old.applied.index) → IsWhole r → r.snap ≡ own_snap old.replica old.applied.index bytes → Tells (said old.replica (snapped old.replica old.applied.index)) r.snap messages →
     mail ≡ all_posted old.mail messages → r.id ≡ old.replica.id → new ≡ record old { replica = r; mail = mail; view = new.view } → new.view.serving ≡ old.view.serving → IsMachine old.applied.machine → old.members.servers ≡ old.applied.servers →
-    ((lacks : List ℕ → ℕ) (front : List Entry) → HasApplied opening lacks front old.applied → SpellsSnapshot (made_by opening front) bytes) → CompactsSo (read_setup opening) old new
+    ((lacks : List ℕ → ℕ) (front : List Entry) → HasApplied opening lacks front old.applied → SpellsSnapshot (made_by opening front) bytes) → KeepsSnapshot (read_setup opening) old new
 compacts_so opening old new r mail bytes messages was past made whole snap tells posted id is serving machine same spelled =
-    subst (CompactsSo (read_setup opening) old) (sym is) (compacts_at opening old r mail new.view bytes messages was past made whole snap tells posted id serving machine same spelled)
+    subst (KeepsSnapshot (read_setup opening) old) (sym is) (compacts_at opening old r mail new.view bytes messages was past made whole snap tells posted id serving machine same spelled)
 
 leads_on : (o : Option Held) (h i : NodeValue) → i.role ≡ h.role → LeadsInOffice o h → LeadsInOffice o i
 leads_on None h i role g = ap is_leader role ∙ g

@@ -5,29 +5,29 @@ use Rattle.std.proofs.lemmas.Bool.{cond-true, eq-eqb, eqb-true}
 use Rattle.wire_words.specs.declared.message.Message.{Message}
 use Rattle.client_connection.specs.declared.connection.CloseReason.{CloseReason}
 use Rattle.client_connection.specs.Connection.{Conn, opened, received, reason_of}
-use Rattle.session_rules.specs.Machine.{machine_of}
-use Rattle.session_rules.specs.Sessions.{Reply, Gateway, Session, View, later_query, responses_of}
+use Rattle.session_spec.specs.Machine.{machine_of}
+use Rattle.session_spec.specs.Sessions.{Reply, Gateway, Session, View, later_query, responses_of}
 use Rattle.sql_engine.specs.Replies.{Statement}
-use Rattle.session_decisions.specs.Scenes.{scene}
-use Rattle.statement_runs.specs.Calls.{EngineCall}
-use Rattle.session_rules.specs.Events.{connects}
+use Rattle.session_outcomes.specs.Scenes.{scene}
+use Rattle.session_statements.specs.Calls.{EngineCall}
+use Rattle.session_spec.specs.Events.{connects}
 use Rattle.client_sessions.specs.declared.act.Act.{Act}
 use Rattle.client_sessions.specs.declared.act.Act.TheVariants as acts
-use Rattle.client_sessions.specs.declared.joining.Joining.{Joining}
-use Rattle.client_sessions.specs.declared.joining.Joining.TheVariants as joinings
+use Rattle.client_sessions.specs.declared.connect_result.ConnectResult.{ConnectResult}
+use Rattle.client_sessions.specs.declared.connect_result.ConnectResult.TheVariants as joinings
 use Rattle.client_sessions.specs.Clients.{Clients, Fits, Sound, Offer, IsOffered, with_stream, joining, joined, joined_as, hung_up, closing, closed, heard, heard_on, without, freed}
 use Rattle.node_core.specs.declared.event.Event.{Event}
 use Rattle.node_core.specs.declared.event.Event.TheVariants as events
-use Rattle.node_core.specs.declared.outs.Outs.{Outs}
+use Rattle.node_core.specs.declared.outs.StepOutputs.{StepOutputs}
 use Rattle.node_core.specs.declared.running.Running.{Running}
 use Rattle.node_core.specs.declared.links.Link.{Link}
 use Rattle.node_core.specs.Carrying.{BeginsLines, link_on, without_link, heard_link, close_of, full_for, reason_at}
 use Rattle.node_core.specs.Conns.{StreamOn, StreamsOn, brought, come_by, heard_by, close_on, closes_by}
-use Rattle.node_core.specs.Conns.{HasNoPeers, IsUnlinked, KeepsConns, ConnsOn, ConnsBehind, ClosesConn, ConnsBegin, ConnsBy}
+use Rattle.node_core.specs.Conns.{HasNoPeers, IsUnlinked, KeepsConns, StreamsClose, StreamsAfterMessage, ClosesConn, ConnsBegin, StreamsOfStep}
 use Rattle.client_sessions.specs.Calls.{TookOffer, TookTurn, WasIdle, bytes_of}
 use Rattle.client_sessions.specs.Later.{Resumes, Finishes, turn_for}
 use Rattle.client_sessions.proofs.Offers.{next_is_first}
-use Rattle.node_replica.specs.Replicas.{ReplicaValue}
+use Rattle.raft_on_disk.specs.Replicas.{ReplicaValue}
 use Rattle.node_core.specs.Values.{clients_in}
 use Rattle.node_core.specs.Whole.{IsQuiet}
 use Rattle.node_core.proofs.Carried.{timeout_lines, beat_lines, peer_lines, read_lines, comes_lines, carried_lines, hears_lines, link_hears_lines, hangs_lines, client_gone, link_stays, link_gone}
@@ -58,7 +58,7 @@ closes_alike before now taken is = sym (ap reason_of is)
 same_streams : (old new : ℕ → Option Conn) → new ≡ old → StreamsOn old new
 same_streams old new is conn = subst (λ (s : ℕ → Option Conn). StreamOn (old conn) (s conn)) (sym is) (stays_on (old conn))
 
-pub kept_on : (old new : Running) → KeepsConns old new → ConnsOn old new
+pub kept_on : (old new : Running) → KeepsConns old new → StreamsClose old new
 kept_on old new k = record {
   streams = same_streams (clients_in old).streams (clients_in new).streams k.streams;
   closes = λ u. (record { links = k.links ∙ u.links; view = k.view ∙ u.view }, λ i. k.closed i ++ close_on (k.heard i) (k.streams i));
@@ -78,7 +78,7 @@ kept_both a b c x y = record {
 pub kept_same : (n : Running) → KeepsConns n n
 kept_same n = record { streams = refl; heard = refl; closed = refl; links = refl; view = refl; id = refl; has_links = refl }
 
-pub conns_both : (a b c : Running) → ConnsOn a b → ConnsOn b c → ConnsOn a c
+pub conns_both : (a b c : Running) → StreamsClose a b → StreamsClose b c → StreamsClose a c
 conns_both a b c x y = record {
   streams = λ conn. on_both ((clients_in a).streams conn) ((clients_in b).streams conn) ((clients_in c).streams conn) (x.streams conn) (y.streams conn);
   closes = λ u. let one = x.closes u in let two = y.closes one.0 in (two.0, two.1 ∙ one.1);
@@ -88,13 +88,13 @@ conns_both a b c x y = record {
 pub starts_unlinked : (links : Bool) (n : Running) → HasNoPeers links n → HasNoPeers links n × (links ≡ false → IsUnlinked n)
 starts_unlinked links n p = (p, λ none. record { links = p.links; view = p.view ∙ none })
 
-pub conns_same : (n : Running) → ConnsOn n n
+pub conns_same : (n : Running) → StreamsClose n n
 conns_same n = record { streams = λ conn. stays_on ((clients_in n).streams conn); closes = λ u. (u, refl) }
 
 -- ---- an event
 
 begins_on : (event : Event) (old new : Running) → ((conn : ℕ) → brought event conn ((clients_in old).streams conn) ≡ (clients_in old).streams conn)
-    → closes_by event (clients_in old) ≡ [] → BeginsLines event old new → ConnsOn old new → ConnsBegin event old new
+    → closes_by event (clients_in old) ≡ [] → BeginsLines event old new → StreamsClose old new → ConnsBegin event old new
 begins_on event old new same none lines on = record {
   lines = lines;
   streams = λ conn. subst (λ (s : Option Conn). StreamOn s ((clients_in new).streams conn)) (sym (same conn)) (on.streams conn);
@@ -142,18 +142,18 @@ comes_not : (o : Option Conn) (conn other : ℕ) → StreamOn (come_by o conn ot
 comes_not None conn other = tt
 comes_not (Some c) conn other = stays_on (Some c)
 
-come_streams : (k : Clients) (conn : ℕ) (how : Joining) → (how ≡ joinings.Joined → k.streams conn ≡ None)
+come_streams : (k : Clients) (conn : ℕ) (how : ConnectResult) → (how ≡ joinings.Joined → k.streams conn ≡ None)
     → (other : ℕ) → StreamOn (come_by (k.streams other) conn other) ((joined_as k conn how).streams other)
 come_streams k conn joinings.Joined free other = comes (k.streams other) conn other (other == conn) refl (λ e. ap k.streams (eqb-true other conn e) ∙ free refl)
 come_streams k conn joinings.Full free other = comes_not (k.streams other) conn other
 come_streams k conn joinings.Taken free other = comes_not (k.streams other) conn other
 
-pub not_full : (xs : List (ℕ × CloseReason)) (conn : ℕ) (how : Joining) → (how ≡ joinings.Joined) ⊎ (how ≡ joinings.Taken) → xs ≡ xs ++ full_for conn how
-not_full xs conn how (inl e) = sym (append-nil xs) ∙ ap (λ (h : Joining). xs ++ full_for conn h) (sym e)
-not_full xs conn how (inr e) = sym (append-nil xs) ∙ ap (λ (h : Joining). xs ++ full_for conn h) (sym e)
+pub not_full : (xs : List (ℕ × CloseReason)) (conn : ℕ) (how : ConnectResult) → (how ≡ joinings.Joined) ⊎ (how ≡ joinings.Taken) → xs ≡ xs ++ full_for conn how
+not_full xs conn how (inl e) = sym (append-nil xs) ∙ ap (λ (h : ConnectResult). xs ++ full_for conn h) (sym e)
+not_full xs conn how (inr e) = sym (append-nil xs) ∙ ap (λ (h : ConnectResult). xs ++ full_for conn h) (sym e)
 
 -- A connection comes: it has a stream where it gets a session, and is closed where there is no room.
-pub comes_begins : (old new : Running) (conn : ℕ) (how : Joining) → Sound (clients_in old) → link_on conn old.links.all.items ≡ None → how ≡ joining (clients_in old).sessions conn
+pub comes_begins : (old new : Running) (conn : ℕ) (how : ConnectResult) → Sound (clients_in old) → link_on conn old.links.all.items ≡ None → how ≡ joining (clients_in old).sessions conn
     → clients_in new ≡ joined (clients_in old) conn → new.outs.closed.items ≡ old.outs.closed.items ++ full_for conn how → new.heard ≡ old.heard → new.links ≡ old.links
     → new.view ≡ old.view → new.has_links ≡ old.has_links → ConnsBegin (events.Connect conn) old new
 comes_begins old new conn how sound free_link told is closed heard links view has_links =
@@ -331,7 +331,7 @@ link_conn old new conn link reason is why left same outs view has_links heard = 
 -- the connection whose bytes came was looked at, and closed if it was to be
 pub closes_heard : (old mid new : Running) (conn : ℕ) (reason : Option CloseReason) → old.heard ≡ Some conn → ClosesConn (record old { heard = None }) mid conn reason
     → clients_in new ≡ clients_in mid → new.links ≡ mid.links → new.view ≡ mid.view → new.heard ≡ None → new.outs.closed.items ≡ mid.outs.closed.items ++ close_of conn reason
-    → ConnsOn old new
+    → StreamsClose old new
 closes_heard old mid new conn reason heard x same links view none said = record {
   streams = λ other. subst (λ (k : Clients). StreamOn ((clients_in old).streams other) (k.streams other)) (sym same) (x.streams other);
   closes = λ u.
@@ -360,7 +360,7 @@ heard_same (Some conn) old new same = ap (close_of conn) (same conn)
 
 -- The first message was taken of a stream.
 pub takes_on : (old new : Running) (offer : Offer) → IsOffered (clients_in old) offer → (clients_in new).streams ≡ with_stream (clients_in old).streams offer.conn (Some offer.stream)
-    → new.outs ≡ old.outs → new.heard ≡ old.heard → new.links ≡ old.links → new.view ≡ old.view → ConnsOn old new
+    → new.outs ≡ old.outs → new.heard ≡ old.heard → new.links ≡ old.links → new.view ≡ old.view → StreamsClose old new
 takes_on old new offer first is outs heard links view =
     let k = clients_in old in
     let there : (other : ℕ) → (other == offer.conn) ≡ true → k.streams other ≡ Some first.stream = λ other e. ap k.streams (eqb-true other offer.conn e) ∙ first.opens in
@@ -376,7 +376,7 @@ takes_on old new offer first is outs heard links view =
     }
 
 -- What came of it was done: a connection leaves the clients for a peer's messages only where the node has links.
-pub behind_on : (P : ℕ → ℕ → Type 0) (act : Act) (old new : Running) → IfPeer P act → ((conn id : ℕ) → P conn id → old.view.links ≡ true) → ConnsBehind act old new → ConnsOn old new
+pub behind_on : (P : ℕ → ℕ → Type 0) (act : Act) (old new : Running) → IfPeer P act → ((conn id : ℕ) → P conn id → old.view.links ≡ true) → StreamsAfterMessage act old new → StreamsClose old new
 behind_on P (acts.Reply conn messages) old new p links x = kept_on old new x
 behind_on P (acts.Propose conn entries) old new p links x = kept_on old new x
 behind_on P (acts.Lend conn job) old new p links x = kept_on old new x
@@ -387,7 +387,7 @@ behind_on P (acts.Peer conn id reply) old new p links x = record {
 }
 
 -- no connection leaves them
-pub behind_kept : (act : Act) (old new : Running) → IsNoPeer act → ConnsBehind act old new → KeepsConns old new
+pub behind_kept : (act : Act) (old new : Running) → IsNoPeer act → StreamsAfterMessage act old new → KeepsConns old new
 behind_kept (acts.Reply conn messages) old new p x = x
 behind_kept (acts.Propose conn entries) old new p x = x
 behind_kept (acts.Lend conn job) old new p x = x
@@ -396,8 +396,8 @@ behind_kept (acts.Peer conn id reply) old new p x = absurd p
 
 -- ---- a step
 
-pub step_conns : (event : Event) (old mid last new : Running) (outs : Outs) → old.outs.closed.items ≡ [] → old.heard ≡ None → ConnsBegin event old mid → ConnsOn mid last
-    → last.heard ≡ None → outs.closed.items ≡ last.outs.closed.items → clients_in new ≡ clients_in last → new.links ≡ last.links → new.view ≡ last.view → ConnsBy event old new outs
+pub step_conns : (event : Event) (old mid last new : Running) (outs : StepOutputs) → old.outs.closed.items ≡ [] → old.heard ≡ None → ConnsBegin event old mid → StreamsClose mid last
+    → last.heard ≡ None → outs.closed.items ≡ last.outs.closed.items → clients_in new ≡ clients_in last → new.links ≡ last.links → new.view ≡ last.view → StreamsOfStep event old new outs
 step_conns event old mid last new outs closed heard begun ran none said same links view = record {
   streams = λ conn. subst (λ (k : Clients). StreamOn (brought event conn ((clients_in old).streams conn)) (k.streams conn)) (sym same)
       (on_both (brought event conn ((clients_in old).streams conn)) ((clients_in mid).streams conn) ((clients_in last).streams conn) (begun.streams conn) (ran.streams conn));
@@ -410,9 +410,9 @@ step_conns event old mid last new outs closed heard begun ran none said same lin
 }
 
 -- of what a step that ended well says
-pub outs_conns : {F : Type 0} (r : Result Outs F) (event : Event) (old : Running) (replica : ReplicaValue) (mid last new : Running) → IsQuiet old → old.heard ≡ None
-    → ConnsBegin event (record old { replica = replica }) mid → ConnsOn mid last → last.heard ≡ None → new ≡ record last { outs = new.outs; mail = new.mail }
-    → IfOk r (λ outs. (outs.replies.items ≡ last.outs.replies.items) × (outs.closed.items ≡ last.outs.closed.items)) → IfOk r (λ outs. ConnsBy event old new outs)
+pub outs_conns : {F : Type 0} (r : Result StepOutputs F) (event : Event) (old : Running) (replica : ReplicaValue) (mid last new : Running) → IsQuiet old → old.heard ≡ None
+    → ConnsBegin event (record old { replica = replica }) mid → StreamsClose mid last → last.heard ≡ None → new ≡ record last { outs = new.outs; mail = new.mail }
+    → IfOk r (λ outs. (outs.replies.items ≡ last.outs.replies.items) × (outs.closed.items ≡ last.outs.closed.items)) → IfOk r (λ outs. StreamsOfStep event old new outs)
 outs_conns (Ok outs) event old replica mid last new quiet heard begun ran none rest said =
     let start : ConnsBegin event old mid = record { streams = begun.streams; closes = λ c h u. begun.closes c h (record { links = u.links; view = u.view }); lines = record { is = begun.lines.is; closed = begun.lines.closed } } in
     step_conns event old mid last new outs quiet.closed heard start ran none said.1 (ap clients_in rest) (ap (λ (n : Running). n.links) rest) (ap (λ (n : Running). n.view) rest)
@@ -423,7 +423,7 @@ outs_conns (Err f) event old replica mid last new quiet heard begun ran none res
 -- A message was taken, and what came of it was done.
 pub message_on : (c : EngineCall) (old mid new : Running) (refused refused_now : ℕ) (given : Option Act) (act : Act)
     → TookTurn c old.view (machine_of old.applied.machine) (clients_in old) refused refused_now (clients_in mid) given → given ≡ Some act
-    → mid.outs ≡ old.outs → mid.heard ≡ old.heard → mid.links ≡ old.links → mid.view ≡ old.view → ConnsBehind act mid new → ConnsOn old new
+    → mid.outs ≡ old.outs → mid.heard ≡ old.heard → mid.links ≡ old.links → mid.view ≡ old.view → StreamsAfterMessage act mid new → StreamsClose old new
 message_on c old mid new refused refused_now given act t is outs heard links view done =
     let x : TookOffer c old.view (machine_of old.applied.machine) (clients_in old) refused refused_now (clients_in mid) act =
     subst (TookTurn c old.view (machine_of old.applied.machine) (clients_in old) refused refused_now (clients_in mid)) is t in
@@ -441,7 +441,7 @@ idle_kept c old new refused refused_now given t is outs heard links view has_lin
     record {
       streams = ap (λ (k : Clients). k.streams) x.rest;
       heard = heard;
-      closed = ap (λ (o : Outs). o.closed.items) outs;
+      closed = ap (λ (o : StepOutputs). o.closed.items) outs;
       links = ap (λ l. l.all.items) links;
       view = ap (λ (v : View). v.links) view;
       id = ap (λ (v : View). v.id) view;
@@ -454,7 +454,7 @@ pub freed_kept : (old mid : Running) (sessions : Gateway) (conns : List ℕ) →
 freed_kept old mid sessions conns is outs heard links view has_links = record {
   streams = ap (λ (k : Clients). k.streams) is;
   heard = heard;
-  closed = ap (λ (o : Outs). o.closed.items) outs;
+  closed = ap (λ (o : StepOutputs). o.closed.items) outs;
   links = ap (λ l. l.all.items) links;
   view = ap (λ (v : View). v.links) view;
   id = ap (λ (v : View). v.id) view;
@@ -465,7 +465,7 @@ freed_kept old mid sessions conns is outs heard links view has_links = record {
 pub later_kept : (c : EngineCall) (old mid new : Running) (conn refused refused_now : ℕ) (given : Option Act) (act : Act)
     → Resumes c (scene old.view (machine_of old.applied.machine) (clients_in old).sessions conn) (later_query ((clients_in old).sessions.session conn).later) refused refused_now (clients_in mid).sessions given
     → clients_in mid ≡ freed (clients_in old) (clients_in mid).sessions (turn_for conn given) → given ≡ Some act
-    → mid.outs ≡ old.outs → mid.heard ≡ old.heard → mid.links ≡ old.links → mid.view ≡ old.view → mid.has_links ≡ old.has_links → ConnsBehind act mid new → KeepsConns old new
+    → mid.outs ≡ old.outs → mid.heard ≡ old.heard → mid.links ≡ old.links → mid.view ≡ old.view → mid.has_links ≡ old.has_links → StreamsAfterMessage act mid new → KeepsConns old new
 later_kept c old mid new conn refused refused_now given act t rest is outs heard links view has_links done =
     let g = (clients_in old).sessions in
     let o = later_query (g.session conn).later in
@@ -489,7 +489,7 @@ reads_reply g conn (Some statement) (Some reply) now given act x is =
 
 pub read_kept : (old mid new : Running) (conn : ℕ) (o : Option Statement) (r : Option Reply) (given : Option Act) (act : Act)
     → Finishes (clients_in old).sessions conn o r (clients_in mid).sessions given → clients_in mid ≡ freed (clients_in old) (clients_in mid).sessions (turn_for conn given) → given ≡ Some act
-    → mid.outs ≡ old.outs → mid.heard ≡ old.heard → mid.links ≡ old.links → mid.view ≡ old.view → mid.has_links ≡ old.has_links → ConnsBehind act mid new → KeepsConns old new
+    → mid.outs ≡ old.outs → mid.heard ≡ old.heard → mid.links ≡ old.links → mid.view ≡ old.view → mid.has_links ≡ old.has_links → StreamsAfterMessage act mid new → KeepsConns old new
 read_kept old mid new conn o r given act x rest is outs heard links view has_links done =
     kept_both old mid new (freed_kept old mid (clients_in mid).sessions (turn_for conn given) rest outs heard links view has_links)
     (behind_kept act mid new (reads_reply (clients_in old).sessions conn o r (clients_in mid).sessions given act x is) done)
@@ -513,14 +513,14 @@ some_letter x e = cc
 
 -- a node without links has none
 pub letter_on : {T : Type 0} (given : Option T) (letter : T) (old new : Running) → (old.links.all.items ≡ [] → given ≡ None) → given ≡ Some letter
-    → (clients_in new).streams ≡ (clients_in old).streams → ConnsOn old new
+    → (clients_in new).streams ≡ (clients_in old).streams → StreamsClose old new
 letter_on given letter old new none is streams = record {
   streams = same_streams (clients_in old).streams (clients_in new).streams streams;
   closes = λ u. absurd (some_letter letter (sym (none u.links) ∙ is));
 }
 
 -- or none waits on the others'
-pub none_letter : (old new : Running) → (old.links.all.items ≡ [] → new.links.all.items ≡ []) → clients_in new ≡ clients_in old → new.outs ≡ old.outs → new.heard ≡ old.heard → new.view ≡ old.view → ConnsOn old new
+pub none_letter : (old new : Running) → (old.links.all.items ≡ [] → new.links.all.items ≡ []) → clients_in new ≡ clients_in old → new.outs ≡ old.outs → new.heard ≡ old.heard → new.view ≡ old.view → StreamsClose old new
 none_letter old new links same outs heard view = record {
   streams = same_streams (clients_in old).streams (clients_in new).streams (ap (λ (k : Clients). k.streams) same);
   closes = λ u. (record { links = links u.links; view = ap (λ (v : View). v.links) view ∙ u.view }, λ i. (outs i).closed.items ++ close_on (heard i) (same i).streams);

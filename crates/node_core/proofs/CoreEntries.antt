@@ -5,50 +5,50 @@ use Rattle.std.specs.List.{list_all, slice_get}
 use Rattle.std.proofs.lemmas.Bool.{and_left, and_right, eqb-true, eq-eqb, ne_eqb}
 use Rattle.std.proofs.lemmas.List.{drop_at, length-append, length-replicate}
 use Rattle.dq_base.specs.declared.pages.PageSet.{PageSet}
-use Rattle.page_apply.specs.declared.database.Database.{Database}
-use Rattle.page_apply.specs.Databases.{named, tx_pending}
-use Rattle.page_apply.specs.Machines.{IsMachine, names_of}
-use Rattle.page_apply.specs.Snapshot.{snapshot_text}
-use Rattle.session_rules.specs.Entries.{Content, Does, Configures, Other, written}
-use Rattle.session_rules.specs.Machine.{base_of, machine_of, done}
-use Rattle.session_rules.specs.Seen.{entry_seen, log_seen}
-use Rattle.session_rules.proofs.Following.{machines_follow_hold}
+use Rattle.database_state.specs.declared.database.Database.{Database}
+use Rattle.database_state.specs.Databases.{named, tx_pending}
+use Rattle.database_state.specs.Machines.{IsMachine, names_of}
+use Rattle.database_state.specs.Snapshot.{snapshot_text}
+use Rattle.session_spec.specs.Entries.{Content, Does, Configures, Other, written}
+use Rattle.session_spec.specs.Machine.{base_of, machine_of, done}
+use Rattle.session_spec.specs.Seen.{entry_seen, log_seen}
+use Rattle.session_spec.proofs.Following.{machines_follow_hold}
 use Rattle.sql_engine.specs.declared.kind.EngineKind.{EngineKind}
 use Rattle.sql_engine.specs.Meanings.{Meaning, Told}
-use Rattle.gateway.specs.Later.{first_due}
+use Rattle.session_gateway.specs.Later.{first_due}
 use Rattle.client_sessions.specs.Calls.{landed_at, told_at, told_conns, sent}
 use Rattle.client_sessions.specs.Clients.{Clients}
 use Rattle.client_sessions.specs.Seen.{clients_of}
-use Rattle.raft_rules.specs.Compaction.{compacted}
-use Rattle.raft_rules.specs.Log.{Entry}
-use Rattle.raft_rules.specs.Node.{Node}
-use Rattle.raft_rules.specs.NodeValues.{NodeValue, node_of}
+use Rattle.raft_spec.specs.Compaction.{compacted}
+use Rattle.raft_spec.specs.Log.{Entry}
+use Rattle.raft_spec.specs.Node.{Node}
+use Rattle.raft_spec.specs.NodeValues.{NodeValue, node_of}
 use Rattle.raft_core.specs.declared.event.RaftEvent.{RaftEvent}
 use Rattle.raft_core.specs.declared.event.RaftEvent.TheVariants.{Propose}
-use Rattle.raft_member.specs.Members.{settled}
+use Rattle.raft_membership.specs.Members.{settled}
 use Rattle.raft_snapshot.specs.Compacting.{is_due}
-use Rattle.raft_vote.specs.declared.message.RaftMessage.{RaftMessage}
-use Rattle.raft_vote.specs.Servers.{servers_bytes}
+use Rattle.raft_messages.specs.declared.message.RaftMessage.{RaftMessage}
+use Rattle.raft_messages.specs.Servers.{servers_bytes}
 use Rattle.store_laws.specs.Store.{Snap}
-use Rattle.node_replica.specs.Letters.{Tells}
-use Rattle.node_replica.specs.Mails.{MailValue, all_posted}
-use Rattle.node_replica.specs.Replicas.{ReplicaValue, IsWhole, stepped, said, snapped, own_snap}
-use Rattle.node_state.specs.declared.applied.Applied.{Applied}
-use Rattle.node_state.specs.declared.effect.Effect.{Effect}
-use Rattle.node_state.specs.declared.effect.Effect.TheVariants as effects
-use Rattle.node_state.specs.declared.office.Office.{Office}
-use Rattle.node_state.specs.Applied.{databases_after, with_entry}
-use Rattle.node_state.specs.Content.{effect_of, effect_of_command}
-use Rattle.node_state.specs.Office.{owed, office_after, serves}
-use Rattle.node_state.specs.Snapshot.{contents_in}
-use Rattle.frame_commands.specs.declared.command.Command.{Command}
-use Rattle.frame_commands.specs.declared.command.Command.TheVariants.{OpenDb, Frames, Undo, Checkpoint}
+use Rattle.raft_on_disk.specs.Letters.{Tells}
+use Rattle.raft_on_disk.specs.Mails.{MailValue, all_posted}
+use Rattle.raft_on_disk.specs.Replicas.{ReplicaValue, IsWhole, stepped, said, snapped, own_snap}
+use Rattle.applied_state.specs.declared.applied.Applied.{Applied}
+use Rattle.applied_state.specs.declared.effect.AppliedEffect.{AppliedEffect}
+use Rattle.applied_state.specs.declared.effect.AppliedEffect.TheVariants as effects
+use Rattle.applied_state.specs.declared.leadership.Leadership.{Leadership}
+use Rattle.applied_state.specs.Applied.{databases_after, with_entry}
+use Rattle.applied_state.specs.Content.{effect_of, effect_of_command}
+use Rattle.applied_state.specs.Office.{owed, office_after, serves}
+use Rattle.applied_state.specs.Snapshot.{contents_in}
+use Rattle.log_commands.specs.declared.command.Command.{Command}
+use Rattle.log_commands.specs.declared.command.Command.TheVariants.{OpenDb, Frames, Undo, Checkpoint}
 use Rattle.node_core.specs.declared.running.Running.{Running}
 use Rattle.node_core.specs.Plain.{plain_gate}
 use Rattle.node_core.specs.Core.{Core, core_of, looked, showing_servers, entry_at, entered, shown, landing, entry_done, is_calm, none_due, is_settled, serving_from, giving, owing, duty_of, dutiful}
 use Rattle.node_core.specs.Exact as whole_turns
-use Rattle.node_core.specs.Exact.{LaterIf, EntryBy, MayCompact}
-use Rattle.node_core.specs.ExactParts.{Answered, TakesBy, entered_shown, CompactsIf}
+use Rattle.node_core.specs.Exact.{ExactWaitingQueries, ExactEntry, MayCompact}
+use Rattle.node_core.specs.ExactParts.{Answered, ExactTake, entered_shown, ExactCompactionIfDue}
 use Rattle.node_core.specs.Values.{clients_in}
 use Rattle.node_core.proofs.ApplyingTurns.{entry_read}
 use Rattle.node_core.proofs.PlainGates.{applied_plain, told_plain}
@@ -60,7 +60,7 @@ entry_made ds (Does command) stand = machines_follow_hold ds command stand
 entry_made ds (Configures servers) stand = refl
 entry_made ds Other stand = refl
 
-pub made_by_entry : {E : Type 0} (r : Result Effect E) (old new : Applied) (entry : Entry) → IsMachine old.machine → OnOk r (new ≡ with_entry old entry)
+pub made_by_entry : {E : Type 0} (r : Result AppliedEffect E) (old new : Applied) (entry : Entry) → IsMachine old.machine → OnOk r (new ≡ with_entry old entry)
     → OnOk r (machine_of new.machine ≡ done (machine_of old.machine) (entry_seen entry).content)
 made_by_entry (Ok effect) old new entry stand is = ap (λ (a : Applied). machine_of a.machine) is ∙ entry_made old.machine (entry_seen entry).content stand
 made_by_entry (Err fault) old new entry stand is = tt
@@ -118,9 +118,9 @@ entered_core old new entry applied files same members is =
     })
 
 -- Nothing else follows where no configuration was applied.
-pub takes_other : (old new : Running) (entry : Entry) (effect : Effect) → slice_get old.replica.raft.entries (old.applied.index - old.replica.raft.base) ≡ Some entry → effect ≡ effect_of (entry_seen entry).content → effect ≢ effects.Configured
+pub takes_other : (old new : Running) (entry : Entry) (effect : AppliedEffect) → slice_get old.replica.raft.entries (old.applied.index - old.replica.raft.base) ≡ Some entry → effect ≡ effect_of (entry_seen entry).content → effect ≢ effects.Configured
     → new.applied ≡ with_entry old.applied entry → machine_of new.applied.machine ≡ done (machine_of old.applied.machine) (entry_seen entry).content → clients_in new ≡ clients_in old
-    → new.members ≡ settled old.members (suc old.applied.index) → new ≡ record old { applied = new.applied; members = new.members } → TakesBy entered_shown (core_of old) (core_of new) effect
+    → new.members ≡ settled old.members (suc old.applied.index) → new ≡ record old { applied = new.applied; members = new.members } → ExactTake entered_shown (core_of old) (core_of new) effect
 takes_other old new entry effect is told apart applied files same members rest =
     let content = (entry_seen entry).content in
     record {
@@ -131,9 +131,9 @@ takes_other old new entry effect is told apart applied files same members rest =
     }
 
 -- the sessions see its servers where one was
-pub takes_servers : (old mid new : Running) (entry : Entry) (effect : Effect) → slice_get old.replica.raft.entries (old.applied.index - old.replica.raft.base) ≡ Some entry → effect ≡ effect_of (entry_seen entry).content → effect ≡ effects.Configured
+pub takes_servers : (old mid new : Running) (entry : Entry) (effect : AppliedEffect) → slice_get old.replica.raft.entries (old.applied.index - old.replica.raft.base) ≡ Some entry → effect ≡ effect_of (entry_seen entry).content → effect ≡ effects.Configured
     → mid.applied ≡ with_entry old.applied entry → machine_of mid.applied.machine ≡ done (machine_of old.applied.machine) (entry_seen entry).content → clients_in mid ≡ clients_in old
-    → mid.members ≡ settled old.members (suc old.applied.index) → mid ≡ record old { applied = mid.applied; members = mid.members } → core_of new ≡ showing_servers (core_of mid) → TakesBy entered_shown (core_of old) (core_of new) effect
+    → mid.members ≡ settled old.members (suc old.applied.index) → mid ≡ record old { applied = mid.applied; members = mid.members } → core_of new ≡ showing_servers (core_of mid) → ExactTake entered_shown (core_of old) (core_of new) effect
 takes_servers old mid new entry effect is told one applied files same members rest seen =
     let content = (entry_seen entry).content in
     record {
@@ -159,11 +159,11 @@ landed_core old new landed said closed files is =
       closed = closed i;
     })
 
-pub taken_and_told : (old mid new : Running) (effect : Effect) → TakesBy entered_shown (core_of old) (core_of mid) effect → core_of new ≡ landing (core_of mid) → TakesBy entry_done (core_of old) (core_of new) effect
+pub taken_and_told : (old mid new : Running) (effect : AppliedEffect) → ExactTake entered_shown (core_of old) (core_of mid) effect → core_of new ≡ landing (core_of mid) → ExactTake entry_done (core_of old) (core_of new) effect
 taken_and_told old mid new effect t land = record { entry = t.entry; is = t.is; told = t.told; by = land ∙ ap landing t.by }
 
-pub entry_by : (m : Meaning) (kind : EngineKind) (before now : Option Told) (old one two new : Running) (effect : Effect) → TakesBy entry_done (core_of old) (core_of one) effect
-    → Answered before now (LaterIf m kind (first_due (core_of one).sessions) (core_of one) (core_of two)) → core_of new ≡ dutiful effect (core_of two) → Answered before now (EntryBy m kind (core_of old) (core_of new))
+pub entry_by : (m : Meaning) (kind : EngineKind) (before now : Option Told) (old one two new : Running) (effect : AppliedEffect) → ExactTake entry_done (core_of old) (core_of one) effect
+    → Answered before now (ExactWaitingQueries m kind (first_due (core_of one).sessions) (core_of one) (core_of two)) → core_of new ≡ dutiful effect (core_of two) → Answered before now (ExactEntry m kind (core_of old) (core_of new))
 entry_by m kind before now old one two new effect t ran owes = record {
   answers = ran.answers;
   told = ran.told;
@@ -171,8 +171,8 @@ entry_by m kind before now old one two new effect t ran owes = record {
     entry = t.entry;
     is = t.is;
     last = core_of two;
-    runs = subst (λ (c : Core). LaterIf m kind (first_due c.sessions) c (core_of two) ran.answers) t.by ran.by;
-    owes = owes ∙ ap (λ (e : Effect). dutiful e (core_of two)) t.told;
+    runs = subst (λ (c : Core). ExactWaitingQueries m kind (first_due c.sessions) c (core_of two) ran.answers) t.by ran.by;
+    owes = owes ∙ ap (λ (e : AppliedEffect). dutiful e (core_of two)) t.told;
   };
 }
 
@@ -291,40 +291,40 @@ serves_now n may ready does off is so =
 
 -- ---- what a leader owes
 
-idle_duty : (o : Option Office) (effect : Effect) (w : Core) → o ≡ None → duty_of o effect w ≡ w
+idle_duty : (o : Option Leadership) (effect : AppliedEffect) (w : Core) → o ≡ None → duty_of o effect w ≡ w
 idle_duty None effect w e = refl
 idle_duty (Some office) effect w e = absurd cc
 
-pub duty_none : (n : Running) (effect : Effect) → n.office ≡ None → core_of n ≡ dutiful effect (core_of n)
+pub duty_none : (n : Running) (effect : AppliedEffect) → n.office ≡ None → core_of n ≡ dutiful effect (core_of n)
 unfolding core_of
 duty_none n effect none = sym (idle_duty n.office effect (core_of n) none)
 
 -- in its office, behind an entry
-office_core : (old mid : Running) (office : Office) → mid ≡ record old { office = Some office } → core_of mid ≡ record (core_of old) { office = Some office }
+office_core : (old mid : Running) (office : Leadership) → mid ≡ record old { office = Some office } → core_of mid ≡ record (core_of old) { office = Some office }
 unfolding core_of
 office_core old mid office set = ap core_of set
 
-owes_core : (old : Running) (office : Office) (effect : Effect) (rest : List Entry) → old.office ≡ Some office → rest ≡ drop old.applied.index (node_of old.replica.raft).log
+owes_core : (old : Running) (office : Leadership) (effect : AppliedEffect) (rest : List Entry) → old.office ≡ Some office → rest ≡ drop old.applied.index (node_of old.replica.raft).log
     → dutiful effect (core_of old) ≡ owing (office_after office old.applied.index (machine_of old.applied.machine)) (owed office.phase old.applied.index (machine_of old.applied.machine) effect (log_seen rest))
     (record (core_of old) { office = Some (office_after office old.applied.index (machine_of old.applied.machine)) })
 unfolding core_of
 owes_core old office effect rest is tail =
-    ap (λ (o : Option Office). duty_of o effect (core_of old)) is
+    ap (λ (o : Option Leadership). duty_of o effect (core_of old)) is
     ∙ ap (λ (es : List Entry). owing (office_after office old.applied.index (machine_of old.applied.machine)) (owed office.phase old.applied.index (machine_of old.applied.machine) effect (log_seen es))
     (record (core_of old) { office = Some (office_after office old.applied.index (machine_of old.applied.machine)) })) (sym tail)
 
-nothing_owed : (office : Office) (contents : List Content) (w : Core) → (length (written office.term contents) == 0) ≡ true → owing office contents w ≡ serving_from (serves office.phase) w
+nothing_owed : (office : Leadership) (contents : List Content) (w : Core) → (length (written office.term contents) == 0) ≡ true → owing office contents w ≡ serving_from (serves office.phase) w
 nothing_owed office [] w e = refl
 nothing_owed office (c ∷ cs) w e = absurd (cc (eqb-true (suc (length (written office.term cs))) 0 e))
 
-something_owed : (office : Office) (contents : List Content) (w : Core) → (length (written office.term contents) == 0) ≡ false → owing office contents w ≡ giving (Propose (written office.term contents)) w
+something_owed : (office : Leadership) (contents : List Content) (w : Core) → (length (written office.term contents) == 0) ≡ false → owing office contents w ≡ giving (Propose (written office.term contents)) w
 something_owed office [] w e = absurd (true≢false e)
 something_owed office (c ∷ cs) w e = refl
 
-module _ (old mid new : Running) (office : Office) (effect : Effect) (rest : List Entry) (entries : List Entry) (is : old.office ≡ Some office) (tail : rest ≡ drop old.applied.index (node_of old.replica.raft).log)
+module _ (old mid new : Running) (office : Leadership) (effect : AppliedEffect) (rest : List Entry) (entries : List Entry) (is : old.office ≡ Some office) (tail : rest ≡ drop old.applied.index (node_of old.replica.raft).log)
     (set : mid ≡ record old { office = Some (office_after office old.applied.index (machine_of old.applied.machine)) })
     (are : entries ≡ written office.term (owed office.phase old.applied.index (machine_of old.applied.machine) effect (log_seen rest))) where
-  abbrev later : Office
+  abbrev later : Leadership
   later = office_after office old.applied.index (machine_of old.applied.machine)
 
   abbrev owes : List Content
@@ -358,10 +358,10 @@ servers_core : (n : Running) → (core_of n).members.servers ≡ (core_of n).ser
 unfolding core_of
 servers_core n e = e
 
-pub none_due_yet : (n : Running) (due : Bool) → due ≡ is_due n.replica.raft.snapshot n.applied.index → due ≡ false → CompactsIf (core_of n) (core_of n) false
+pub none_due_yet : (n : Running) (due : Bool) → due ≡ is_due n.replica.raft.snapshot n.applied.index → due ≡ false → ExactCompactionIfDue (core_of n) (core_of n) false
 none_due_yet n due is off = ((λ may. true≢false (sym may.0 ∙ due_core n ∙ sym is ∙ off)), refl)
 
-pub servers_differ : (n : Running) → n.members.servers ≢ n.applied.servers → CompactsIf (core_of n) (core_of n) false
+pub servers_differ : (n : Running) → n.members.servers ≢ n.applied.servers → ExactCompactionIfDue (core_of n) (core_of n) false
 servers_differ n differ = ((λ may. differ (servers_core n may.1)), refl)
 
 may_compact : (n : Running) → is_due n.replica.raft.snapshot n.applied.index ≡ true → n.members.servers ≡ n.applied.servers → MayCompact (core_of n)
@@ -393,7 +393,7 @@ mail_core n = refl
 pub compacts_exact : (old new : Running) (r : ReplicaValue) (mail : MailValue) (bytes : List ℕ) (messages : List RaftMessage) (due : Bool) → IsWhole old.replica → due ≡ is_due old.replica.raft.snapshot old.applied.index → due ≡ true
     → old.members.servers ≡ old.applied.servers → bytes ≡ servers_bytes old.applied.servers ++ snapshot_text (contents_in (machine_of old.applied.machine)) → node_of r.raft ≡ stepped old.replica (snapped old.replica old.applied.index)
     → r.id ≡ old.replica.id → r.snap ≡ own_snap old.replica old.applied.index bytes → Tells (said old.replica (snapped old.replica old.applied.index)) r.snap messages → mail ≡ all_posted old.mail messages
-    → core_of new ≡ looked (core_of (record old { replica = r; mail = mail })) → CompactsIf (core_of old) (core_of new) true
+    → core_of new ≡ looked (core_of (record old { replica = r; mail = mail })) → ExactCompactionIfDue (core_of old) (core_of new) true
 compacts_exact old new r mail bytes messages due whole is_due_now is same text made id snap tells posted sees =
     let kept : r.snap ≡ whole_turns.own_snap (core_of old) = snap ∙ own_kept old bytes text in
     let out = own_said old whole.id in (

@@ -11,34 +11,34 @@ use Rattle.client_connection.specs.Connection.{Conn}
 use Rattle.sql_engine.specs.declared.kind.EngineKind.{EngineKind}
 use Rattle.sql_engine.specs.Meanings.{Meaning, Told}
 use Rattle.sql_engine.specs.Replies.{Statement}
-use Rattle.statement_runs.specs.Running.{TellsAll}
-use Rattle.statement_runs.proofs.Telling.{tells_none}
-use Rattle.session_rules.specs.Causes.{failure, unread_cause}
-use Rattle.session_rules.specs.Entries.{written}
-use Rattle.session_rules.specs.Machine.{Machine, machine_of}
-use Rattle.session_rules.specs.Requests.{with_session, without_later, affected_by, on_request, on_later}
-use Rattle.session_rules.specs.Sessions.{Gateway, View, Later, Due, Lent, HandsOver, JoinsPeer, Weighs, Turned, Refused, Lacks, Answers, Proposes, Lends, Affects, is_due, later_query, responses_of}
-use Rattle.gateway.specs.declared.act.Act.{Act as GatewayAct}
-use Rattle.gateway.specs.Calls.{Is}
-use Rattle.gateway.specs.Later.{first_due_in, first_due}
+use Rattle.session_statements.specs.Running.{TellsAll}
+use Rattle.session_statements.proofs.Telling.{tells_none}
+use Rattle.session_spec.specs.Causes.{failure, unread_cause}
+use Rattle.session_spec.specs.Entries.{written}
+use Rattle.session_spec.specs.Machine.{Machine, machine_of}
+use Rattle.session_spec.specs.Requests.{with_session, without_later, affected_by, on_request, on_later}
+use Rattle.session_spec.specs.Sessions.{Gateway, View, Later, Due, Lent, HandsOver, JoinsPeer, Weighs, Turned, Refused, Lacks, Answers, Proposes, Lends, Affects, is_due, later_query, responses_of}
+use Rattle.session_gateway.specs.declared.act.Act.{Act as GatewayAct}
+use Rattle.session_gateway.specs.Calls.{Is}
+use Rattle.session_gateway.specs.Later.{first_due_in, first_due}
 use Rattle.client_sessions.specs.declared.act.Act.{Act}
 use Rattle.client_sessions.specs.declared.act.Act.TheVariants as acts
-use Rattle.client_sessions.specs.declared.joining.Joining.{Joining}
-use Rattle.client_sessions.specs.declared.joining.Joining.TheVariants as joinings
+use Rattle.client_sessions.specs.declared.connect_result.ConnectResult.{ConnectResult}
+use Rattle.client_sessions.specs.declared.connect_result.ConnectResult.TheVariants as joinings
 use Rattle.client_sessions.specs.Calls.{call_of, scene, act_on, Comes, TookOffer, WasIdle, TookTurn}
 use Rattle.client_sessions.specs.Clients.{Clients, Offer, joining, joined, joined_as, without, hung_up, closing, closed, heard, heard_on, next_offer, taken, with_sessions, freed}
 use Rattle.client_sessions.specs.Seen.{clients_of}
 use Rattle.client_sessions.specs.Later.{RanLater, Resumes, turn_for}
 use Rattle.raft_core.specs.declared.event.RaftEvent.{RaftEvent}
 use Rattle.raft_core.specs.declared.event.RaftEvent.TheVariants as due
-use Rattle.node_core.specs.declared.outs.Outs.{Outs}
+use Rattle.node_core.specs.declared.outs.StepOutputs.{StepOutputs}
 use Rattle.node_core.specs.declared.running.Running.{Running}
 use Rattle.node_core.specs.declared.links.Link.{Link}
 use Rattle.node_core.specs.Carrying.{close_of, full_for, link_on}
 use Rattle.node_core.specs.Plain.{plain_session, plain_gate}
 use Rattle.node_core.specs.Core.{Core, core_of, clients_at, giving, replied, taking, idle, joined_by, heard_by, hearing, gone, gone_by, hanging_up, closed_for}
-use Rattle.node_core.specs.Exact.{TurnsTo, MessageBy, resuming, LaterBy, LaterIf, OnHeard}
-use Rattle.node_core.specs.ExactParts.{Answered, ResumesBy, PerformsBy, OfferIf, gone_for, ClosesBy}
+use Rattle.node_core.specs.Exact.{TurnsTo, ExactMessage, resuming, ExactWaitingQuery, ExactWaitingQueries, OnHeard}
+use Rattle.node_core.specs.ExactParts.{Answered, ExactResume, ExactPerform, ExactOffer, gone_for, ExactClose}
 use Rattle.node_core.specs.Values.{clients_in}
 use Rattle.node_core.proofs.PlainGates.{hangup_plain, connected_plain, joining_plain, with_plain, without_plain, due_plain, next_plain}
 
@@ -48,19 +48,19 @@ pub gave : (old new : Running) (event : RaftEvent) → new.due.items ≡ old.due
 unfolding core_of
 gave old new event more is = ap core_of is ∙ (λ i. record (core_of old) { due = more i })
 
-pub pushed : (old : Running) (outs : Outs) (more : List (ℕ × List ℕ)) → outs.replies.items ≡ old.outs.replies.items ++ more → outs.closed.items ≡ old.outs.closed.items
+pub pushed : (old : Running) (outs : StepOutputs) (more : List (ℕ × List ℕ)) → outs.replies.items ≡ old.outs.replies.items ++ more → outs.closed.items ≡ old.outs.closed.items
     → core_of (record old { outs = outs }) ≡ record (core_of old) { replies = (core_of old).replies ++ more }
 unfolding core_of
 pushed old outs more said stays = λ i. record (core_of old) { replies = said i; closed = stays i }
 
 -- what came of a message is done, by what it came to
-pub performed : (act other : Act) (w v : Core) → act ≡ other → PerformsBy other w v → PerformsBy act w v
-performed act other w v is done = subst (λ (a : Act). PerformsBy a w v) (sym is) done
+pub performed : (act other : Act) (w v : Core) → act ≡ other → ExactPerform other w v → ExactPerform act w v
+performed act other w v is done = subst (λ (a : Act). ExactPerform a w v) (sym is) done
 
 -- a leadership is handed over behind the reply
-pub transferred : (old : Running) (outs : Outs) (new : Running) (act : Act) (conn to : ℕ) (reply : List ℕ) → act ≡ acts.Transfer conn to reply
+pub transferred : (old : Running) (outs : StepOutputs) (new : Running) (act : Act) (conn to : ℕ) (reply : List ℕ) → act ≡ acts.Transfer conn to reply
     → outs.replies.items ≡ old.outs.replies.items ++ (conn, reply) ∷ [] → outs.closed.items ≡ old.outs.closed.items
-    → core_of new ≡ giving (due.Transfer to) (core_of (record old { outs = outs })) → PerformsBy act (core_of old) (core_of new)
+    → core_of new ≡ giving (due.Transfer to) (core_of (record old { outs = outs })) → ExactPerform act (core_of old) (core_of new)
 transferred old outs new act conn to reply is said stays gives =
     performed act (acts.Transfer conn to reply) (core_of old) (core_of new) is (gives ∙ ap (giving (due.Transfer to)) (pushed old outs ((conn, reply) ∷ []) said stays))
 
@@ -71,10 +71,10 @@ module _ (conn : ℕ) (v : View) (g now : Gateway) (decided : GatewayAct) (act :
   abbrev behind : Core
   behind = record w { sessions = plain_gate now }
 
-  by_act : (other : GatewayAct) → act ≡ act_on conn decided → decided ≡ other → PerformsBy act behind x → PerformsBy (act_on conn other) behind x
-  by_act other on is done = subst (λ (a : Act). PerformsBy a behind x) (on ∙ ap (act_on conn) is) done
+  by_act : (other : GatewayAct) → act ≡ act_on conn decided → decided ≡ other → ExactPerform act behind x → ExactPerform (act_on conn other) behind x
+  by_act other on is done = subst (λ (a : Act). ExactPerform a behind x) (on ∙ ap (act_on conn) is) done
 
-  pub turned : (t : Turned) → Is v g conn t now decided → act ≡ act_on conn decided → PerformsBy act behind x → TurnsTo conn t w x
+  pub turned : (t : Turned) → Is v g conn t now decided → act ≡ act_on conn decided → ExactPerform act behind x → TurnsTo conn t w x
   turned (Refused cause) is on done =
       by_act _ on is.1 done ∙ (λ i. replied conn (failure cause ∷ []) (record w { sessions = (ap plain_gate is.0 ∙ sym gate) i }))
   turned Lacks is on done = is
@@ -117,11 +117,11 @@ idle_core old mid is files rest = ap core_of is ∙ (λ i. record (core_of old) 
 told_none : (before now : Option Told) → now ≡ before → TellsAll [] before now
 told_none before now same = subst (λ (t : Option Told). TellsAll [] before t) (sym same) (tells_none before)
 
-module _ (m : Meaning) (kind : EngineKind) (before now : Option Told) (refused refused_now : ℕ) (old mid new : Running) (act : Act) (done : PerformsBy act (core_of mid) (core_of new)) where
+module _ (m : Meaning) (kind : EngineKind) (before now : Option Told) (refused refused_now : ℕ) (old mid new : Running) (act : Act) (done : ExactPerform act (core_of mid) (core_of new)) where
   -- a message of a connection, which came to this
   came_by : (offer : Offer) (r : Result Request MsgFault) → core_of mid ≡ record (taking offer (core_of old)) { sessions = plain_gate (clients_in mid).sessions }
       → Comes (call_of m kind before now) (scene old.view (machine_of old.applied.machine) (clients_in old).sessions offer.conn) r refused refused_now (clients_in mid).sessions act
-      → Answered before now (MessageBy m kind offer.conn r (taking offer (core_of old)) (core_of new))
+      → Answered before now (ExactMessage m kind offer.conn r (taking offer (core_of old)) (core_of new))
   unfolding core_of
   came_by offer (Ok request) is x = record {
     answers = x.turned.answers;
@@ -132,14 +132,14 @@ module _ (m : Meaning) (kind : EngineKind) (before now : Option Told) (refused r
       allowed = x.turned.allowed;
       exact = x.turned.exact;
       to = turned offer.conn old.view (clients_in old).sessions (clients_in mid).sessions x.gateway_act act (taking offer (core_of old)) (core_of new) refl refl
-          (on_request old.view (machine_of old.applied.machine) (clients_in old).sessions offer.conn request x.turned.answers) x.turned.is x.act_is (subst (λ (c : Core). PerformsBy act c (core_of new)) is done);
+          (on_request old.view (machine_of old.applied.machine) (clients_in old).sessions offer.conn request x.turned.answers) x.turned.is x.act_is (subst (λ (c : Core). ExactPerform act c (core_of new)) is done);
     };
   }
   came_by offer (Err fault) is x =
       let w = taking offer (core_of old) in
-      let d : PerformsBy act (record w { sessions = plain_gate (clients_in mid).sessions }) (core_of new) = subst (λ (c : Core). PerformsBy act c (core_of new)) is done in
+      let d : ExactPerform act (record w { sessions = plain_gate (clients_in mid).sessions }) (core_of new) = subst (λ (c : Core). ExactPerform act c (core_of new)) is done in
       let e : core_of new ≡ replied offer.conn (failure (unread_cause fault) ∷ []) (record w { sessions = plain_gate (clients_in mid).sessions }) =
-      subst (λ (a : Act). PerformsBy a (record w { sessions = plain_gate (clients_in mid).sessions }) (core_of new)) x.act_is d in
+      subst (λ (a : Act). ExactPerform a (record w { sessions = plain_gate (clients_in mid).sessions }) (core_of new)) x.act_is d in
       record {
         answers = [];
         told = told_none before now x.untold;
@@ -148,13 +148,13 @@ module _ (m : Meaning) (kind : EngineKind) (before now : Option Told) (refused r
 
   -- the first message in turn was taken
   took_by : Moved old mid → KeepsFiles old mid → TookOffer (call_of m kind before now) old.view (machine_of old.applied.machine) (clients_in old) refused refused_now (clients_in mid) act
-      → Answered before now (OfferIf m kind (next_offer (clients_at (core_of old))) (core_of old) (core_of new))
+      → Answered before now (ExactOffer m kind (next_offer (clients_at (core_of old))) (core_of old) (core_of new))
   took_by is files x =
-      subst (λ (o : Option Offer). Answered before now (OfferIf m kind o (core_of old) (core_of new))) (sym (offers_plain old ∙ x.next))
+      subst (λ (o : Option Offer). Answered before now (ExactOffer m kind o (core_of old) (core_of new))) (sym (offers_plain old ∙ x.next))
       (came_by x.offer (request_of x.offer.message) (took_core old mid x.offer is files x.rest) x.came)
 
   pub message_by : Moved old mid → KeepsFiles old mid → (given : Option Act) → TookTurn (call_of m kind before now) old.view (machine_of old.applied.machine) (clients_in old) refused refused_now (clients_in mid) given → given ≡ Some act
-      → Answered before now (OfferIf m kind (next_offer (clients_at (core_of old))) (core_of old) (core_of new))
+      → Answered before now (ExactOffer m kind (next_offer (clients_at (core_of old))) (core_of old) (core_of new))
   message_by is files given t e =
       took_by is files (subst (TookTurn (call_of m kind before now) old.view (machine_of old.applied.machine) (clients_in old) refused refused_now (clients_in mid)) e t)
 
@@ -170,10 +170,10 @@ offers_so m kind before now refused refused_now old mid given wanted t e =
 
 pub idle_by : (m : Meaning) (kind : EngineKind) (before now : Option Told) (refused refused_now : ℕ) (old mid : Running) (given : Option Act) → Moved old mid → KeepsFiles old mid
     → TookTurn (call_of m kind before now) old.view (machine_of old.applied.machine) (clients_in old) refused refused_now (clients_in mid) given → given ≡ None
-    → Answered before now (OfferIf m kind (next_offer (clients_at (core_of old))) (core_of old) (core_of mid))
+    → Answered before now (ExactOffer m kind (next_offer (clients_at (core_of old))) (core_of old) (core_of mid))
 idle_by m kind before now refused refused_now old mid given is files t e =
     let x : WasIdle (clients_in old) before now (clients_in mid) = subst (TookTurn (call_of m kind before now) old.view (machine_of old.applied.machine) (clients_in old) refused refused_now (clients_in mid)) e t in
-    subst (λ (o : Option Offer). Answered before now (OfferIf m kind o (core_of old) (core_of mid))) (sym (offers_plain old ∙ x.none))
+    subst (λ (o : Option Offer). Answered before now (ExactOffer m kind o (core_of old) (core_of mid))) (sym (offers_plain old ∙ x.none))
     (record { answers = []; told = told_none before now x.untold; by = (idle_core old mid is files x.rest, refl) })
 
 -- ---- a query that is run later
@@ -193,8 +193,8 @@ module _ (m : Meaning) (kind : EngineKind) (before now : Option Told) (refused r
   Given query given = Resumes (call_of m kind before now) (scene old.view (machine_of old.applied.machine) (clients_in old).sessions conn) query refused refused_now (clients_in mid).sessions given
 
   ran_by : (new : Running) (act : Act) (statement : Statement) → later_query ((clients_in old).sessions.session conn).later ≡ Some statement → core_of mid ≡ record (resuming conn (core_of old)) { sessions = plain_gate (clients_in mid).sessions }
-      → RanLater (call_of m kind before now) (scene old.view (machine_of old.applied.machine) (clients_in old).sessions conn) statement refused refused_now (clients_in mid).sessions act → PerformsBy act (core_of mid) (core_of new)
-      → Answered before now (LaterBy m kind conn (core_of old) (core_of new))
+      → RanLater (call_of m kind before now) (scene old.view (machine_of old.applied.machine) (clients_in old).sessions conn) statement refused refused_now (clients_in mid).sessions act → ExactPerform act (core_of mid) (core_of new)
+      → Answered before now (ExactWaitingQuery m kind conn (core_of old) (core_of new))
   unfolding core_of
   ran_by new act statement later is x done = record {
     answers = x.ran.answers;
@@ -208,33 +208,33 @@ module _ (m : Meaning) (kind : EngineKind) (before now : Option Told) (refused r
       exact = x.ran.exact;
       to = turned conn old.view (without_later (clients_in old).sessions conn) (clients_in mid).sessions x.gateway_act act (resuming conn (core_of old)) (core_of new) (sym (without_plain (clients_in old).sessions conn)) refl
           (on_later old.view (machine_of old.applied.machine) (without_later (clients_in old).sessions conn) conn statement x.ran.answers) x.ran.is x.act_is
-          (subst (λ (c : Core). PerformsBy act c (core_of new)) is done);
+          (subst (λ (c : Core). ExactPerform act c (core_of new)) is done);
     };
   }
 
-  as_resumed : (new : Running) → Answered before now (LaterBy m kind conn (core_of old) (core_of new)) → Answered before now (ResumesBy m kind conn (core_of old) (core_of new))
+  as_resumed : (new : Running) → Answered before now (ExactWaitingQuery m kind conn (core_of old) (core_of new)) → Answered before now (ExactResume m kind conn (core_of old) (core_of new))
   as_resumed new a = record { answers = a.answers; told = a.told; by = inl a.by }
 
   by_query : (new : Running) (act : Act) (query : Option Statement) → later_query ((clients_in old).sessions.session conn).later ≡ query → core_of mid ≡ record (resuming conn (core_of old)) { sessions = plain_gate (clients_in mid).sessions }
-      → Given query (Some act) → PerformsBy act (core_of mid) (core_of new) → Answered before now (ResumesBy m kind conn (core_of old) (core_of new))
+      → Given query (Some act) → ExactPerform act (core_of mid) (core_of new) → Answered before now (ExactResume m kind conn (core_of old) (core_of new))
   by_query new act None later is x done = absurd x
   by_query new act (Some statement) later is x done = as_resumed new (ran_by new act statement later is x done)
 
   pub later_by : (new : Running) (act : Act) (given : Option Act) → Moved old mid → KeepsFiles old mid → Given (later_query ((clients_in old).sessions.session conn).later) given
-      → clients_in mid ≡ freed (clients_in old) (clients_in mid).sessions (turn_for conn given) → given ≡ Some act → PerformsBy act (core_of mid) (core_of new) → Answered before now (ResumesBy m kind conn (core_of old) (core_of new))
+      → clients_in mid ≡ freed (clients_in old) (clients_in mid).sessions (turn_for conn given) → given ≡ Some act → ExactPerform act (core_of mid) (core_of new) → Answered before now (ExactResume m kind conn (core_of old) (core_of new))
   later_by new act given is files x rest e done =
       by_query new act (later_query ((clients_in old).sessions.session conn).later) refl
       (resumed_core old mid conn is files (subst (λ (g : Option Act). clients_in mid ≡ freed (clients_in old) (clients_in mid).sessions (turn_for conn g)) e rest))
       (subst (Given (later_query ((clients_in old).sessions.session conn).later)) e x) done
 
   none_query : (query : Option Statement) → later_query ((clients_in old).sessions.session conn).later ≡ query → Moved old mid → KeepsFiles old mid → clients_in mid ≡ freed (clients_in old) (clients_in mid).sessions [] → Given query None
-      → Answered before now (ResumesBy m kind conn (core_of old) (core_of mid))
+      → Answered before now (ExactResume m kind conn (core_of old) (core_of mid))
   unfolding core_of
   none_query None later is files rest x = record { answers = []; told = told_none before now (sym x.1); by = inr (later, (unmoved_core old mid is files rest x.0, refl)) }
   none_query (Some statement) later is files rest x = absurd x
 
   pub no_later : (given : Option Act) → Moved old mid → KeepsFiles old mid → Given (later_query ((clients_in old).sessions.session conn).later) given
-      → clients_in mid ≡ freed (clients_in old) (clients_in mid).sessions (turn_for conn given) → given ≡ None → Answered before now (ResumesBy m kind conn (core_of old) (core_of mid))
+      → clients_in mid ≡ freed (clients_in old) (clients_in mid).sessions (turn_for conn given) → given ≡ None → Answered before now (ExactResume m kind conn (core_of old) (core_of mid))
   no_later given is files x rest e =
       none_query (later_query ((clients_in old).sessions.session conn).later) refl is files
       (subst (λ (g : Option Act). clients_in mid ≡ freed (clients_in old) (clients_in mid).sessions (turn_for conn g)) e rest)
@@ -283,26 +283,26 @@ pub none_found : (n : Running) (result : Option ℕ) → MatchOption result ((ot
 none_found n None found e = due_core n ∙ none_first (clients_in n).sessions (clients_in n).sessions.conns found
 none_found n (Some other) found e = absurd cc
 
-pub due_by : (m : Meaning) (kind : EngineKind) (before now : Option Told) (old new : Running) (conn : ℕ) → first_due (core_of old).sessions ≡ Some conn → Answered before now (ResumesBy m kind conn (core_of old) (core_of new))
-    → Answered before now (LaterIf m kind (first_due (core_of old).sessions) (core_of old) (core_of new))
+pub due_by : (m : Meaning) (kind : EngineKind) (before now : Option Told) (old new : Running) (conn : ℕ) → first_due (core_of old).sessions ≡ Some conn → Answered before now (ExactResume m kind conn (core_of old) (core_of new))
+    → Answered before now (ExactWaitingQueries m kind (first_due (core_of old).sessions) (core_of old) (core_of new))
 due_by m kind before now old new conn first a =
-    subst (λ (o : Option ℕ). Answered before now (LaterIf m kind o (core_of old) (core_of new))) (sym first) (record { answers = a.answers; told = a.told; by = by a.by })
+    subst (λ (o : Option ℕ). Answered before now (ExactWaitingQueries m kind o (core_of old) (core_of new))) (sym first) (record { answers = a.answers; told = a.told; by = by a.by })
   where
     there : is_due ((core_of old).sessions.session conn).later ≡ true
     there = first_is_due (core_of old).sessions (core_of old).sessions.conns conn first
 
-    by : ResumesBy m kind conn (core_of old) (core_of new) a.answers → LaterBy m kind conn (core_of old) (core_of new) a.answers
+    by : ExactResume m kind conn (core_of old) (core_of new) a.answers → ExactWaitingQuery m kind conn (core_of old) (core_of new) a.answers
     by (inl x) = x
     by (inr x) = absurd (no_query ((core_of old).sessions.session conn).later there x.0)
 
 pub none_due_by : (m : Meaning) (kind : EngineKind) (told : Option Told) (old : Running) → first_due (core_of old).sessions ≡ None
-    → Answered told told (LaterIf m kind (first_due (core_of old).sessions) (core_of old) (core_of old))
+    → Answered told told (ExactWaitingQueries m kind (first_due (core_of old).sessions) (core_of old) (core_of old))
 none_due_by m kind told old none =
-    subst (λ (o : Option ℕ). Answered told told (LaterIf m kind o (core_of old) (core_of old))) (sym none) (record { answers = []; told = tells_none told; by = (refl, refl) })
+    subst (λ (o : Option ℕ). Answered told told (ExactWaitingQueries m kind o (core_of old) (core_of old))) (sym none) (record { answers = []; told = tells_none told; by = (refl, refl) })
 
 -- ---- connections
 
-came_core : (old new : Running) (conn : ℕ) (how : Joining) → clients_in new ≡ joined_as (clients_in old) conn how → new.outs.closed.items ≡ old.outs.closed.items ++ full_for conn how → new.outs.replies.items ≡ old.outs.replies.items
+came_core : (old new : Running) (conn : ℕ) (how : ConnectResult) → clients_in new ≡ joined_as (clients_in old) conn how → new.outs.closed.items ≡ old.outs.closed.items ++ full_for conn how → new.outs.replies.items ≡ old.outs.replies.items
     → new ≡ record old { clients = new.clients; outs = new.outs } → core_of new ≡ joined_by how conn (core_of old)
 unfolding core_of
 came_core old new conn joinings.Joined joined closed said same =
@@ -322,14 +322,14 @@ came_core old new conn joinings.Taken joined closed said same =
     let j : clients_of new.clients old.applied.machine ≡ clients_in old = sym (ap clients_in same) ∙ joined in
     ap core_of same ∙ (λ i. record (core_of old) { sessions = plain_gate (j i).sessions; streams = (j i).streams; turns = (j i).turns; closed = (closed ∙ append-nil old.outs.closed.items) i; replies = said i })
 
-how_core : (old : Running) (conn : ℕ) (how : Joining) → how ≡ joining (clients_in old).sessions conn → how ≡ joining (core_of old).sessions conn
+how_core : (old : Running) (conn : ℕ) (how : ConnectResult) → how ≡ joining (clients_in old).sessions conn → how ≡ joining (core_of old).sessions conn
 unfolding core_of
 how_core old conn how is = is ∙ sym (joining_plain (clients_in old).sessions conn)
 
-pub comes_exact : (old new : Running) (conn : ℕ) (how : Joining) → clients_in new ≡ joined (clients_in old) conn → how ≡ joining (clients_in old).sessions conn → new.outs.closed.items ≡ old.outs.closed.items ++ full_for conn how
+pub comes_exact : (old new : Running) (conn : ℕ) (how : ConnectResult) → clients_in new ≡ joined (clients_in old) conn → how ≡ joining (clients_in old).sessions conn → new.outs.closed.items ≡ old.outs.closed.items ++ full_for conn how
     → new.outs.replies.items ≡ old.outs.replies.items → new ≡ record old { clients = new.clients; outs = new.outs } → core_of new ≡ joined_by (joining (core_of old).sessions conn) conn (core_of old)
 comes_exact old new conn how came told closed said same =
-    came_core old new conn how (came ∙ ap (joined_as (clients_in old) conn) (sym told)) closed said same ∙ ap (λ (h : Joining). joined_by h conn (core_of old)) (how_core old conn how told)
+    came_core old new conn how (came ∙ ap (joined_as (clients_in old) conn) (sym told)) closed said same ∙ ap (λ (h : ConnectResult). joined_by h conn (core_of old)) (how_core old conn how told)
 
 -- a node without links has no connection that carries a peer's messages
 links_core : (n : Running) → (core_of n).links ≡ [] → n.links.all.items ≡ []
@@ -436,14 +436,14 @@ unfolding core_of
 why_core old conn reason told = told
 
 pub closes_exact : (old new : Running) (conn : ℕ) (reason : Option CloseReason) → clients_in new ≡ closed (clients_in old) conn → reason ≡ closing ((clients_in old).streams conn) → KeepsFiles old new
-    → new ≡ record old { clients = new.clients; applied = record old.applied { machine = new.applied.machine } } → ClosesBy conn reason (core_of old) (core_of new)
+    → new ≡ record old { clients = new.clients; applied = record old.applied { machine = new.applied.machine } } → ExactClose conn reason (core_of old) (core_of new)
 closes_exact old new conn reason left told files same = record {
   why = why_core old conn reason told;
   by = closed_core old new conn reason (closed_as (clients_in old) (clients_in new) conn reason left told) files same;
 }
 
 pub link_exact : (old new : Running) (conn : ℕ) (reason : Option CloseReason) (has : Bool) → has ≡ is_some (link_on conn old.links.all.items) → has ≡ true → (core_of old).links ≡ []
-    → ClosesBy conn reason (core_of old) (core_of new)
+    → ExactClose conn reason (core_of old) (core_of new)
 link_exact old new conn reason has told is links = absurd (true≢false (sym is ∙ none_carried old.links.all.items conn has told (links_core old links)))
 
 -- what was closed is said
@@ -476,7 +476,7 @@ unfolding core_of
 heard_is n = refl
 
 pub heard_closes : (old mid new : Running) (conn : ℕ) (reason : Option CloseReason) → old.heard ≡ Some conn
-    → ((core_of (record old { heard = None })).links ≡ [] → ClosesBy conn reason (core_of (record old { heard = None })) (core_of mid))
+    → ((core_of (record old { heard = None })).links ≡ [] → ExactClose conn reason (core_of (record old { heard = None })) (core_of mid))
     → new.outs.closed.items ≡ mid.outs.closed.items ++ close_of conn reason → new.outs.replies.items ≡ mid.outs.replies.items → new ≡ record mid { outs = new.outs }
     → (core_of old).links ≡ [] → OnHeard (core_of old).heard (core_of old) (core_of new) true
 heard_closes old mid new conn reason was closes closed said same links =

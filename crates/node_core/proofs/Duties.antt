@@ -5,34 +5,34 @@ use Rattle.std.specs.List.{AllByRecursion}
 use Rattle.std.proofs.lemmas.Bool.{cond_both, cases_Bool}
 use Rattle.std.proofs.lemmas.List.{take_all, take_more}
 use Rattle.dq_base.specs.declared.pages.PageSet.{PageSet}
-use Rattle.frame_commands.specs.declared.command.Command.TheVariants.{Checkpoint}
-use Rattle.page_apply.specs.declared.database.Database.{Database}
-use Rattle.page_apply.specs.Databases.{named, tx_pending}
-use Rattle.page_apply.specs.Machines.{IsMachine, names_of}
-use Rattle.session_rules.specs.Entries.{Content, Does, Entry as Line, written}
-use Rattle.session_rules.specs.Machine.{Machine, base_of, machine_of, is_named}
-use Rattle.session_rules.specs.Seen.{HasSpelling}
-use Rattle.session_rules.proofs.Names.{name_is}
-use Rattle.session_world.specs.Life.{ArePlain}
-use Rattle.session_world.specs.Logs.{with_undo, undos_for, undos}
-use Rattle.raft_rules.specs.Log.{Entry}
-use Rattle.raft_rules.specs.Node.{is_leader}
-use Rattle.raft_rules.specs.NodeValues.{node_of}
+use Rattle.log_commands.specs.declared.command.Command.TheVariants.{Checkpoint}
+use Rattle.database_state.specs.declared.database.Database.{Database}
+use Rattle.database_state.specs.Databases.{named, tx_pending}
+use Rattle.database_state.specs.Machines.{IsMachine, names_of}
+use Rattle.session_spec.specs.Entries.{Content, Does, Entry as Line, written}
+use Rattle.session_spec.specs.Machine.{Machine, base_of, machine_of, is_named}
+use Rattle.session_spec.specs.Seen.{HasSpelling}
+use Rattle.session_spec.proofs.Names.{name_is}
+use Rattle.session_safety.specs.Life.{ArePlain}
+use Rattle.session_safety.specs.Logs.{with_undo, undos_for, undos}
+use Rattle.raft_spec.specs.Log.{Entry}
+use Rattle.raft_spec.specs.Node.{is_leader}
+use Rattle.raft_spec.specs.NodeValues.{node_of}
 use Rattle.raft_core.specs.declared.event.RaftEvent.TheVariants.{Propose}
 use Rattle.client_sessions.specs.declared.clients.Clients.{Clients as Held}
 use Rattle.client_sessions.specs.Clients.{Clients}
 use Rattle.client_sessions.specs.Seen.{clients_of}
-use Rattle.node_state.specs.declared.applied.Applied.{Applied}
-use Rattle.node_state.specs.declared.effect.Effect.{Effect}
-use Rattle.node_state.specs.declared.effect.Effect.TheVariants as effect
-use Rattle.node_state.specs.declared.office.Office.{Office}
-use Rattle.node_state.specs.declared.office.Phase.{Phase}
-use Rattle.node_state.specs.declared.office.Phase.TheVariants.{Barrier, Undos, Serving}
-use Rattle.node_state.specs.Office.{owed, phase_after, office_after, checkpoint_behind, serves}
-use Rattle.node_replica.specs.Replicas.{ReplicaValue, kept_of}
+use Rattle.applied_state.specs.declared.applied.Applied.{Applied}
+use Rattle.applied_state.specs.declared.effect.AppliedEffect.{AppliedEffect}
+use Rattle.applied_state.specs.declared.effect.AppliedEffect.TheVariants as effect
+use Rattle.applied_state.specs.declared.leadership.Leadership.{Leadership}
+use Rattle.applied_state.specs.declared.leadership.LeadershipPhase.{LeadershipPhase}
+use Rattle.applied_state.specs.declared.leadership.LeadershipPhase.TheVariants.{Barrier, Undos, Serving}
+use Rattle.applied_state.specs.Office.{owed, phase_after, office_after, checkpoint_behind, serves}
+use Rattle.raft_on_disk.specs.Replicas.{ReplicaValue, kept_of}
 use Rattle.node_core.specs.declared.running.Running.{Running}
 use Rattle.node_core.specs.Account.{proposals_in, moment_of}
-use Rattle.node_core.specs.Duties.{IsCalm, IsSettled, ServesFrom, DutySo}
+use Rattle.node_core.specs.Duties.{IsCalm, IsSettled, ServesFrom, PerformsDuty}
 use Rattle.node_core.specs.Values.{clients_in, waiting_on}
 use Rattle.node_core.specs.Whole.{InOffice, LeadsInOffice, ServesLast, IsFree, IsGoing, IsLed}
 use Rattle.node_core.proofs.ClientMoves.{stays_so}
@@ -105,19 +105,19 @@ undos_plain serving m idle = go m.names
     go [] = tt
     go (n ∷ names) = plain_with serving (m.base n).pending (undos_for m names) idle (go names)
 
-checkpoints_plain : (serving : Bool) (m : Machine) (what : Effect) (waiting : List Line) → ArePlain serving (checkpoint_behind m what waiting)
+checkpoints_plain : (serving : Bool) (m : Machine) (what : AppliedEffect) (waiting : List Line) → ArePlain serving (checkpoint_behind m what waiting)
 checkpoints_plain serving m (effect.Committed name) waiting = cond_both _ (Does (Checkpoint name) ∷ []) [] (ArePlain serving) (λ e. (tt, tt)) (λ e. tt)
 checkpoints_plain serving m effect.Configured waiting = tt
 checkpoints_plain serving m effect.Other waiting = tt
 
 -- what is owed has no pages, where a leader serves in its last phase only
-owed_plain : (serving : Bool) (phase : Phase) (index : ℕ) (m : Machine) (what : Effect) (waiting : List Line) → (serves phase ≡ false → serving ≡ false) → ArePlain serving (owed phase index m what waiting)
+owed_plain : (serving : Bool) (phase : LeadershipPhase) (index : ℕ) (m : Machine) (what : AppliedEffect) (waiting : List Line) → (serves phase ≡ false → serving ≡ false) → ArePlain serving (owed phase index m what waiting)
 owed_plain serving (Barrier barrier) index m what waiting last = cond_both (index == barrier) (undos m) [] (ArePlain serving) (λ e. undos_plain serving m (last refl)) (λ e. tt)
 owed_plain serving (Undos end) index m what waiting last = tt
 owed_plain serving Serving index m what waiting last = checkpoints_plain serving m what waiting
 
 -- who serves in its office goes on
-serves_on : (phase : Phase) (index : ℕ) (m : Machine) → serves (phase_after phase index m) ≡ false → serves phase ≡ false
+serves_on : (phase : LeadershipPhase) (index : ℕ) (m : Machine) → serves (phase_after phase index m) ≡ false → serves phase ≡ false
 serves_on (Barrier barrier) index m e = refl
 serves_on (Undos end) index m e = refl
 serves_on Serving index m e = absurd cc
@@ -143,11 +143,11 @@ module _ (old new : Running) (keeps : KeepsMost old new) (stands : IsMachine old
   files_stay : machine_of new.applied.machine ≡ machine_of old.applied.machine
   files_stay = ap (λ (a : Applied). machine_of a.machine) keeps.applied
 
-  pub does_nothing : new.view.serving ≡ old.view.serving → proposals_in new.due.items ≡ proposals_in old.due.items → DutySo old new
+  pub does_nothing : new.view.serving ≡ old.view.serving → proposals_in new.due.items ≡ proposals_in old.due.items → PerformsDuty old new
   does_nothing serving due =
       inl (stays_so old new (record { replica = keeps.replica; index = index_stays; serving = serving; due = due; machine = stands_on; files = files_stay }) clients_stay)
 
-  pub begins_service : is_leader old.replica.raft.role ≡ true → old.view.last ≡ length (node_of old.replica.raft).log → IsSettled old → new.view.serving ≡ true → proposals_in new.due.items ≡ proposals_in old.due.items → DutySo old new
+  pub begins_service : is_leader old.replica.raft.role ≡ true → old.view.last ≡ length (node_of old.replica.raft).log → IsSettled old → new.view.serving ≡ true → proposals_in new.due.items ≡ proposals_in old.due.items → PerformsDuty old new
   begins_service leads last settled serving due = inr (inl (record {
     leads = leads;
     idle = ap proposals_in settled.idle;
@@ -164,7 +164,7 @@ module _ (old new : Running) (keeps : KeepsMost old new) (stands : IsMachine old
   }))
 
   pub proposes : (contents : List Content) → is_leader old.replica.raft.role ≡ true → ArePlain old.view.serving contents → AllByRecursion HasSpelling contents → new.view.serving ≡ old.view.serving
-      → proposals_in new.due.items ≡ proposals_in old.due.items ++ written old.replica.raft.term contents ∷ [] → DutySo old new
+      → proposals_in new.due.items ≡ proposals_in old.due.items ++ written old.replica.raft.term contents ∷ [] → PerformsDuty old new
   proposes contents leads plain spelled serving due = inr (inr (
     contents,
     record {
@@ -180,15 +180,15 @@ module _ (old new : Running) (keeps : KeepsMost old new) (stands : IsMachine old
 
 -- ---- as the code has it
 
-module _ (old : Running) (office : Office) (is : old.office ≡ Some office) (going : IsGoing old) (led : IsLed old) where
+module _ (old : Running) (office : Leadership) (is : old.office ≡ Some office) (going : IsGoing old) (led : IsLed old) where
   in_office : (is_leader old.replica.raft.role ≡ true) × (office.term ≡ old.replica.raft.term)
-  in_office = subst (λ (o : Option Office). InOffice o old.view.serving old.replica.raft) is going.office
+  in_office = subst (λ (o : Option Leadership). InOffice o old.view.serving old.replica.raft) is going.office
 
   last_phase : serves office.phase ≡ false → old.view.serving ≡ false
-  last_phase = subst (λ (o : Option Office). ServesLast o old.view.serving) is led.serves
+  last_phase = subst (λ (o : Option Leadership). ServesLast o old.view.serving) is led.serves
 
   -- nothing is owed: the node may serve from then on
-  pub duty_served : (index : ℕ) (m : Machine) (mid new : Running) → IsMachine old.applied.machine → mid ≡ record old { office = Some (office_after office index m) } → ServesFrom mid new → DutySo old new
+  pub duty_served : (index : ℕ) (m : Machine) (mid new : Running) → IsMachine old.applied.machine → mid ≡ record old { office = Some (office_after office index m) } → ServesFrom mid new → PerformsDuty old new
   duty_served index m mid new stands set (inl same) =
       let e = same ∙ set in
       does_nothing old new (record { replica = ap (λ (n : Running). n.replica) e; applied = ap (λ (n : Running). n.applied) e; clients = ap (λ (n : Running). n.clients) e }) stands
@@ -208,10 +208,10 @@ module _ (old : Running) (office : Office) (is : old.office ≡ Some office) (go
   led_served index m mid new set from unless =
       let now : new.office ≡ Some (office_after office index m) = by from in
       record {
-        leads = subst (λ (o : Option Office). LeadsInOffice o new.replica.raft) (sym now) tt;
-        serves = subst (λ (o : Option Office). ServesLast o new.view.serving) (sym now)
+        leads = subst (λ (o : Option Leadership). LeadsInOffice o new.replica.raft) (sym now) tt;
+        serves = subst (λ (o : Option Leadership). ServesLast o new.view.serving) (sym now)
             (λ off. ap (λ (n : Running). n.view.serving) (unless off ∙ set) ∙ last_phase (serves_on office.phase index m off));
-        free = subst (λ (o : Option Office). IsFree o (moment_of new)) (sym now) tt;
+        free = subst (λ (o : Option Leadership). IsFree o (moment_of new)) (sym now) tt;
       }
     where
       by : ServesFrom mid new → new.office ≡ Some (office_after office index m)
@@ -219,9 +219,9 @@ module _ (old : Running) (office : Office) (is : old.office ≡ Some office) (go
       by (inr (settled, same)) = ap (λ (n : Running). n.office) (same ∙ ap (λ (n : Running). record n { view = record n.view { serving = true } }) set)
 
   -- what is owed is due
-  pub duty_owed : (what : Effect) (waiting : List Line) (entries : List Entry) (mid new : Running) → IsMachine old.applied.machine → mid ≡ record old { office = Some (office_after office old.applied.index (machine_of old.applied.machine)) }
+  pub duty_owed : (what : AppliedEffect) (waiting : List Line) (entries : List Entry) (mid new : Running) → IsMachine old.applied.machine → mid ≡ record old { office = Some (office_after office old.applied.index (machine_of old.applied.machine)) }
       → entries ≡ written office.term (owed office.phase old.applied.index (machine_of old.applied.machine) what waiting) → AllByRecursion HasSpelling (owed office.phase old.applied.index (machine_of old.applied.machine) what waiting)
-      → new.due.items ≡ mid.due.items ++ Propose entries ∷ [] → new ≡ record mid { due = new.due } → DutySo old new
+      → new.due.items ≡ mid.due.items ++ Propose entries ∷ [] → new ≡ record mid { due = new.due } → PerformsDuty old new
   duty_owed what waiting entries mid new stands set are spelled due is_new =
       let contents = owed office.phase old.applied.index (machine_of old.applied.machine) what waiting in
       let replica : new.replica ≡ old.replica = ap (λ (n : Running). n.replica) is_new ∙ ap (λ (n : Running). n.replica) set in
@@ -238,8 +238,8 @@ module _ (old : Running) (office : Office) (is : old.office ≡ Some office) (go
   led_owed index m mid new set is_new =
       let now : new.office ≡ Some (office_after office index m) = ap (λ (n : Running). n.office) is_new ∙ ap (λ (n : Running). n.office) set in
       record {
-        leads = subst (λ (o : Option Office). LeadsInOffice o new.replica.raft) (sym now) tt;
-        serves = subst (λ (o : Option Office). ServesLast o new.view.serving) (sym now)
+        leads = subst (λ (o : Option Leadership). LeadsInOffice o new.replica.raft) (sym now) tt;
+        serves = subst (λ (o : Option Leadership). ServesLast o new.view.serving) (sym now)
             (λ off. ap (λ (n : Running). n.view.serving) is_new ∙ ap (λ (n : Running). n.view.serving) set ∙ last_phase (serves_on office.phase index m off));
-        free = subst (λ (o : Option Office). IsFree o (moment_of new)) (sym now) tt;
+        free = subst (λ (o : Option Leadership). IsFree o (moment_of new)) (sym now) tt;
       }

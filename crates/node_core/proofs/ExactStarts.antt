@@ -2,23 +2,23 @@
 use Rattle.std.proofs.Common.{◌≡◌, ◌<◌, ℕ, ◌-◌, Bool, true, false, List, [], length, Some, None, Result, Ok, Err, arith, refl, sym, ap, ◌∙◌}
 use Rattle.std.specs.Prelude.{◌==◌, IfOk}
 use Rattle.std.proofs.lemmas.Bool.{cond-false, ne_eqb}
-use Rattle.raft_rules.specs.Account.{loaded}
-use Rattle.raft_rules.specs.Node.{Server}
-use Rattle.raft_rules.specs.NodeValues.{node_of}
-use Rattle.raft_vote.specs.declared.message.Snapshot.{Snapshot}
-use Rattle.raft_member.specs.Members.{Configurations, last_servers}
-use Rattle.session_rules.specs.Machine.{machine_of}
-use Rattle.session_rules.specs.Sessions.{View}
+use Rattle.raft_spec.specs.Account.{loaded}
+use Rattle.raft_spec.specs.Node.{Server}
+use Rattle.raft_spec.specs.NodeValues.{node_of}
+use Rattle.raft_messages.specs.declared.message.Snapshot.{Snapshot}
+use Rattle.raft_membership.specs.Members.{Configurations, last_servers}
+use Rattle.session_spec.specs.Machine.{machine_of}
+use Rattle.session_spec.specs.Sessions.{View}
 use Rattle.client_sessions.specs.Clients.{Clients}
-use Rattle.page_apply.specs.Databases.{contents_of}
-use Rattle.page_apply.specs.Machines.{IsMachine}
-use Rattle.page_apply.specs.Restoring.{restored}
+use Rattle.database_state.specs.Databases.{contents_of}
+use Rattle.database_state.specs.Machines.{IsMachine}
+use Rattle.database_state.specs.Restoring.{restored}
 use Rattle.store_laws.specs.Store.{Kept}
 use Rattle.store_format.specs.FilesRead.{snap_kept}
-use Rattle.node_replica.specs.Replicas.{ReplicaValue, stored_at}
-use Rattle.node_state.specs.declared.applied.Applied.{Applied}
-use Rattle.node_state.specs.Snapshot.{snapshot_in, snapshot_value, IsRestored, contents_in}
-use Rattle.node_state.proofs.Names.{own_contents}
+use Rattle.raft_on_disk.specs.Replicas.{ReplicaValue, stored_at}
+use Rattle.applied_state.specs.declared.applied.Applied.{Applied}
+use Rattle.applied_state.specs.Snapshot.{snapshot_in, snapshot_value, IsRestored, contents_in}
+use Rattle.applied_state.proofs.Names.{own_contents}
 use Rattle.node_core.specs.declared.fault.StartFault.{StartFault}
 use Rattle.node_core.specs.declared.running.Running.{Running}
 use Rattle.node_core.specs.Plain.{plain_gate}

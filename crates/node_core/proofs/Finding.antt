@@ -1,11 +1,11 @@
 -- What a load finds where a part of a step failed or was stopped.
 use Rattle.std.proofs.Common.{◌≡◌, ℕ, Bool, List, Ok, Err, subst}
 use Rattle.std.specs.Prelude.{Result, OnErr}
-use Rattle.raft_rules.specs.Node as raft
-use Rattle.raft_rules.specs.NodeValues.{node_of}
+use Rattle.raft_spec.specs.Node as raft
+use Rattle.raft_spec.specs.NodeValues.{node_of}
 use Rattle.raft_core.specs.declared.event.RaftEvent.{RaftEvent}
 use Rattle.raft_core.specs.Events.{input_of, offered}
-use Rattle.raft_world.specs.Members.{Setup}
+use Rattle.raft_safety.specs.Members.{Setup}
 use Rattle.disk_model.specs.Disk.{Disk}
 use Rattle.disk_model.specs.Trait.{Text, told, untold}
 use Rattle.store_laws.specs.Names.{NodeDisk}
@@ -13,10 +13,10 @@ use Rattle.store_laws.proofs.Seen.{all_seen}
 use Rattle.store_format.specs.NodeFormat.{node_format}
 use Rattle.store_laws.specs.Store.{Kept}
 use Rattle.segment_store.specs.Keeps.{folder}
-use Rattle.node_replica.specs.Replicas as replicas
-use Rattle.node_replica.specs.Replicas.{ReplicaValue, IsWhole, IsIntake, IsKept, kept_of, stepped, bytes_after, snapped}
-use Rattle.node_replica.specs.Stops as replica
-use Rattle.node_rules.specs.RaftTurns.{SpellsApplied, StopsAt}
+use Rattle.raft_on_disk.specs.Replicas as replicas
+use Rattle.raft_on_disk.specs.Replicas.{ReplicaValue, IsWhole, IsIntake, IsKept, kept_of, stepped, bytes_after, snapped}
+use Rattle.raft_on_disk.specs.Stops as replica
+use Rattle.node_spec.specs.RaftTurns.{SpellsApplied, StopsAt}
 use Rattle.node_core.specs.declared.running.Running.{Running}
 use Rattle.node_core.specs.Account.{moment_of}
 use Rattle.node_core.specs.Finding.{FindsIn, Finds, StopsIn}

@@ -2,31 +2,31 @@
 use Rattle.std.proofs.Common.{◌≡◌, ◌≢◌, ◌≤◌, ◌<◌, ◌⊎◌, inl, inr, ℕ, suc, Bool, true, false, List, [], ◌∷◌, ◌++◌, length, drop, refl, sym, ap, subst, ◌∙◌, arith}
 use Rattle.std.specs.Prelude.{Result, Ok, Err, OnOk, Option, Some, None, not, ◌&&◌, ◌==◌}
 use Rattle.std.proofs.lemmas.Bool.{cond_both}
-use Rattle.page_apply.specs.Databases.{contents_of}
-use Rattle.raft_rules.specs.Compaction.{compacted, compacted_step}
-use Rattle.raft_rules.specs.Log.{Entry, LogEnd, term_at}
-use Rattle.raft_rules.specs.Node as raft
-use Rattle.raft_rules.specs.Node.{Role, Leader, Candidate, Follower, Node, Outcome, is_leader, voters}
-use Rattle.raft_rules.specs.NodeValues.{NodeValue, IsCoherent, node_of}
-use Rattle.raft_rules.specs.Replication.{on_transfer}
-use Rattle.raft_rules.specs.Steps.{finish, raft_step}
-use Rattle.raft_rules.specs.Todo.{Begins}
-use Rattle.raft_rules.proofs.NodeValues.{compact_node}
-use Rattle.raft_vote.specs.Messages.{message_value}
+use Rattle.database_state.specs.Databases.{contents_of}
+use Rattle.raft_spec.specs.Compaction.{compacted, compacted_step}
+use Rattle.raft_spec.specs.Log.{Entry, LogEnd, term_at}
+use Rattle.raft_spec.specs.Node as raft
+use Rattle.raft_spec.specs.Node.{Role, Leader, Candidate, Follower, Node, Outcome, is_leader, voters}
+use Rattle.raft_spec.specs.NodeValues.{NodeValue, IsCoherent, node_of}
+use Rattle.raft_spec.specs.Replication.{on_transfer}
+use Rattle.raft_spec.specs.Steps.{finish, raft_step}
+use Rattle.raft_spec.specs.Todo.{Begins}
+use Rattle.raft_spec.proofs.NodeValues.{compact_node}
+use Rattle.raft_messages.specs.Messages.{message_value}
 use Rattle.raft_core.specs.declared.event.RaftEvent.{RaftEvent}
 use Rattle.raft_core.specs.declared.event.RaftEvent.TheVariants as events
 use Rattle.raft_core.specs.Events.{input_of}
-use Rattle.raft_member.specs.Members.{Configurations, last_servers, read_setup, IsOf}
-use Rattle.node_replica.specs.Replicas.{ReplicaValue, IsWhole, HasMoved, stepped, snap_after}
-use Rattle.node_replica.specs.Twins.{TwinsFollow}
-use Rattle.node_state.specs.declared.applied.Applied.{Applied}
-use Rattle.node_state.specs.Snapshot.{SpellsSnapshot}
-use Rattle.node_rules.specs.Nodes as rules
-use Rattle.node_rules.specs.Voting.{Tells, FollowLog, FromSnapshot, TellsLast, with_same, with_own, with_told}
-use Rattle.node_rules.proofs.VoterTurns.{follow_tells, change_tells, change_stops, install_tells}
+use Rattle.raft_membership.specs.Members.{Configurations, last_servers, read_setup, IsOf}
+use Rattle.raft_on_disk.specs.Replicas.{ReplicaValue, IsWhole, HasMoved, stepped, snap_after}
+use Rattle.raft_on_disk.specs.Twins.{TwinsFollow}
+use Rattle.applied_state.specs.declared.applied.Applied.{Applied}
+use Rattle.applied_state.specs.Snapshot.{SpellsSnapshot}
+use Rattle.node_spec.specs.Nodes as rules
+use Rattle.node_spec.specs.Voting.{Tells, FollowLog, FromSnapshot, TellsLast, with_same, with_own, with_told}
+use Rattle.node_spec.proofs.VoterTurns.{follow_tells, change_tells, change_stops, install_tells}
 use Rattle.node_core.specs.declared.running.Running.{Running}
 use Rattle.node_core.specs.Account as account
-use Rattle.node_core.specs.Posting.{Posts, LeavesSo, ToldOr, untold, told_servers, told_inputs, ToldBehind, same_members, own_log, told_current, TellsCurrent, stays_own, tells_current, ToldChange, no_change, change_told, MayTake, InstallsSo}
+use Rattle.node_core.specs.Posting.{Posts, KeepsAllButLog, MaybeToldServers, untold, told_servers, told_inputs, ToldServersAfter, same_members, own_log, told_current, TellsCurrentServers, stays_own, tells_current, ToldChange, no_change, change_told, MayTake, StepsWithSnapshot}
 use Rattle.node_core.specs.Stepping.{Brings, PutsNone, HasMade, HasStepped, HasFollowed, HasTold}
 use Rattle.node_core.specs.Values.{seen}
 use Rattle.node_core.specs.Voters.{Beside, BesideAll, MayBe, FollowsBy}
@@ -73,33 +73,33 @@ follows_log law r q event batch installed m n v w node snap none moved by =
 
 -- ---- what Raft was told behind its step
 
-pub told_or : (old new : Running) → ToldBehind old new → ToldOr (record old { members = new.members }) new
+pub told_or : (old new : Running) → ToldServersAfter old new → MaybeToldServers (record old { members = new.members }) new
 told_or old new (same_members e) = untold (e ∙ ap (λ (c : Configurations). record old { members = c }) (sym (ap (λ (n : Running). n.members) e)))
 told_or old new (own_log is role) = untold is
 told_or old new (told_current l) = told_servers (last_servers new.members) l
 
-pub tells_or : (old new : Running) → TellsCurrent old new → ToldOr old new
+pub tells_or : (old new : Running) → TellsCurrentServers old new → MaybeToldServers old new
 tells_or old new (stays_own e role) = untold e
 tells_or old new (tells_current l) = told_servers (last_servers old.members) l
 
-pub told_by : (old new : Running) (event : RaftEvent) → ToldChange old new event → ToldOr old new
+pub told_by : (old new : Running) (event : RaftEvent) → ToldChange old new event → MaybeToldServers old new
 told_by old new event (no_change plain e) = untold e
 told_by old new event (change_told entry servers is may l) = told_servers servers l
 
 -- the configurations have followed before
-pub tells_behind : (old mid new : Running) → mid ≡ record old { members = mid.members } → HasTold mid new → TellsCurrent mid new → ToldBehind old new
+pub tells_behind : (old mid new : Running) → mid ≡ record old { members = mid.members } → HasTold mid new → TellsCurrentServers mid new → ToldServersAfter old new
 tells_behind old mid new is told (stays_own e role) =
     own_log (e ∙ is ∙ ap (λ (c : Configurations). record old { members = c }) (sym (ap (λ (n : Running). n.members) e))) (subst (λ (n : Running). n.replica.raft.role ≢ Follower) is role)
 tells_behind old mid new is told (tells_current l) =
     let same : new.members ≡ mid.members = ap (λ (n : Running). n.members) told.is in
-    told_current (subst (λ (c : Configurations). LeavesSo (record old { members = c }) new (raft.Local (raft.UseServers (last_servers c)))) (sym same)
-    (subst (λ (n : Running). LeavesSo n new (raft.Local (raft.UseServers (last_servers mid.members)))) is l))
+    told_current (subst (λ (c : Configurations). KeepsAllButLog (record old { members = c }) new (raft.Local (raft.UseServers (last_servers c)))) (sym same)
+    (subst (λ (n : Running). KeepsAllButLog n new (raft.Local (raft.UseServers (last_servers mid.members)))) is l))
 
 pub follows_behind : (old mid new : Running) (batch : Option ℕ) → HasTold mid new → FollowsBy old.members mid.members (node_of old.replica.raft).log batch → FollowsBy old.members new.members (node_of old.replica.raft).log batch
 follows_behind old mid new batch told by = subst (λ (c : Configurations). FollowsBy old.members c (node_of old.replica.raft).log batch) (sym (ap (λ (n : Running). n.members) told.is)) by
 
 -- how the turn ends
-behind_last : (me : ℕ) (a : rules.Node) (step followed : Running) → step.members ≡ a.members → step.replica.id ≡ me → (x : ToldBehind step followed) → TellsLast me a (seen followed) step.replica.raft (told_inputs (told_or step followed x))
+behind_last : (me : ℕ) (a : rules.Node) (step followed : Running) → step.members ≡ a.members → step.replica.id ≡ me → (x : ToldServersAfter step followed) → TellsLast me a (seen followed) step.replica.raft (told_inputs (told_or step followed x))
 unfolding told_or
 behind_last me a step followed same id (same_members e) = with_same (ap (λ (n : Running). n.replica.raft) e) (ap (λ (n : Running). n.members) e ∙ same) refl
 behind_last me a step followed same id (own_log is role) = with_own (ap (λ (n : Running). n.replica.raft) is) role refl
@@ -109,7 +109,7 @@ behind_last me a step followed same id (told_current l) =
 -- ---- an event from outside
 
 pub beside_followed : (law : TwinsFollow) (old step followed : Running) (event : RaftEvent) (batch : Option ℕ) → IsGoing old → IsOutside event → PutsNone old.replica event → HasStepped old step event batch → Posts old step (input_of event) →
-    HasFollowed step followed → FollowsBy step.members followed.members (node_of step.replica.raft).log batch → (x : ToldBehind step followed) → BesideAll old followed (input_of event ∷ told_inputs (told_or step followed x))
+    HasFollowed step followed → FollowsBy step.members followed.members (node_of step.replica.raft).log batch → (x : ToldServersAfter step followed) → BesideAll old followed (input_of event ∷ told_inputs (told_or step followed x))
 beside_followed law old step followed event batch g outside none s posts f by x opening bytes = record {
   voters = follow_tells opening old.replica.id bytes (seen old) (seen followed) (input_of event) (told_inputs (told_or step followed x)) (record {
     plain = outside_plain event outside;
@@ -236,7 +236,7 @@ own_may opening came popped told event (change_told entry servers what may l) =
 -- the node follows behind it, so it was told the current servers
 pub beside_installed : (opening : List raft.Server) (old step lost placed last : Running) (event : RaftEvent) (batch : Option ℕ) (a : Applied) → IsGoing old → (b : Brings old.replica event a) → HasStepped old step event batch →
     lost.replica ≡ step.replica → lost.has_links ≡ step.has_links → placed ≡ record lost { members = placed.members; applied = placed.applied } → FromSnapshot a.servers lost.replica.snap.index (node_of lost.replica.raft).log placed.members →
-    InstallsSo (read_setup opening) old placed (account.bytes_in b.message.what) (message_value b.message) → step.replica.raft.role ≡ Follower → HasTold placed last → (x : TellsCurrent placed last) →
+    StepsWithSnapshot (read_setup opening) old placed (account.bytes_in b.message.what) (message_value b.message) → step.replica.raft.role ≡ Follower → HasTold placed last → (x : TellsCurrentServers placed last) →
     Beside (read_setup opening) old last (account.bytes_in b.message.what) (raft.Receive (message_value b.message) ∷ told_inputs (tells_or placed last x))
 unfolding tells_or
 beside_installed opening old step lost placed last event batch a g b s replica links is from i follows t (stays_own e role) =

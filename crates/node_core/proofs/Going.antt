@@ -2,19 +2,19 @@
 use Rattle.std.proofs.Common.{◌≡◌, ◌≤◌, ◌∷◌, ◌++◌, Bool, true, List, [], refl, sym, ap, subst, ◌∙◌, arith}
 use Rattle.std.specs.Prelude.{◌≢◌, length, Option, Some, None}
 use Rattle.std.specs.List.{AllByRecursion}
-use Rattle.raft_rules.specs.Laws as raft
-use Rattle.raft_rules.specs.Node.{Role, Leader, Candidate, Follower, is_leader}
-use Rattle.raft_rules.specs.NodeValues as values
-use Rattle.raft_rules.specs.NodeValues.{NodeValue}
-use Rattle.raft_vote.specs.Servers.{IsConfiguration}
-use Rattle.raft_member.specs.Members.{Configurations, AllStand}
+use Rattle.raft_spec.specs.Laws as raft
+use Rattle.raft_spec.specs.Node.{Role, Leader, Candidate, Follower, is_leader}
+use Rattle.raft_spec.specs.NodeValues as values
+use Rattle.raft_spec.specs.NodeValues.{NodeValue}
+use Rattle.raft_messages.specs.Servers.{IsConfiguration}
+use Rattle.raft_membership.specs.Members.{Configurations, AllStand}
 use Rattle.raft_core.specs.declared.event.RaftEvent.{RaftEvent}
 use Rattle.raft_core.specs.declared.event.RaftEvent.TheVariants as events
 use Rattle.raft_core.specs.Events.{EventFits}
-use Rattle.gateway.specs.Calls.{HasShortTerm, IsConfigured}
-use Rattle.client_sessions.specs.Seen.{StandOver}
-use Rattle.node_state.specs.declared.office.Office.{Office}
-use Rattle.node_replica.specs.Replicas.{ReplicaValue, IsIntake, IsWhole}
+use Rattle.session_gateway.specs.Calls.{HasShortTerm, IsConfigured}
+use Rattle.client_sessions.specs.Seen.{AreValidOver}
+use Rattle.applied_state.specs.declared.leadership.Leadership.{Leadership}
+use Rattle.raft_on_disk.specs.Replicas.{ReplicaValue, IsIntake, IsWhole}
 use Rattle.node_core.specs.declared.running.Running.{Running}
 use Rattle.node_core.specs.Values.{clients_in}
 use Rattle.node_core.specs.Waiting.{HasTurns}
@@ -30,7 +30,7 @@ leads_not_follows Follower e q = absurd cc
 pub short_view : (n : Running) → IsGoing n → HasShortTerm n.view
 short_view n g = by n.office g.office
   where
-    by : (o : Option Office) → InOffice o n.view.serving n.replica.raft → n.view.serving ≡ true → n.view.term ≤ 4294967295
+    by : (o : Option Leadership) → InOffice o n.view.serving n.replica.raft → n.view.serving ≡ true → n.view.term ≤ 4294967295
     by None e s = absurd cc
     by (Some o) e s =
         let t : n.replica.raft.term ≤ 4294967295 = g.holds.short (leads_not_follows n.replica.raft.role e.0) in
@@ -96,11 +96,11 @@ pub record SameRest (old new : Running) : Type 0 where
   pub term : new.view.term ≡ old.view.term
   pub last : new.view.last ≡ old.view.last
 
-pub in_same_office : (o p : Option Office) (b c : Bool) (h i : NodeValue) → InOffice o b h → p ≡ o → c ≡ b → i ≡ h → InOffice p c i
+pub in_same_office : (o p : Option Leadership) (b c : Bool) (h i : NodeValue) → InOffice o b h → p ≡ o → c ≡ b → i ≡ h → InOffice p c i
 in_same_office o p b c h i g oe be he =
-    subst (λ (x : NodeValue). InOffice p c x) (sym he) (subst (λ (x : Bool). InOffice p x h) (sym be) (subst (λ (x : Option Office). InOffice x b h) (sym oe) g))
+    subst (λ (x : NodeValue). InOffice p c x) (sym he) (subst (λ (x : Bool). InOffice p x h) (sym be) (subst (λ (x : Option Leadership). InOffice x b h) (sym oe) g))
 
-pub still_going : (old new : Running) → IsGoing old → SameRest old new → AllByRecursion IsOwnDue new.due.items → StandOver new.clients new.applied.machine → HasTurns (clients_in new) → IsGoing new
+pub still_going : (old new : Running) → IsGoing old → SameRest old new → AllByRecursion IsOwnDue new.due.items → AreValidOver new.clients new.applied.machine → HasTurns (clients_in new) → IsGoing new
 still_going old new g s due stand turns =
     let same : new.replica.raft ≡ old.replica.raft = ap (λ (r : ReplicaValue). r.raft) s.replica in
     let snap : new.replica.raft.snapshot.index ≡ old.replica.raft.snapshot.index = ap (λ (h : NodeValue). h.snapshot.index) same in
@@ -139,7 +139,7 @@ more_due old new e g d is rest = subst IsGoing (sym rest) (still_going old (reco
     (subst (AllByRecursion IsOwnDue) (sym is) (one_more_due old.due.items e g.holds.due d)) g.holds.clients g.holds.turns)
 
 -- the clients have changed, and the marks of the databases with them
-pub clients_moved : (old new : Running) → IsGoing old → StandOver new.clients new.applied.machine → HasTurns (clients_in new)
+pub clients_moved : (old new : Running) → IsGoing old → AreValidOver new.clients new.applied.machine → HasTurns (clients_in new)
     → new ≡ record old { clients = new.clients; applied = record old.applied { machine = new.applied.machine }; outs = new.outs; links = new.links; heard = new.heard } → IsGoing new
 clients_moved old new g stand turns is =
     subst IsGoing (sym is) (still_going old (record old { clients = new.clients; applied = record old.applied { machine = new.applied.machine }; outs = new.outs; links = new.links; heard = new.heard }) g

@@ -2,45 +2,45 @@
 use Rattle.std.proofs.Common.{◌≡◌, ◌⊎◌, inl, inr, ℕ, ◌≤◌, ◌<◌, Bool, true, false, true≢false, List, [], ◌∷◌, ◌++◌, refl, sym, ap, subst, ◌∙◌, append_assoc}
 use Rattle.std.specs.Prelude.{◌≢◌, Option, Some, None}
 use Rattle.std.proofs.lemmas.Bool.{ltb-true}
-use Rattle.page_apply.specs.Machines.{IsMachine}
-use Rattle.session_rules.specs.Events.{on_lost, told_lost}
-use Rattle.session_rules.specs.Machine.{files}
-use Rattle.session_rules.specs.Seen.{log_seen}
-use Rattle.session_rules.specs.Sessions.{Reply}
-use Rattle.raft_rules.specs.Log.{LogEnd}
-use Rattle.raft_rules.specs.Node as raft
-use Rattle.raft_rules.specs.Node.{Server, Follower, is_leader}
-use Rattle.raft_rules.specs.NodeValues.{NodeValue, node_of}
-use Rattle.raft_vote.specs.declared.message.RaftMessage.{RaftMessage}
-use Rattle.raft_vote.specs.declared.message.Snapshot.{Snapshot}
-use Rattle.raft_vote.specs.declared.message.What.{What}
-use Rattle.raft_vote.specs.declared.message.What.TheVariants as whats
-use Rattle.raft_vote.specs.Messages.{message_value}
-use Rattle.raft_vote.specs.Servers as servers
+use Rattle.database_state.specs.Machines.{IsMachine}
+use Rattle.session_spec.specs.Events.{on_lost, told_lost}
+use Rattle.session_spec.specs.Machine.{files}
+use Rattle.session_spec.specs.Seen.{log_seen}
+use Rattle.session_spec.specs.Sessions.{Reply}
+use Rattle.raft_spec.specs.Log.{LogEnd}
+use Rattle.raft_spec.specs.Node as raft
+use Rattle.raft_spec.specs.Node.{Server, Follower, is_leader}
+use Rattle.raft_spec.specs.NodeValues.{NodeValue, node_of}
+use Rattle.raft_messages.specs.declared.message.RaftMessage.{RaftMessage}
+use Rattle.raft_messages.specs.declared.message.Snapshot.{Snapshot}
+use Rattle.raft_messages.specs.declared.message.MessageBody.{MessageBody}
+use Rattle.raft_messages.specs.declared.message.MessageBody.TheVariants as whats
+use Rattle.raft_messages.specs.Messages.{message_value}
+use Rattle.raft_messages.specs.Servers as servers
 use Rattle.wire_words.specs.Reading as reading
 use Rattle.raft_core.specs.declared.event.RaftEvent.{RaftEvent}
 use Rattle.raft_core.specs.declared.event.RaftEvent.TheVariants as events
 use Rattle.raft_core.specs.Events.{input_of, offered}
-use Rattle.raft_member.specs.Members.{read_setup}
+use Rattle.raft_membership.specs.Members.{read_setup}
 use Rattle.client_sessions.specs.Calls.{told_all_lost}
 use Rattle.client_sessions.specs.Clients.{Clients}
 use Rattle.client_sessions.specs.Seen.{clients_of}
-use Rattle.page_apply.specs.Machines.{names_of}
-use Rattle.node_replica.specs.Looking.{puts_snapshot}
+use Rattle.database_state.specs.Machines.{names_of}
+use Rattle.raft_on_disk.specs.Looking.{puts_snapshot}
 use Rattle.node_core.specs.Taking.{IsLostBy}
 use Rattle.store_laws.specs.Store.{Snap}
-use Rattle.node_state.specs.declared.applied.Applied.{Applied}
-use Rattle.node_state.specs.declared.office.Office.{Office as Held}
-use Rattle.node_state.specs.Applied.{ShowsFiles}
-use Rattle.node_state.specs.Snapshot.{snapshot_in, offered_to, SpellsSnapshot, made_by, commits_of}
-use Rattle.node_replica.specs.Replicas as replicas
-use Rattle.node_replica.specs.Replicas.{ReplicaValue, IsIntake, stepped}
-use Rattle.node_rules.specs.RaftTurns.{HasEnded, Office, in_office, loses, has_none}
-use Rattle.node_rules.proofs.EndedSessions.{ends_on_holds}
+use Rattle.applied_state.specs.declared.applied.Applied.{Applied}
+use Rattle.applied_state.specs.declared.leadership.Leadership.{Leadership as Held}
+use Rattle.applied_state.specs.Applied.{ShowsFiles}
+use Rattle.applied_state.specs.Snapshot.{snapshot_in, offered_to, SpellsSnapshot, made_by, commits_of}
+use Rattle.raft_on_disk.specs.Replicas as replicas
+use Rattle.raft_on_disk.specs.Replicas.{ReplicaValue, IsIntake, stepped}
+use Rattle.node_spec.specs.RaftTurns.{HasEnded, LeadershipFollows, in_office, loses, has_none}
+use Rattle.node_spec.proofs.EndedSessions.{ends_on_holds}
 use Rattle.node_core.specs.declared.running.Running.{Running}
 use Rattle.node_core.specs.Account as account
 use Rattle.node_core.specs.Account.{proposals_in, moment_of}
-use Rattle.node_core.specs.Posting.{Posts, ToldOr, told_inputs, LosesSo, OfficeSo, InstallsSo, InstallsOn}
+use Rattle.node_core.specs.Posting.{Posts, MaybeToldServers, told_inputs, LosesLeadership, FollowsLeadership, StepsWithSnapshot, TurnsWithSnapshot}
 use Rattle.node_core.specs.Stepping.{Brings, HasStepped, HasTold, KeepsRest}
 use Rattle.node_core.specs.Values.{clients_in, waiting_on}
 use Rattle.node_core.specs.Voters.{Beside}
@@ -58,7 +58,7 @@ use Rattle.node_core.proofs.Stepped.{fresh_view}
 -- ---- the office
 
 -- sessions and replies behind Raft's step
-ways : (old step : Running) (replies : List (ℕ × Reply)) → Office (moment_of old) (moment_of step) replies →
+ways : (old step : Running) (replies : List (ℕ × Reply)) → LeadershipFollows (moment_of old) (moment_of step) replies →
     (((clients_in step).sessions ≡ (clients_in old).sessions) × (replies ≡ [])) ⊎ (((clients_in step).sessions ≡ on_lost (clients_in old).sessions) × (replies ≡ told_lost (clients_in old).sessions))
 ways old step replies (in_office a b t s v r) = inl (s, r)
 ways old step replies (loses a b s v r) = inr (s, r)
@@ -79,7 +79,7 @@ none_in : snapshot_in [] ≡ None
 unfolding snapshot_in servers.servers_at reading.word_at
 none_in = refl
 
-none_of : (w : What) → ((s : Snapshot) → w ≢ whats.Install s) → account.bytes_in w ≡ []
+none_of : (w : MessageBody) → ((s : Snapshot) → w ≢ whats.Install s) → account.bytes_in w ≡ []
 none_of (whats.Install s) other = absurd (other s refl)
 none_of (whats.AskVote last) other = refl
 none_of (whats.Vote granted) other = refl
@@ -103,7 +103,7 @@ comes old step event a b node =
 
 bytes_of_offer : (event : RaftEvent) (r : ReplicaValue) (a : Applied) (b : Brings r event a) → replicas.bytes_in (offered event) ≡ account.bytes_in b.message.what
 bytes_of_offer event r a b =
-    ap (λ (e : RaftEvent). replicas.bytes_in (offered e)) b.event_is ∙ ap (λ (w : What). replicas.bytes_in (offered (events.Message (record b.message { what = w })))) b.what_is ∙ sym (ap account.bytes_in b.what_is)
+    ap (λ (e : RaftEvent). replicas.bytes_in (offered e)) b.event_is ∙ ap (λ (w : MessageBody). replicas.bytes_in (offered (events.Message (record b.message { what = w })))) b.what_is ∙ sym (ap account.bytes_in b.what_is)
 
 pub follows_behind_snapshot : (old step : Running) (event : RaftEvent) (a : Applied) → IsGoing old → Brings old.replica event a → node_of step.replica.raft ≡ stepped old.replica event → step.replica.raft.role ≡ Follower
 follows_behind_snapshot old step event a g b node =
@@ -118,9 +118,9 @@ brings_intake r event a b = subst IsIntake (sym b.event_is) tt
 -- ---- the turn
 
 pub installs_so : (opening : List Server) (old step lost placed : Running) (event : RaftEvent) (batch : Option ℕ) (a : Applied) → IsGoing old → IsLed old → old.due.items ≡ [] → (b : Brings old.replica event a) → HasStepped old step event batch →
-    Posts old step (input_of event) → OfficeSo old step → LosesSo step lost → KeepsRest step lost → lost.replica ≡ step.replica → lost.mail ≡ step.mail → lost.view.serving ≡ step.view.serving →
+    Posts old step (input_of event) → FollowsLeadership old step → LosesLeadership step lost → KeepsRest step lost → lost.replica ≡ step.replica → lost.mail ≡ step.mail → lost.view.serving ≡ step.view.serving →
     placed ≡ record lost { members = placed.members; applied = placed.applied } → placed.applied ≡ a → IsMachine placed.applied.machine → clients_in placed ≡ clients_in lost →
-    InstallsSo (read_setup opening) old placed (account.bytes_in b.message.what) (message_value b.message)
+    StepsWithSnapshot (read_setup opening) old placed (account.bytes_in b.message.what) (message_value b.message)
 installs_so opening old step lost placed event batch a g led idle b s posts offices ends rest replica mail serving is applied machine clients =
     let p = posts_on old step placed (input_of event) placed_replica placed_mail posts in
     let q : Posts old placed (raft.Receive (message_value b.message)) = subst (λ (e : RaftEvent). Posts old placed (input_of e)) b.event_is p in
@@ -166,8 +166,8 @@ installs_so opening old step lost placed event batch a g led idle b s posts offi
     index : placed.replica.raft.snapshot.index ≡ a.index
     index = ap (λ (r : ReplicaValue). r.raft.snapshot.index) placed_replica ∙ ap (λ (l : LogEnd). l.index) s.whole.snap ∙ ap (λ (x : Snap). x.index) s.snap ∙ brought old.replica event a b
 
-pub installs_on : (opening : List Server) (old placed last new : Running) (event : RaftEvent) (a : Applied) (b : Brings old.replica event a) → InstallsSo (read_setup opening) old placed (account.bytes_in b.message.what) (message_value b.message) → (tells : ToldOr placed last) →
-    Beside (read_setup opening) old last (account.bytes_in b.message.what) (raft.Receive (message_value b.message) ∷ told_inputs tells) → new ≡ record last { view = new.view } → new.view.serving ≡ last.view.serving → InstallsOn (read_setup opening) old new event
+pub installs_on : (opening : List Server) (old placed last new : Running) (event : RaftEvent) (a : Applied) (b : Brings old.replica event a) → StepsWithSnapshot (read_setup opening) old placed (account.bytes_in b.message.what) (message_value b.message) → (tells : MaybeToldServers placed last) →
+    Beside (read_setup opening) old last (account.bytes_in b.message.what) (raft.Receive (message_value b.message) ∷ told_inputs tells) → new ≡ record last { view = new.view } → new.view.serving ≡ last.view.serving → TurnsWithSnapshot (read_setup opening) old new event
 installs_on opening old placed last new event a b i tells beside is same = record {
   beside = beside;
   message = b.message;
@@ -188,8 +188,8 @@ free_lost None step new sessions due = (subst HasEnded (sym sessions) (ends_on_h
 free_lost (Some o) step new sessions due = tt
 
 pub installed_led : (old step lost placed last new : Running) (event : RaftEvent) (batch : Option ℕ) (a : Applied) → IsGoing old → old.due.items ≡ [] → Brings old.replica event a → HasStepped old step event batch → ServesLast step.office step.view.serving →
-    LosesSo step lost → KeepsRest step lost → lost.replica ≡ step.replica → (lost.office ≡ step.office) × (lost.view.serving ≡ step.view.serving) → placed ≡ record lost { members = placed.members; applied = placed.applied } → clients_in placed ≡ clients_in lost →
-    HasTold placed last → ToldOr placed last → new ≡ record last { view = new.view } → new.view.serving ≡ last.view.serving → IsLed new
+    LosesLeadership step lost → KeepsRest step lost → lost.replica ≡ step.replica → (lost.office ≡ step.office) × (lost.view.serving ≡ step.view.serving) → placed ≡ record lost { members = placed.members; applied = placed.applied } → clients_in placed ≡ clients_in lost →
+    HasTold placed last → MaybeToldServers placed last → new ≡ record last { view = new.view } → new.view.serving ≡ last.view.serving → IsLed new
 installed_led old step lost placed last new event batch a g idle b s serves ends rest replica office is clients t tells new_is same = record {
   leads = leads_not new.office new.replica.raft (ap (λ (n : Running). is_leader n.replica.raft.role) new_is ∙ (told_same placed last tells).leads ∙ ap (λ (n : Running). is_leader n.replica.raft.role) is ∙ ap (λ (r : ReplicaValue). is_leader r.raft.role) replica
       ∙ ap is_leader (follows_behind_snapshot old step event a g b s.node));

@@ -3,18 +3,18 @@ use Rattle.std.proofs.Common.{◌≡◌, ◌≤◌, ℕ, sym, ap, subst, ◌∙�
 use Rattle.std.specs.List.{AllByRecursion}
 use Rattle.std.specs.Prelude.{Option, nat_lt}
 use Rattle.std.proofs.lemmas.Bool.{cond-true}
-use Rattle.raft_rules.specs.Log.{LogEnd}
-use Rattle.raft_vote.specs.Servers.{IsConfiguration}
-use Rattle.raft_member.specs.Members.{Configurations, AllStand}
+use Rattle.raft_spec.specs.Log.{LogEnd}
+use Rattle.raft_messages.specs.Servers.{IsConfiguration}
+use Rattle.raft_membership.specs.Members.{Configurations, AllStand}
 use Rattle.raft_core.specs.declared.event.RaftEvent.{RaftEvent}
 use Rattle.raft_core.specs.declared.event.RaftEvent.TheVariants as events
 use Rattle.raft_core.specs.Events.{offered}
-use Rattle.raft_vote.specs.declared.message.What.{What}
+use Rattle.raft_messages.specs.declared.message.MessageBody.{MessageBody}
 use Rattle.store_laws.specs.Store.{Snap}
 use Rattle.store_format.specs.FilesRead.{snap_kept}
-use Rattle.client_sessions.specs.Seen.{StandOver, clients_of}
-use Rattle.node_replica.specs.Replicas.{ReplicaValue, stepped, snap_after}
-use Rattle.node_state.specs.declared.applied.Applied.{Applied}
+use Rattle.client_sessions.specs.Seen.{AreValidOver, clients_of}
+use Rattle.raft_on_disk.specs.Replicas.{ReplicaValue, stepped, snap_after}
+use Rattle.applied_state.specs.declared.applied.Applied.{Applied}
 use Rattle.node_core.specs.declared.running.Running.{Running}
 use Rattle.node_core.specs.Stepping.{Brings, HasStepped, HasTold, KeepsRest}
 use Rattle.node_core.specs.Waiting.{HasTurns}
@@ -25,13 +25,13 @@ pub brought : (r : ReplicaValue) (event : RaftEvent) (a : Applied) → Brings r 
 brought r event a b =
     ap (λ (e : RaftEvent). (snap_after r e).index) b.event_is
     ∙ ap (λ (s : Snap). s.index) (cond-true (nat_lt r.raft.commit (stepped r (events.Message b.message)).snapshot.index) (snap_kept (offered (events.Message b.message))) r.snap b.puts)
-    ∙ ap (λ (w : What). (snap_kept (offered (events.Message (record b.message { what = w })))).index) b.what_is
+    ∙ ap (λ (w : MessageBody). (snap_kept (offered (events.Message (record b.message { what = w })))).index) b.what_is
     ∙ sym b.restored.index_is
 
 -- what the turn leaves, before the servers of the snapshot are told to the sessions
 pub holds_installed : (old step lost placed told : Running) (event : RaftEvent) (batch : Option ℕ) (a : Applied) → IsGoing old → Brings old.replica event a → HasStepped old step event batch
     → lost.replica ≡ step.replica → KeepsRest step lost → placed.applied ≡ a → placed.members.at ≡ lost.replica.snap.index → AllStand placed.members → placed ≡ record lost { members = placed.members; applied = placed.applied }
-    → IsConfiguration a.servers → StandOver lost.clients a.machine → HasTurns (clients_of lost.clients a.machine) → HasTold placed told → Holds told
+    → IsConfiguration a.servers → AreValidOver lost.clients a.machine → HasTurns (clients_of lost.clients a.machine) → HasTold placed told → Holds told
 holds_installed old step lost placed told event batch a g b s replica rest applied at members is servers stand turns t =
     let applied_told : told.applied ≡ a = ap (λ (n : Running). n.applied) t.is ∙ applied in
     let members_told : told.members ≡ placed.members = ap (λ (n : Running). n.members) t.is in
@@ -48,8 +48,8 @@ holds_installed old step lost placed told event batch a g b s replica rest appli
     record {
       replica = t.whole;
       short = t.short;
-      clients = subst (λ (x : Applied). StandOver told.clients x.machine) (sym applied_told)
-          (subst (λ (c : _). StandOver c a.machine) (sym (ap (λ (n : Running). n.clients) t.is ∙ ap (λ (n : Running). n.clients) is)) stand);
+      clients = subst (λ (x : Applied). AreValidOver told.clients x.machine) (sym applied_told)
+          (subst (λ (c : _). AreValidOver c a.machine) (sym (ap (λ (n : Running). n.clients) t.is ∙ ap (λ (n : Running). n.clients) is)) stand);
       turns = subst (λ (x : Applied). HasTurns (clients_of told.clients x.machine)) (sym applied_told)
           (subst (λ (c : _). HasTurns (clients_of c a.machine)) (sym (ap (λ (n : Running). n.clients) t.is ∙ ap (λ (n : Running). n.clients) is)) turns);
       servers = subst (λ (x : Applied). IsConfiguration x.servers) (sym applied_told) servers;

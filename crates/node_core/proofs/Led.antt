@@ -7,33 +7,33 @@ use Rattle.wire_msgs.specs.Reading.{request_of}
 use Rattle.sql_engine.specs.declared.kind.EngineKind.{EngineKind}
 use Rattle.sql_engine.specs.Meanings.{Meaning, Told}
 use Rattle.sql_engine.specs.Replies.{Statement}
-use Rattle.page_apply.specs.Machines.{IsMachine}
-use Rattle.session_rules.specs.Asking.{Asked, Never, Tells, Sets, Opens, Creates, Prepares, Drops, Begins, Commits, RollsBack, Changes, Runs, Reads as ReadsRows, asked}
-use Rattle.session_rules.specs.Engines.{Answer}
-use Rattle.session_rules.specs.Events.{tidy, still_lent, lost, on_lost, connects, connected}
-use Rattle.session_rules.specs.Machine.{Machine, machine_of}
-use Rattle.session_rules.specs.Requests.{with_tx, with_flight, with_later, with_statements, with_session, without_later, affected_by, does, on_request, on_later, run_in}
-use Rattle.session_rules.specs.Causes.{NotLeader}
-use Rattle.session_rules.specs.Sessions.{Prepared, Session, Gateway, View, absent, Effect, HandsOver, JoinsPeer, Weighs, Turned, Refused, later_query}
-use Rattle.session_world.proofs.Asks.{IsIdle, request_idle}
-use Rattle.raft_rules.specs.Log.{Entry}
-use Rattle.raft_rules.specs.Node.{is_leader}
-use Rattle.raft_rules.specs.NodeValues.{NodeValue}
+use Rattle.database_state.specs.Machines.{IsMachine}
+use Rattle.session_spec.specs.Asking.{Asked, Never, Tells, Sets, Opens, Creates, Prepares, Drops, Begins, Commits, RollsBack, Changes, Runs, Reads as ReadsRows, asked}
+use Rattle.session_spec.specs.Engines.{Answer}
+use Rattle.session_spec.specs.Events.{tidy, still_lent, lost, on_lost, connects, connected}
+use Rattle.session_spec.specs.Machine.{Machine, machine_of}
+use Rattle.session_spec.specs.Requests.{with_tx, with_flight, with_later, with_statements, with_session, without_later, affected_by, does, on_request, on_later, run_in}
+use Rattle.session_spec.specs.Causes.{NotLeader}
+use Rattle.session_spec.specs.Sessions.{Prepared, Session, Gateway, View, absent, Effect, HandsOver, JoinsPeer, Weighs, Turned, Refused, later_query}
+use Rattle.session_safety.proofs.Asks.{IsIdle, request_idle}
+use Rattle.raft_spec.specs.Log.{Entry}
+use Rattle.raft_spec.specs.Node.{is_leader}
+use Rattle.raft_spec.specs.NodeValues.{NodeValue}
 use Rattle.client_sessions.specs.declared.act.Act.{Act}
 use Rattle.client_sessions.specs.Calls.{TookOffer, WasIdle, TookTurn, call_of, scene}
 use Rattle.client_sessions.specs.Clients.{Clients, freed}
 use Rattle.client_sessions.specs.Later.{turn_for, Resumes as ResumesBy}
-use Rattle.node_state.specs.declared.office.Office.{Office}
-use Rattle.node_replica.specs.Replicas.{ReplicaValue, kept_of}
-use Rattle.node_rules.specs.Accounts.{Moment}
-use Rattle.node_rules.specs.ClientTurns.{Stays, Connects, HangsUp, Hears, Applies, Resumes, Reads}
-use Rattle.node_rules.specs.RaftTurns.{HasEnded}
-use Rattle.node_rules.specs.Turns.{KeepsRaft, view_at, gate_after, due_by, Handles}
-use Rattle.node_rules.proofs.EndedSessions.{ends_on_holds}
+use Rattle.applied_state.specs.declared.leadership.Leadership.{Leadership}
+use Rattle.raft_on_disk.specs.Replicas.{ReplicaValue, kept_of}
+use Rattle.node_spec.specs.Accounts.{Moment}
+use Rattle.node_spec.specs.ClientTurns.{Stays, Connects, HangsUp, Hears, Applies, Resumes, Reads}
+use Rattle.node_spec.specs.RaftTurns.{HasEnded}
+use Rattle.node_spec.specs.Turns.{KeepsRaft, view_at, gate_after, due_by, Handles}
+use Rattle.node_spec.proofs.EndedSessions.{ends_on_holds}
 use Rattle.node_core.specs.declared.running.Running.{Running}
 use Rattle.node_core.specs.Account.{proposals_in, moment_of}
 use Rattle.node_core.specs.Acts.{proposals_by}
-use Rattle.node_core.specs.Performing.{Performed, ComesOr, GoesOr, ClosesSo, HearsSo, ReadsSo}
+use Rattle.node_core.specs.Performing.{Performed, MayConnect, MayClose, ClosesIfEnded, ReceivesBytes, DeliversRead}
 use Rattle.node_core.specs.Values.{clients_in}
 use Rattle.node_core.specs.Whole.{InOffice, LeadsInOffice, ServesLast, IsFree, IsGoing, IsLed}
 use Rattle.node_core.proofs.Bridges.{took_handles, took_stays, ran_resumes}
@@ -124,28 +124,28 @@ resumed_free m kind a b conn replies x off h =
     (later_ends (view_at a x.standing) (machine_of a.node.machine) (without_later a.node.sessions conn) conn a.node.raft.term (ended_without a.node.sessions conn h) x.statement x.answers off) in
     (subst HasEnded (sym x.sessions) e.0, x.due ∙ e.1)
 
-free_stays : (o : Option Office) (a b : Moment) → Stays a b → IsFree o a → IsFree o b
+free_stays : (o : Option Leadership) (a b : Moment) → Stays a b → IsFree o a → IsFree o b
 free_stays None a b x f = (subst HasEnded (sym x.sessions) f.0, x.same.due ∙ f.1)
 free_stays (Some office) a b x f = tt
 
-free_connects : (o : Option Office) (a b : Moment) (conn : ℕ) → Connects a b conn → IsFree o a → IsFree o b
+free_connects : (o : Option Leadership) (a b : Moment) (conn : ℕ) → Connects a b conn → IsFree o a → IsFree o b
 free_connects None a b conn x f =
     (subst HasEnded (sym x.sessions) (cond_both (connects a.node.sessions conn) (connected a.node.sessions conn) a.node.sessions HasEnded (λ e. ends_on_holds.joined a.node.sessions conn f.0) (λ e. f.0)), x.same.due ∙ f.1)
 free_connects (Some office) a b conn x f = tt
 
-free_hangs : (o : Option Office) (a b : Moment) (conn : ℕ) → HangsUp a b conn → IsFree o a → IsFree o b
+free_hangs : (o : Option Leadership) (a b : Moment) (conn : ℕ) → HangsUp a b conn → IsFree o a → IsFree o b
 free_hangs None a b conn x f = (subst HasEnded (sym x.sessions) (ends_on_holds.gone a.node.sessions conn f.0), x.due ∙ f.1)
 free_hangs (Some office) a b conn x f = tt
 
-free_hears : (o : Option Office) (a b : Moment) (asks : ℕ → List Request) → Hears a b asks → IsFree o a → IsFree o b
+free_hears : (o : Option Leadership) (a b : Moment) (asks : ℕ → List Request) → Hears a b asks → IsFree o a → IsFree o b
 free_hears None a b asks x f = (subst HasEnded (sym x.sessions) f.0, x.due ∙ f.1)
 free_hears (Some office) a b asks x f = tt
 
-free_reads : (o : Option Office) (a b : Moment) (conn : ℕ) → Reads a b conn → IsFree o a → IsFree o b
+free_reads : (o : Option Leadership) (a b : Moment) (conn : ℕ) → Reads a b conn → IsFree o a → IsFree o b
 free_reads None a b conn x f = (subst HasEnded (sym x.sessions) (ended_without a.node.sessions conn f.0), x.same.due ∙ f.1)
 free_reads (Some office) a b conn x f = tt
 
-free_applies : (o : Option Office) (a b : Moment) (replies : List _) → Applies a b replies → IsFree o a → IsFree o b
+free_applies : (o : Option Leadership) (a b : Moment) (replies : List _) → Applies a b replies → IsFree o a → IsFree o b
 free_applies None a b replies x f = (subst HasEnded (sym x.sessions) (ends_on_holds.applied _ a.node.sessions f.0), x.same.due ∙ f.1)
 free_applies (Some office) a b replies x f = tt
 
@@ -154,9 +154,9 @@ free_applies (Some office) a b replies x f = tt
 -- the office stays, and so do Raft's part and service
 pub led_by : (old new : Running) → IsLed old → new.office ≡ old.office → new.replica.raft ≡ old.replica.raft → new.view.serving ≡ old.view.serving → IsFree old.office (moment_of new) → IsLed new
 led_by old new led office raft serving free = record {
-  leads = subst (λ (o : Option Office). LeadsInOffice o new.replica.raft) (sym office) (subst (LeadsInOffice old.office) (sym raft) led.leads);
-  serves = subst (λ (o : Option Office). ServesLast o new.view.serving) (sym office) (subst (ServesLast old.office) (sym serving) led.serves);
-  free = subst (λ (o : Option Office). IsFree o (moment_of new)) (sym office) free;
+  leads = subst (λ (o : Option Leadership). LeadsInOffice o new.replica.raft) (sym office) (subst (LeadsInOffice old.office) (sym raft) led.leads);
+  serves = subst (λ (o : Option Leadership). ServesLast o new.view.serving) (sym office) (subst (ServesLast old.office) (sym serving) led.serves);
+  free = subst (λ (o : Option Leadership). IsFree o (moment_of new)) (sym office) free;
 }
 
 -- only what the rules don't see has changed
@@ -167,22 +167,22 @@ led_same old new led office same =
 pub led_stays : (old new : Running) → IsLed old → new.office ≡ old.office → Stays (moment_of old) (moment_of new) → IsLed new
 led_stays old new led office x = led_by old new led office x.rest.raft x.rest.serving (free_stays old.office (moment_of old) (moment_of new) x led.free)
 
-pub led_comes : (old new : Running) (conn : ℕ) → IsLed old → new.office ≡ old.office → ComesOr old new conn → IsLed new
+pub led_comes : (old new : Running) (conn : ℕ) → IsLed old → new.office ≡ old.office → MayConnect old new conn → IsLed new
 led_comes old new conn led office (inl x) = led_stays old new led office x
 led_comes old new conn led office (inr x) = led_by old new led office x.rest.raft x.rest.serving (free_connects old.office (moment_of old) (moment_of new) conn x led.free)
 
-pub led_goes : (old new : Running) (conn : ℕ) → IsLed old → new.office ≡ old.office → GoesOr old new conn → IsLed new
+pub led_goes : (old new : Running) (conn : ℕ) → IsLed old → new.office ≡ old.office → MayClose old new conn → IsLed new
 led_goes old new conn led office (inl x) = led_stays old new led office x
 led_goes old new conn led office (inr x) = led_by old new led office x.rest.raft x.rest.serving (free_hangs old.office (moment_of old) (moment_of new) conn x led.free)
 
-pub led_closes : (old new : Running) → IsLed old → new.office ≡ old.office → ClosesSo old new → IsLed new
+pub led_closes : (old new : Running) → IsLed old → new.office ≡ old.office → ClosesIfEnded old new → IsLed new
 led_closes old new led office (inl x) = led_stays old new led office x
 led_closes old new led office (inr x) = led_goes old new x.0 led office x.1.1
 
-pub led_hears : (old new : Running) (conn : ℕ) (bytes : List ℕ) → IsLed old → new.office ≡ old.office → HearsSo old new conn bytes → IsLed new
+pub led_hears : (old new : Running) (conn : ℕ) (bytes : List ℕ) → IsLed old → new.office ≡ old.office → ReceivesBytes old new conn bytes → IsLed new
 led_hears old new conn bytes led office x = led_by old new led office x.1.rest.raft x.1.rest.serving (free_hears old.office (moment_of old) (moment_of new) x.0 x.1 led.free)
 
-pub led_reads : (old new : Running) (conn : ℕ) (told : Option _) → IsLed old → new.office ≡ old.office → ReadsSo old new conn told → IsLed new
+pub led_reads : (old new : Running) (conn : ℕ) (told : Option _) → IsLed old → new.office ≡ old.office → DeliversRead old new conn told → IsLed new
 led_reads old new conn told led office (inl x) = led_stays old new led office x.0
 led_reads old new conn told led office (inr x) = led_by old new led office x.1.1.0.rest.raft x.1.1.0.rest.serving (free_reads old.office (moment_of old) (moment_of new) conn x.1.1.0 led.free)
 
@@ -196,11 +196,11 @@ led_lent old mid led is = led_same old mid led (ap (λ (n : Running). n.office) 
 
 -- ---- a client's message, and a query that is run later
 
-unserved_in : (o : Option Office) (serving : Bool) (h : NodeValue) → InOffice o serving h → o ≡ None → serving ≡ false
+unserved_in : (o : Option Leadership) (serving : Bool) (h : NodeValue) → InOffice o serving h → o ≡ None → serving ≡ false
 unserved_in None serving h g e = g
 unserved_in (Some office) serving h g e = absurd cc
 
-by_office : (o : Option Office) (b : Moment) → (o ≡ None → Free b) → IsFree o b
+by_office : (o : Option Leadership) (b : Moment) → (o ≡ None → Free b) → IsFree o b
 by_office None b f = f refl
 by_office (Some office) b f = tt
 
@@ -227,7 +227,7 @@ module _ (m : Meaning) (kind : EngineKind) (old mid : Running) (going : IsGoing 
   leads = serving_leads old.office old.view.serving old.replica.raft going.office
 
   ended : old.office ≡ None → HasEnded (clients_in old).sessions
-  ended e = (subst (λ (o : Option Office). IsFree o (moment_of old)) e led.free).0
+  ended e = (subst (λ (o : Option Leadership). IsFree o (moment_of old)) e led.free).0
 
   off : old.office ≡ None → old.view.serving ≡ false
   off e = unserved_in old.office old.view.serving old.replica.raft going.office e

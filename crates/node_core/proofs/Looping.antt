@@ -4,30 +4,30 @@ use Rattle.std.specs.Prelude.{OnOk, IfOk}
 use Rattle.sql_engine.specs.declared.kind.EngineKind.{EngineKind}
 use Rattle.sql_engine.specs.Meanings.{Meaning, Told}
 use Rattle.client_connection.specs.Connection.{Conn}
-use Rattle.statement_runs.proofs.Telling.{tells_none}
-use Rattle.session_rules.specs.Events.{told_applied}
-use Rattle.session_rules.specs.Sessions.{Gateway, is_due}
-use Rattle.raft_rules.specs.Node.{is_leader}
+use Rattle.session_statements.proofs.Telling.{tells_none}
+use Rattle.session_spec.specs.Events.{told_applied}
+use Rattle.session_spec.specs.Sessions.{Gateway, is_due}
+use Rattle.raft_spec.specs.Node.{is_leader}
 use Rattle.raft_core.specs.declared.event.RaftEvent.TheVariants as raft_events
-use Rattle.raft_world.specs.Members.{Setup}
+use Rattle.raft_safety.specs.Members.{Setup}
 use Rattle.client_sessions.specs.Calls.{told_at}
 use Rattle.client_sessions.specs.Clients.{offered_on}
 use Rattle.store_laws.specs.Store.{Kept}
-use Rattle.node_replica.specs.Mails.{sent}
-use Rattle.node_replica.specs.Replicas.{ReplicaValue, kept_of}
-use Rattle.node_rules.specs.Accounts.{Moment, no_piece, Goes, MayEnd}
-use Rattle.node_rules.specs.ClientTurns.{Stays}
-use Rattle.node_rules.specs.RaftTurns.{SnapshotGoes}
-use Rattle.node_rules.proofs.Stretches.{nothing_goes_holds}
+use Rattle.raft_on_disk.specs.Mails.{sent}
+use Rattle.raft_on_disk.specs.Replicas.{ReplicaValue, kept_of}
+use Rattle.node_spec.specs.Accounts.{Moment, no_piece, Goes, MayEnd}
+use Rattle.node_spec.specs.ClientTurns.{Stays}
+use Rattle.node_spec.specs.RaftTurns.{SnapshotGoes}
+use Rattle.node_spec.proofs.Stretches.{nothing_goes_holds}
 use Rattle.node_core.specs.declared.event.Event.{Event}
-use Rattle.node_core.specs.declared.outs.Outs.{Outs}
+use Rattle.node_core.specs.declared.outs.StepOutputs.{StepOutputs}
 use Rattle.node_core.specs.declared.running.Running.{Running}
-use Rattle.node_core.specs.Account.{proposals_in, moment_of, Comes, Compacts, AtRest, Fresh, Underway, StepsBy, messages_of}
-use Rattle.node_core.specs.Applying.{AppliesSo}
-use Rattle.node_core.specs.Duties.{DutySo}
-use Rattle.node_core.specs.Performing.{SaysNothing, GoesOr, ClosesSo}
-use Rattle.node_core.specs.Posting.{HadNone}
-use Rattle.node_core.specs.Taking.{TurnsOn, TookLetter, came, none_came, CompactsSo}
+use Rattle.node_core.specs.Account.{proposals_in, moment_of, Comes, Compacts, AtRest, Fresh, Underway, AccountsForStep, messages_of}
+use Rattle.node_core.specs.Applying.{AppliesEntry}
+use Rattle.node_core.specs.Duties.{PerformsDuty}
+use Rattle.node_core.specs.Performing.{SaysNothing, MayClose, ClosesIfEnded}
+use Rattle.node_core.specs.Posting.{HadNoneDue}
+use Rattle.node_core.specs.Taking.{TurnsInTerm, TookLetter, came, none_came, KeepsSnapshot}
 use Rattle.node_core.specs.Values.{seen, clients_in, waiting_on}
 use Rattle.node_core.specs.Waiting.{is_among, NoneIsDue}
 use Rattle.node_core.specs.Whole.{IsGoing, IsQuiet}
@@ -49,7 +49,7 @@ on_ok_then (Err e) f p = tt
 
 module _ (m : Meaning) (kind : EngineKind) (setup : Setup) (bytes : List ℕ) (joins : Option ℕ) where
   -- a turn without a step of Raft
-  turns_rest : {before now : Option Told} (a b : Running) → b.replica ≡ a.replica → RestsBeside a b → QuietTurns m kind setup bytes joins a b before now → TurnsOn m kind setup bytes joins a b before now
+  turns_rest : {before now : Option Told} (a b : Running) → b.replica ≡ a.replica → RestsBeside a b → QuietTurns m kind setup bytes joins a b before now → TurnsInTerm m kind setup bytes joins a b before now
   turns_rest a b replica rests t = record {
     turns = t.0;
     same = record { term = ap (λ (r : ReplicaValue). r.raft.term) replica; leads = ap (λ (r : ReplicaValue). is_leader r.raft.role) replica };
@@ -57,11 +57,11 @@ module _ (m : Meaning) (kind : EngineKind) (setup : Setup) (bytes : List ℕ) (j
     beside = subst (Beside setup a b bytes) (sym t.1) (beside_rest setup bytes a b rests);
   }
 
-  pub turns_kept : {before now : Option Told} (a b : Running) → b.replica ≡ a.replica → b.members ≡ a.members → b.has_links ≡ a.has_links → QuietTurns m kind setup bytes joins a b before now → TurnsOn m kind setup bytes joins a b before now
+  pub turns_kept : {before now : Option Told} (a b : Running) → b.replica ≡ a.replica → b.members ≡ a.members → b.has_links ≡ a.has_links → QuietTurns m kind setup bytes joins a b before now → TurnsInTerm m kind setup bytes joins a b before now
   turns_kept a b replica members links t = turns_rest a b replica (rests_same a b replica members links) t
 
-  pub turns_join : {before mid now : Option Told} (a b c : Running) → TurnsOn m kind setup bytes joins a b before mid →
-      TurnsOn m kind setup bytes joins b c mid now → TurnsOn m kind setup bytes joins a c before now
+  pub turns_join : {before mid now : Option Told} (a b c : Running) → TurnsInTerm m kind setup bytes joins a b before mid →
+      TurnsInTerm m kind setup bytes joins b c mid now → TurnsInTerm m kind setup bytes joins a c before now
   unfolding turns_both
   turns_join a b c x y = record {
     turns = turns_both m kind setup bytes joins a b c x.turns y.turns y.same x.snap;
@@ -73,7 +73,7 @@ module _ (m : Meaning) (kind : EngineKind) (setup : Setup) (bytes : List ℕ) (j
   id_stays : (a b : Running) → b.replica ≡ a.replica → b.replica.id ≡ a.replica.id
   id_stays a b replica = ap (λ (r : ReplicaValue). r.id) replica
 
-  pub fresh_turn : {told : Option Told} (a b : Running) → Fresh a b → TurnsOn m kind setup bytes joins a b told told
+  pub fresh_turn : {told : Option Told} (a b : Running) → Fresh a b → TurnsInTerm m kind setup bytes joins a b told told
   fresh_turn a b f = record {
     turns = record {
       piece = no_piece;
@@ -91,30 +91,30 @@ module _ (m : Meaning) (kind : EngineKind) (setup : Setup) (bytes : List ℕ) (j
   }
 
   -- nothing that the rules see
-  pub stays_turn : {told : Option Told} (a b : Running) → b.replica ≡ a.replica → Stays (moment_of a) (moment_of b) → SaysNothing a b → TurnsOn m kind setup bytes joins a b told told
+  pub stays_turn : {told : Option Told} (a b : Running) → b.replica ≡ a.replica → Stays (moment_of a) (moment_of b) → SaysNothing a b → TurnsInTerm m kind setup bytes joins a b told told
   stays_turn a b replica x quiet = turns_kept a b replica quiet.members quiet.links (turns_stays m kind setup a b (id_stays a b replica) bytes joins x (says_none a b quiet.mail quiet.replies quiet.reads))
 
-  goes_turn : {told : Option Told} (a b : Running) (conn : ℕ) → b.replica ≡ a.replica → GoesOr a b conn → SaysNothing a b → TurnsOn m kind setup bytes joins a b told told
+  goes_turn : {told : Option Told} (a b : Running) (conn : ℕ) → b.replica ≡ a.replica → MayClose a b conn → SaysNothing a b → TurnsInTerm m kind setup bytes joins a b told told
   goes_turn a b conn replica (inl x) quiet = stays_turn a b replica x quiet
   goes_turn a b conn replica (inr x) quiet = turns_kept a b replica quiet.members quiet.links (turns_hangs m kind setup a b (id_stays a b replica) bytes joins conn x (says_none a b quiet.mail quiet.replies quiet.reads))
 
-  pub closes_turn : {told : Option Told} (a b : Running) → b.replica ≡ a.replica → ClosesSo a b → SaysNothing a b → TurnsOn m kind setup bytes joins a b told told
+  pub closes_turn : {told : Option Told} (a b : Running) → b.replica ≡ a.replica → ClosesIfEnded a b → SaysNothing a b → TurnsInTerm m kind setup bytes joins a b told told
   closes_turn a b replica (inl x) quiet = stays_turn a b replica x quiet
   closes_turn a b replica (inr x) quiet = goes_turn a b x.0 replica x.1.1 quiet
 
   -- an entry is applied, and what a leader owes behind it
-  applies_turn : {told : Option Told} (a b : Running) → b.replica ≡ a.replica → AppliesSo a b → TurnsOn m kind setup bytes joins a b told told
+  applies_turn : {told : Option Told} (a b : Running) → b.replica ≡ a.replica → AppliesEntry a b → TurnsInTerm m kind setup bytes joins a b told told
   applies_turn a b replica x =
       let replies = told_applied _ (clients_in a).sessions in
       turns_rest a b replica x.beside (turns_applies m kind setup a b (id_stays a b replica) bytes joins replies x.applies
       (record { posted = []; letters_are = refl; mail = x.mail; told = told_at _ (clients_in a); outs = x.outs; tells = sends_so replies (told_at _ (clients_in a)) refl; reads = x.reads ∙ sym (append-nil a.outs.reads.items) }))
 
-  duties_turn : {told : Option Told} (a b : Running) → b.replica ≡ a.replica → DutySo a b → SaysNothing a b → TurnsOn m kind setup bytes joins a b told told
+  duties_turn : {told : Option Told} (a b : Running) → b.replica ≡ a.replica → PerformsDuty a b → SaysNothing a b → TurnsInTerm m kind setup bytes joins a b told told
   duties_turn a b replica (inl x) quiet = stays_turn a b replica x quiet
   duties_turn a b replica (inr (inl x)) quiet = turns_kept a b replica quiet.members quiet.links (turns_serves m kind setup a b (id_stays a b replica) bytes joins x (says_none a b quiet.mail quiet.replies quiet.reads))
   duties_turn a b replica (inr (inr x)) quiet = turns_kept a b replica quiet.members quiet.links (turns_owes m kind setup a b (id_stays a b replica) bytes joins x.0 x.1 (says_none a b quiet.mail quiet.replies quiet.reads))
 
-  pub entry_turn : {before now : Option Told} (a b c d : Running) → b.replica ≡ a.replica → d.replica ≡ c.replica → AppliesSo a b → TurnsOn m kind setup bytes joins b c before now → DutySo c d → SaysNothing c d → TurnsOn m kind setup bytes joins a d before now
+  pub entry_turn : {before now : Option Told} (a b c d : Running) → b.replica ≡ a.replica → d.replica ≡ c.replica → AppliesEntry a b → TurnsInTerm m kind setup bytes joins b c before now → PerformsDuty c d → SaysNothing c d → TurnsInTerm m kind setup bytes joins a d before now
   entry_turn a b c d first last x t duty quiet = turns_join a b d (applies_turn a b first x) (turns_join b c d t (duties_turn c d last duty quiet))
 
 -- ---- the end of an act
@@ -151,11 +151,11 @@ module _ (m : Meaning) (kind : EngineKind) (setup : Setup) (start : Running) (ev
   abbrev So : Running → Option Told → Type 0
   So n now = Underway m kind setup start n event told now
 
-  pub goes_further : {mid now : Option Told} (a b : Running) → So a mid → MovesLines a b [] → ((bytes : List ℕ) (joins : Option ℕ) → TurnsOn m kind setup bytes joins a b mid now) → So b now
+  pub goes_further : {mid now : Option Told} (a b : Running) → So a mid → MovesLines a b [] → ((bytes : List ℕ) (joins : Option ℕ) → TurnsInTerm m kind setup bytes joins a b mid now) → So b now
   goes_further a b u moves t = underway_on m kind setup start a b event u moves t
 
   -- nothing was due
-  pub had_none : {now : Option Told} (a b : Running) → So a now → HadNone a b → So b now
+  pub had_none : {now : Option Told} (a b : Running) → So a now → HadNoneDue a b → So b now
   had_none a b u h = goes_further a b u (same_moves a b (ap lines_in h.is) (ap (λ (n : Running). n.outs.closed.items) h.is)) (λ bytes joins. fresh_turn m kind setup bytes joins a b (record {
     moment = ap moment_of h.is ∙ (λ i. record { node = seen a; applied = a.applied.index; due = (ap proposals_in h.now ∙ sym (ap proposals_in h.was)) i });
     mail = ap (λ (n : Running). n.mail) h.is;
@@ -167,7 +167,7 @@ module _ (m : Meaning) (kind : EngineKind) (setup : Setup) (start : Running) (ev
   }))
 
   -- an own snapshot is an act of its own
-  pub compacts : {now : Option Told} → SnapshotGoes m kind → (a b : Running) → So a now → IsGoing a → MayEnd (moment_of a) → AtRest a → KeepsConns a b → CompactsSo setup a b → So b now
+  pub compacts : {now : Option Told} → SnapshotGoes m kind → (a b : Running) → So a now → IsGoing a → MayEnd (moment_of a) → AtRest a → KeepsConns a b → KeepsSnapshot setup a b → So b now
   compacts law a b u going end rest keeps c =
       underway_next m kind setup start a a b event u end going.holds.replica.id (record { same = refl; links = refl; mail = refl; replies = refl; reads = refl }) rest (Compacts a.applied.index) tt (λ none. tt) (kept_moves a b keeps) (begins_compact m kind setup a b law c)
 
@@ -185,13 +185,13 @@ module _ (M : EngineKind → Meaning) (setup : Setup) (start : Running) (event :
   abbrev On : EngineKind → Running → Option Told → Type 0
   On l n now = Underway (M l) l setup start n event told now
 
-  pub further_at : {mid now : Option Told} (l : EngineKind) (a b : Running) → l ≡ k → On k a mid → MovesLines a b [] → ((bytes : List ℕ) (joins : Option ℕ) → TurnsOn (M l) l setup bytes joins a b mid now) → On k b now
+  pub further_at : {mid now : Option Told} (l : EngineKind) (a b : Running) → l ≡ k → On k a mid → MovesLines a b [] → ((bytes : List ℕ) (joins : Option ℕ) → TurnsInTerm (M l) l setup bytes joins a b mid now) → On k b now
   further_at {mid} {now} l a b e u moves t = subst (λ z. On z b now) e (goes_further (M l) l setup start event told a b (subst (λ z. On z a mid) (sym e) u) moves t)
 
   pub letter_at : {mid now : Option Told} (l : EngineKind) (a b : Running) → l ≡ k → On k a mid → IsGoing a → MayEnd (moment_of a) → AtRest a → TookLetter (M l) l setup a b mid now → On k b now
   letter_at {mid} {now} l a b e u going end rest t = subst (λ z. On z b now) e (letter_came (M l) l setup start event told a b (subst (λ z. On z a mid) (sym e) u) going end rest t)
 
-  pub closed_at : {F : Type 0} {now : Option Told} (r : Result Bool F) (a b : Running) → On k a now → b.replica ≡ a.replica → OnOk r (ClosesSo a b) → OnOk r (MovesLines a b []) → SaysNothing a b → OnOk r (On k b now)
+  pub closed_at : {F : Type 0} {now : Option Told} (r : Result Bool F) (a b : Running) → On k a now → b.replica ≡ a.replica → OnOk r (ClosesIfEnded a b) → OnOk r (MovesLines a b []) → SaysNothing a b → OnOk r (On k b now)
   closed_at (Ok more) a b u replica c moves quiet = goes_further (M k) k setup start event told a b u moves (λ bytes joins. closes_turn (M k) k setup bytes joins a b replica c quiet)
   closed_at (Err f) a b u replica c moves quiet = tt
 
@@ -210,9 +210,9 @@ ends_behind old a b same going applied due replica index dues turns none session
 
 -- ---- what the step says
 
-pub steps_said : {F : Type 0} {before now : Option Told} (m : Meaning) (kind : EngineKind) (setup : Setup) (a b c : Running) (event : Event) (r : Result Outs F) → Underway m kind setup a b event before now → MayEnd (moment_of b) → b.replica.raft.id ≡ b.replica.id → IsQuiet a → b.heard ≡ None → (b.has_links ≡ true → first_waiting b.links.all.items ≡ None)
+pub steps_said : {F : Type 0} {before now : Option Told} (m : Meaning) (kind : EngineKind) (setup : Setup) (a b c : Running) (event : Event) (r : Result StepOutputs F) → Underway m kind setup a b event before now → MayEnd (moment_of b) → b.replica.raft.id ≡ b.replica.id → IsQuiet a → b.heard ≡ None → (b.has_links ≡ true → first_waiting b.links.all.items ≡ None)
     → c ≡ record b { outs = c.outs; mail = c.mail } → IfOk r (λ outs. (outs.replies.items ≡ b.outs.replies.items) × (outs.closed.items ≡ b.outs.closed.items)) → IfOk r (λ outs. outs.messages.items ≡ sent b.mail)
-    → IfOk r (λ outs. outs.reads.items ≡ b.outs.reads.items) → IfOk r (λ outs. StepsBy m kind setup a c event outs before now)
+    → IfOk r (λ outs. outs.reads.items ≡ b.outs.reads.items) → IfOk r (λ outs. AccountsForStep m kind setup a c event outs before now)
 steps_said m kind setup a b c event (Ok outs) u end id quiet heard none rest said messages reads =
     underway_ends m kind setup a b c event outs u end id quiet.mail quiet.replies quiet.reads (ap seen rest) messages said.0 reads (ap (λ (n : Running). n.has_links) rest)
     (since_ends event a b c outs (messages_of (u.begins ++ u.begin ∷ [])) u.lines quiet.closed (ap lines_in rest) said.1 (ap (λ (n : Running). n.heard) rest ∙ heard)

@@ -4,23 +4,23 @@ use Rattle.std.specs.Prelude.{◌&&◌, ◌||◌, ◌==◌, min, Option, Some}
 use Rattle.std.specs.List.{AllByRecursion}
 use Rattle.std.proofs.lemmas.Bool.{cond_both, and_parts, eq-eqb, eqb-true}
 use Rattle.std.proofs.lemmas.List.{length-replicate, length-append, length-take, length-drop}
-use Rattle.raft_rules.specs.Compaction.{compacted}
-use Rattle.raft_rules.specs.Log.{Entry, nth_term, term_at}
-use Rattle.raft_rules.specs.Node as raft
-use Rattle.raft_rules.specs.Node.{Server, voters}
-use Rattle.raft_rules.specs.NodeValues.{NodeValue, IsCoherent, node_of}
-use Rattle.raft_vote.specs.Servers.{configuration_of}
-use Rattle.raft_world.specs.Members.{is_change, reads, any_change, same_ids, one_more}
+use Rattle.raft_spec.specs.Compaction.{compacted}
+use Rattle.raft_spec.specs.Log.{Entry, nth_term, term_at}
+use Rattle.raft_spec.specs.Node as raft
+use Rattle.raft_spec.specs.Node.{Server, voters}
+use Rattle.raft_spec.specs.NodeValues.{NodeValue, IsCoherent, node_of}
+use Rattle.raft_messages.specs.Servers.{configuration_of}
+use Rattle.raft_safety.specs.Members.{is_change, reads, any_change, same_ids, one_more}
 use Rattle.raft_core.specs.declared.event.RaftEvent.{RaftEvent}
 use Rattle.raft_core.specs.declared.event.RaftEvent.TheVariants as events
 use Rattle.raft_core.specs.Events.{input_of}
-use Rattle.raft_member.specs.Members.{AllStand, last_index, configuration_in, read_setup}
-use Rattle.node_replica.specs.Replicas.{IsWhole}
-use Rattle.node_rules.specs.Changes.{are_near}
-use Rattle.node_rules.specs.Voting.{IsPlain, MayChange}
-use Rattle.node_rules.proofs.VoterTurns.{change_stops}
+use Rattle.raft_membership.specs.Members.{AllStand, last_index, configuration_in, read_setup}
+use Rattle.raft_on_disk.specs.Replicas.{IsWhole}
+use Rattle.node_spec.specs.Changes.{are_near}
+use Rattle.node_spec.specs.Voting.{IsPlain, MayChange}
+use Rattle.node_spec.proofs.VoterTurns.{change_stops}
 use Rattle.node_core.specs.declared.running.Running.{Running}
-use Rattle.node_core.specs.Posting.{MayChangeTo, MayOrNot, HoldsCommit, MayTake, IsUnfit, has_change}
+use Rattle.node_core.specs.Posting.{MayChangeTo, DecidesChange, HoldsCommit, MayTake, IsUnfit, has_change}
 use Rattle.node_core.specs.Values.{seen}
 use Rattle.node_core.specs.Voters.{MayBe, LacksAt}
 use Rattle.node_core.specs.Whole.{IsOwnDue}
@@ -277,7 +277,7 @@ pub may_tell : (opening : List Server) (came : List ℕ) (n : Running) (entry : 
 may_tell opening came n entry servers may = (change_stops opening n.replica.id came (seen n) entry servers may).0
 
 -- what a look at it answers
-pub may_by : (n : Running) (servers : List Server) (b : Bool) → n.members.at ≡ n.replica.raft.commit → last_index n.members ≡ n.members.at → HoldsCommit n.replica.raft → b ≡ are_near (voters n.members.servers) (voters servers) → MayOrNot b n servers
+pub may_by : (n : Running) (servers : List Server) (b : Bool) → n.members.at ≡ n.replica.raft.commit → last_index n.members ≡ n.members.at → HoldsCommit n.replica.raft → b ≡ are_near (voters n.members.servers) (voters servers) → DecidesChange b n servers
 may_by n servers true at none holds near = record { at = at; none = none; held = holds.0; barrier = holds.1; near = sym near }
 may_by n servers false at none holds near = λ room. wrong (near ∙ room.near)
   where

@@ -2,12 +2,12 @@
 use Rattle.std.proofs.Common.{◌≡◌, ℕ, List, refl}
 use Rattle.std.specs.Prelude.{◌&&◌, not, ◌==◌}
 use Rattle.std.proofs.lemmas.Bool.{cond_both}
-use Rattle.raft_rules.specs.Compaction.{compacted_step}
-use Rattle.raft_rules.specs.Log.{Entry}
-use Rattle.raft_rules.specs.Membership.{on_servers}
-use Rattle.raft_rules.specs.Node.{Node, Server, Outcome, Timeout, Beat, Propose, Transfer, Snapped, UseServers, Input, Local, Receive, is_leader, voters}
-use Rattle.raft_rules.specs.Replication.{on_propose, on_transfer}
-use Rattle.raft_rules.specs.Steps.{finish, serve, raft_step}
+use Rattle.raft_spec.specs.Compaction.{compacted_step}
+use Rattle.raft_spec.specs.Log.{Entry}
+use Rattle.raft_spec.specs.Membership.{on_servers}
+use Rattle.raft_spec.specs.Node.{Node, Server, Outcome, Timeout, Beat, Propose, Transfer, Snapped, UseServers, Input, Local, Receive, is_leader, voters}
+use Rattle.raft_spec.specs.Replication.{on_propose, on_transfer}
+use Rattle.raft_spec.specs.Steps.{finish, serve, raft_step}
 use Rattle.node_core.specs.Account.{IsOwn}
 
 abbrev Keeps : Node → Outcome → Type 0

@@ -1,25 +1,25 @@
 -- The turn of what the node gave Raft itself.
 use Rattle.std.proofs.Common.{◌≡◌, ◌≤◌, ℕ, Bool, true, List, [], ◌∷◌, ◌++◌, refl, sym, ap, subst, ◌∙◌, arith}
 use Rattle.std.specs.Prelude.{map, Option, Some, None, MatchOption, ◌<◌}
-use Rattle.page_apply.specs.Machines.{IsMachine}
-use Rattle.raft_rules.specs.Log.{Entry}
-use Rattle.raft_rules.specs.Node as raft
-use Rattle.raft_rules.specs.Node.{is_leader}
-use Rattle.raft_rules.specs.NodeValues.{NodeValue, IsCoherent}
+use Rattle.database_state.specs.Machines.{IsMachine}
+use Rattle.raft_spec.specs.Log.{Entry}
+use Rattle.raft_spec.specs.Node as raft
+use Rattle.raft_spec.specs.Node.{is_leader}
+use Rattle.raft_spec.specs.NodeValues.{NodeValue, IsCoherent}
 use Rattle.raft_core.specs.declared.event.RaftEvent.{RaftEvent}
 use Rattle.raft_core.specs.declared.event.RaftEvent.TheVariants as events
 use Rattle.raft_core.specs.Events.{input_of}
-use Rattle.raft_member.specs.Members.{Configurations, AllStand}
-use Rattle.client_sessions.specs.Seen.{StandOver}
-use Rattle.node_state.specs.declared.office.Office.{Office as Held}
-use Rattle.node_replica.specs.Mails.{MailValue}
-use Rattle.node_replica.specs.Replicas.{ReplicaValue}
-use Rattle.node_rules.specs.Accounts.{SameTerm}
-use Rattle.node_rules.specs.RaftTurns.{HasEnded}
-use Rattle.node_rules.proofs.RaftGoes.{proposals_taken_hold}
+use Rattle.raft_membership.specs.Members.{Configurations, AllStand}
+use Rattle.client_sessions.specs.Seen.{AreValidOver}
+use Rattle.applied_state.specs.declared.leadership.Leadership.{Leadership as Held}
+use Rattle.raft_on_disk.specs.Mails.{MailValue}
+use Rattle.raft_on_disk.specs.Replicas.{ReplicaValue}
+use Rattle.node_spec.specs.Accounts.{SameTerm}
+use Rattle.node_spec.specs.RaftTurns.{HasEnded}
+use Rattle.node_spec.proofs.RaftGoes.{proposals_taken_hold}
 use Rattle.node_core.specs.declared.running.Running.{Running}
 use Rattle.node_core.specs.Account.{proposals_in, moment_of, letter_of, Fresh}
-use Rattle.node_core.specs.Posting.{Posts, LeavesSo, ToldOr, untold, told_servers, told_inputs, ProposesSo, OwnsSo, owns_proposal, owns_transfer, WasDue, MayTake}
+use Rattle.node_core.specs.Posting.{Posts, KeepsAllButLog, MaybeToldServers, untold, told_servers, told_inputs, ProposesFirst, TakesOwnStep, owns_proposal, owns_transfer, TookFirstDue, MayTake}
 use Rattle.node_core.specs.Stepping.{PutsNone, HasMade, HasStepped, HasTold}
 use Rattle.node_core.specs.Values.{clients_in, seen}
 use Rattle.node_core.specs.Voters.{BesideAll}
@@ -42,7 +42,7 @@ puts_none r (events.Servers servers) own = absurd own
 
 -- ---- term and leadership
 
-pub told_same : (a b : Running) → ToldOr a b → SameTerm (moment_of a) (moment_of b)
+pub told_same : (a b : Running) → MaybeToldServers a b → SameTerm (moment_of a) (moment_of b)
 told_same a b (untold e) = subst (λ (n : Running). SameTerm (moment_of a) (moment_of n)) (sym e) (record { term = refl; leads = refl })
 told_same a b (told_servers servers l) = l.same
 
@@ -55,7 +55,7 @@ made_same told made (events.Message m) own p = absurd own
 made_same told made (events.Snapped at) own p = absurd own
 made_same told made (events.Servers servers) own p = absurd own
 
-pub both_same : (popped told made : Running) (event : RaftEvent) → IsOwnDue event → ToldOr popped told → Posts told made (input_of event) → SameTerm (moment_of popped) (moment_of made)
+pub both_same : (popped told made : Running) (event : RaftEvent) → IsOwnDue event → MaybeToldServers popped told → Posts told made (input_of event) → SameTerm (moment_of popped) (moment_of made)
 both_same popped told made event own tells p =
     let a = told_same popped told tells in
     let b = made_same told made event own p in
@@ -71,7 +71,7 @@ leads_same (Some o) h i leads g = g
 
 -- ---- what holds behind it
 
-pub office_made : (popped told made : Running) (event : RaftEvent) (batch : Option ℕ) → IsOwnDue event → ToldOr popped told → HasTold popped told → HasMade told made event batch → Posts told made (input_of event) → InOffice popped.office popped.view.serving popped.replica.raft →
+pub office_made : (popped told made : Running) (event : RaftEvent) (batch : Option ℕ) → IsOwnDue event → MaybeToldServers popped told → HasTold popped told → HasMade told made event batch → Posts told made (input_of event) → InOffice popped.office popped.view.serving popped.replica.raft →
     InOffice made.office made.view.serving made.replica.raft
 office_made popped told made event batch own tells t m p g =
     let s = both_same popped told made event own tells p in
@@ -82,7 +82,7 @@ made_is_stepped : (popped told made : Running) (event : RaftEvent) (batch : Opti
 made_is_stepped popped told made event batch g t m office =
     let is : made ≡ record popped { replica = made.replica; mail = made.mail } = m.is ∙ ap (λ (n : Running). record n { replica = made.replica; mail = made.mail }) t.is in
     stepped_so told made made event batch m t.short refl (record { members = refl; index = refl; servers = refl; seen = refl; due = refl; links = refl })
-    (subst (λ (n : Running). StandOver n.clients n.applied.machine) (sym is) g.holds.clients) (subst (λ (n : Running). HasTurns (clients_in n)) (sym is) g.holds.turns) office
+    (subst (λ (n : Running). AreValidOver n.clients n.applied.machine) (sym is) g.holds.clients) (subst (λ (n : Running). HasTurns (clients_in n)) (sym is) g.holds.turns) office
 
 pub own_past : (popped told made : Running) (event : RaftEvent) (batch : Option ℕ) → IsOwnDue event → IsGoing popped → HasTold popped told → HasMade told made event batch →
     MatchOption batch (Unit {0}) (λ first. (made.replica.raft.base < first) × (made.members.at < first))
@@ -99,14 +99,14 @@ own_stand popped told made event batch g t m =
     let is : made ≡ record popped { replica = made.replica; mail = made.mail } = m.is ∙ ap (λ (n : Running). record n { replica = made.replica; mail = made.mail }) t.is in
     subst (λ (n : Running). AllStand n.members) (sym is) g.holds.members
 
-pub own_holds : (popped told made followed : Running) (event : RaftEvent) (batch : Option ℕ) → IsOwnDue event → IsGoing popped → HasTold popped told → ToldOr popped told → HasMade told made event batch → Posts told made (input_of event) →
+pub own_holds : (popped told made followed : Running) (event : RaftEvent) (batch : Option ℕ) → IsOwnDue event → IsGoing popped → HasTold popped told → MaybeToldServers popped told → HasMade told made event batch → Posts told made (input_of event) →
     AllStand followed.members → followed.members.at ≡ made.members.at → followed ≡ record made { members = followed.members } → Holds followed
 own_holds popped told made followed event batch own g t tells m p stand at is =
     let office = office_made popped told made event batch own tells t m p g.office in
     let s = made_is_stepped popped told made event batch g t m office in
     holds_after popped told made followed event batch g t (puts_none told.replica event own) s (followed_none made followed s.whole s.short stand at office is)
 
-pub own_office_behind : (popped told made followed : Running) (event : RaftEvent) (batch : Option ℕ) → IsOwnDue event → IsGoing popped → HasTold popped told → ToldOr popped told → HasMade told made event batch → Posts told made (input_of event) →
+pub own_office_behind : (popped told made followed : Running) (event : RaftEvent) (batch : Option ℕ) → IsOwnDue event → IsGoing popped → HasTold popped told → MaybeToldServers popped told → HasMade told made event batch → Posts told made (input_of event) →
     followed ≡ record made { members = followed.members } → InOffice followed.office followed.view.serving followed.replica.raft
 own_office_behind popped told made followed event batch own g t tells m p is =
     subst (λ (n : Running). InOffice n.office n.view.serving n.replica.raft) (sym is) (office_made popped told made event batch own tells t m p g.office)
@@ -121,7 +121,7 @@ free_still : (o : Option Held) (a b : Running) → (clients_in b).sessions ≡ (
 free_still None a b sessions due free = (subst HasEnded (sym sessions) free.0, ap proposals_in due ∙ free.1)
 free_still (Some o) a b sessions due free = tt
 
-pub own_led : (popped told made followed new : Running) (event : RaftEvent) (batch : Option ℕ) → IsOwnDue event → IsLed popped → HasTold popped told → ToldOr popped told → HasMade told made event batch → Posts told made (input_of event) →
+pub own_led : (popped told made followed new : Running) (event : RaftEvent) (batch : Option ℕ) → IsOwnDue event → IsLed popped → HasTold popped told → MaybeToldServers popped told → HasMade told made event batch → Posts told made (input_of event) →
     followed ≡ record made { members = followed.members } → new ≡ record followed { view = new.view } → new.view.serving ≡ followed.view.serving → IsLed new
 own_led popped told made followed new event batch own led t tells m p f_is is same = subst IsLed (sym all) (record {
   leads = leads_same popped.office popped.replica.raft made.replica.raft (both_same popped told made event own tells p).leads led.leads;
@@ -150,7 +150,7 @@ posts_due a b w i p = record {
   id = p.id;
 }
 
-leaves_due : (a b w : Running) (i : raft.Input) → LeavesSo a b i → LeavesSo (record a { due = w.due }) (record b { due = w.due }) i
+leaves_due : (a b w : Running) (i : raft.Input) → KeepsAllButLog a b i → KeepsAllButLog (record a { due = w.due }) (record b { due = w.due }) i
 leaves_due a b w i l = record {
   posts = posts_on (record a { due = w.due }) b (record b { due = w.due }) i refl refl (posts_due a b w i l.posts);
   leaves = record {
@@ -165,13 +165,13 @@ leaves_due a b w i l = record {
   snap = l.snap;
 }
 
-pub told_due : (a b w : Running) → ToldOr a b → ToldOr (record a { due = w.due }) (record b { due = w.due })
+pub told_due : (a b w : Running) → MaybeToldServers a b → MaybeToldServers (record a { due = w.due }) (record b { due = w.due })
 told_due a b w (untold e) = untold (ap (λ (n : Running). record n { due = w.due }) e)
 told_due a b w (told_servers servers l) = told_servers servers (leaves_due a b w (raft.Local (raft.UseServers servers)) l)
 
 proposes_at : (told w : Running) (r : ReplicaValue) (mail : MailValue) (c : Configurations) (es : List Entry) → Posts told (record told { replica = r; mail = mail }) (raft.Local (raft.Propose es)) → IsCoherent told.replica.raft → is_leader told.replica.raft.role ≡ true →
     w.due.items ≡ events.Propose es ∷ told.due.items → r.raft.snapshot ≡ told.replica.raft.snapshot → r.snap ≡ told.replica.snap → IsMachine told.applied.machine →
-    ProposesSo (record told { due = w.due }) (record told { replica = r; mail = mail; members = c }) es
+    ProposesFirst (record told { due = w.due }) (record told { replica = r; mail = mail; members = c }) es
 proposes_at told w r mail c es p coherent leads due snapshot snap machine =
     let a : Running = record told { due = w.due } in
     let b : Running = record told { replica = r; mail = mail; members = c } in
@@ -187,13 +187,13 @@ proposes_at told w r mail c es p coherent leads due snapshot snap machine =
     }
 
 -- what Raft was told stays
-pub due_inputs : (a b w : Running) (e : ToldOr a b) → told_inputs (told_due a b w e) ≡ told_inputs e
+pub due_inputs : (a b w : Running) (e : MaybeToldServers a b) → told_inputs (told_due a b w e) ≡ told_inputs e
 unfolding told_due
 due_inputs a b w (untold e) = refl
 due_inputs a b w (told_servers servers l) = refl
 
 -- whatever configurations follow
-leaves_members : (a b : Running) (c : Configurations) (i : raft.Input) → LeavesSo a b i → LeavesSo a (record b { members = c }) i
+leaves_members : (a b : Running) (c : Configurations) (i : raft.Input) → KeepsAllButLog a b i → KeepsAllButLog a (record b { members = c }) i
 leaves_members a b c i l = record {
   posts = posts_on a b (record b { members = c }) i refl refl l.posts;
   leaves = record {
@@ -219,7 +219,7 @@ fresh_due w n new is same due = subst (Fresh (record n { due = w.due })) (sym is
   links = refl;
 })
 
-pub before_is : (before popped : Running) (event : RaftEvent) → WasDue event before popped → record popped { due = before.due } ≡ before
+pub before_is : (before popped : Running) (event : RaftEvent) → TookFirstDue event before popped → record popped { due = before.due } ≡ before
 before_is before popped event was = ap (λ (n : Running). record n { due = before.due }) was.is
 
 -- what is due has no part in what voters are told
@@ -230,9 +230,9 @@ due_behind : (w a b : Running) (is : List raft.Input) → BesideAll a b is → B
 due_behind w a b is beside opening bytes = let x = beside opening bytes in record { voters = x.voters; links = x.links }
 
 -- the two ends of the turn, by what it was
-pub owns_so : (before popped told made followed new : Running) (event : RaftEvent) (batch : Option ℕ) → IsOwnDue event → MayTake event popped.replica.raft → WasDue event before popped → IsGoing popped → HasTold popped told → (tells : ToldOr popped told) →
+pub owns_so : (before popped told made followed new : Running) (event : RaftEvent) (batch : Option ℕ) → IsOwnDue event → MayTake event popped.replica.raft → TookFirstDue event before popped → IsGoing popped → HasTold popped told → (tells : MaybeToldServers popped told) →
     HasMade told made event batch → Posts told made (input_of event) → followed ≡ record made { members = followed.members } → new ≡ record followed { view = new.view } → new.view.serving ≡ followed.view.serving → IsMachine popped.applied.machine →
-    BesideAll popped followed (told_inputs tells ++ input_of event ∷ []) → OwnsSo before new
+    BesideAll popped followed (told_inputs tells ++ input_of event ∷ []) → TakesOwnStep before new
 owns_so before popped told made followed new (events.Propose es) batch own takes was g t tells m p f_is is same machine beside =
     let i : raft.Input = raft.Local (raft.Propose es) in
     let first : Running = record popped { due = before.due } in
@@ -241,8 +241,8 @@ owns_so before popped told made followed new (events.Propose es) batch own takes
     let proposed = proposes_at told before made.replica made.mail followed.members es (subst (λ (n : Running). Posts told n i) m.is p) t.whole.coherent ((told_same popped told tells).leads ∙ takes) due
     (keeps_snapshot told.replica made.replica (events.Propose es) t.whole m.whole m.node m.snap tt) (same_snap told.replica made.replica (events.Propose es) _ refl m.whole m.node m.snap tt)
     (subst (λ (n : Running). IsMachine n.applied.machine) (sym t.is) machine) in
-    subst (λ (n : Running). OwnsSo n new) (before_is before popped (events.Propose es) was)
-    (owns_proposal (record told { due = before.due }) followed es (told_due popped told before tells) (subst (λ (n : Running). ProposesSo (record told { due = before.due }) n es) (sym behind) proposed)
+    subst (λ (n : Running). TakesOwnStep n new) (before_is before popped (events.Propose es) was)
+    (owns_proposal (record told { due = before.due }) followed es (told_due popped told before tells) (subst (λ (n : Running). ProposesFirst (record told { due = before.due }) n es) (sym behind) proposed)
     (subst (λ (told_is : List raft.Input). BesideAll first followed (told_is ++ i ∷ [])) (sym (due_inputs popped told before tells)) (due_before before popped followed (told_inputs tells ++ i ∷ []) beside))
     (fresh_view followed new followed.office new.view is same))
 owns_so before popped told made followed new (events.Transfer to) batch own takes was g t tells m p f_is is same machine beside =
@@ -251,7 +251,7 @@ owns_so before popped told made followed new (events.Transfer to) batch own take
     let l = leaves_so told made i tt tt p m.is (keeps_snapshot told.replica made.replica (events.Transfer to) t.whole m.whole m.node m.snap tt)
     (same_snap told.replica made.replica (events.Transfer to) _ refl m.whole m.node m.snap tt) (subst (λ (n : Running). IsMachine n.applied.machine) (sym t.is) machine) in
     let own_beside = due_before before popped (record made { members = followed.members }) (told_inputs tells ++ i ∷ []) (subst (λ (n : Running). BesideAll popped n (told_inputs tells ++ i ∷ [])) f_is beside) in
-    subst (λ (n : Running). OwnsSo n new) (before_is before popped (events.Transfer to) was)
+    subst (λ (n : Running). TakesOwnStep n new) (before_is before popped (events.Transfer to) was)
     (owns_transfer (record told { due = before.due }) (record (record made { members = followed.members }) { due = before.due }) to (told_due popped told before tells)
     (leaves_due told (record made { members = followed.members }) before i (leaves_members told made followed.members i l))
     (subst (λ (told_is : List raft.Input). BesideAll first (record (record made { members = followed.members }) { due = before.due }) (told_is ++ i ∷ [])) (sym (due_inputs popped told before tells))

@@ -7,29 +7,29 @@ use Rattle.wire_msgs.specs.declared.fault.MsgFault.{MsgFault}
 use Rattle.wire_msgs.specs.declared.request.Request.{Request}
 use Rattle.wire_msgs.specs.declared.request.Request.TheVariants as requests
 use Rattle.wire_msgs.specs.Reading.{request_of}
-use Rattle.raft_rules.specs.Node.{among, voters}
-use Rattle.sql_scan.specs.declared.pieces.Piece.{Piece}
+use Rattle.raft_spec.specs.Node.{among, voters}
+use Rattle.sql_scan.specs.declared.pieces.StatementSpan.{StatementSpan}
 use Rattle.sql_scan.specs.declared.fault.ScanFault.{ScanFault}
 use Rattle.sql_scan.specs.declared.heading.WordKind.{WordKind}
 use Rattle.sql_scan.specs.declared.heading.WordKind.TheVariants as words
 use Rattle.sql_scan.specs.Statements.{scan_of}
 use Rattle.sql_engine.specs.Replies.{Statement}
-use Rattle.session_rules.specs.Causes.{Cause, BadNode}
-use Rattle.session_rules.specs.Engines.{Answer, Ending, Lacking, TooLarge, Stopped, Ended}
-use Rattle.session_rules.specs.Limits.{change_in_flight, one_too_many, log_full, write_hindrance}
-use Rattle.session_rules.specs.Machine.{Machine, is_named}
-use Rattle.session_rules.specs.Requests as rules
-use Rattle.session_rules.specs.Requests.{on_request, on_later, does}
-use Rattle.session_rules.specs.Servers.{has_server}
-use Rattle.session_rules.specs.Sessions.{Prepared, Session, Gateway, Transaction, View, Effect, HandsOver, JoinsPeer, Weighs, in_tx}
-use Rattle.session_rules.specs.Sessions.{Turned, Refused, Lacks, Answers, Proposes, Lends, Affects}
-use Rattle.session_rules.specs.Statements.{prepared_from, prepared_at, prepared_count, is_left_out, is_write_word, any_barred, any_write, wrong_params, with_params, with_all}
-use Rattle.session_rules.specs.Asking as asking
-use Rattle.session_rules.specs.Asking.{Asked, Never, Tells, Sets, Opens, Creates, Prepares, Drops, Begins, Commits, RollsBack, Changes, Runs, Reads, asked_by}
-use Rattle.session_decisions.specs.Scenes.{scene}
-use Rattle.statement_runs.specs.Calls.{EngineCall}
-use Rattle.gateway.specs.declared.act.Act.{Act as GatewayAct}
-use Rattle.gateway.specs.Calls.{Is}
+use Rattle.session_spec.specs.Causes.{Cause, BadNode}
+use Rattle.session_spec.specs.Engines.{Answer, Ending, Lacking, TooLarge, Stopped, Ended}
+use Rattle.session_spec.specs.Limits.{change_in_flight, one_too_many, log_full, write_hindrance}
+use Rattle.session_spec.specs.Machine.{Machine, is_named}
+use Rattle.session_spec.specs.Requests as rules
+use Rattle.session_spec.specs.Requests.{on_request, on_later, does}
+use Rattle.session_spec.specs.Servers.{has_server}
+use Rattle.session_spec.specs.Sessions.{Prepared, Session, Gateway, Transaction, View, Effect, HandsOver, JoinsPeer, Weighs, in_tx}
+use Rattle.session_spec.specs.Sessions.{Turned, Refused, Lacks, Answers, Proposes, Lends, Affects}
+use Rattle.session_spec.specs.Statements.{prepared_from, prepared_at, prepared_count, is_left_out, is_write_word, any_barred, any_write, wrong_params, with_params, with_all}
+use Rattle.session_spec.specs.Asking as asking
+use Rattle.session_spec.specs.Asking.{Asked, Never, Tells, Sets, Opens, Creates, Prepares, Drops, Begins, Commits, RollsBack, Changes, Runs, Reads, asked_by}
+use Rattle.session_outcomes.specs.Scenes.{scene}
+use Rattle.session_statements.specs.Calls.{EngineCall}
+use Rattle.session_gateway.specs.declared.act.Act.{Act as GatewayAct}
+use Rattle.session_gateway.specs.Calls.{Is}
 use Rattle.client_sessions.specs.declared.act.Act.{Act}
 use Rattle.client_sessions.specs.declared.act.Act.TheVariants as acts
 use Rattle.client_sessions.specs.Calls.{act_on, Comes, TookOffer}
@@ -116,7 +116,7 @@ module _ (v : View) (P : ℕ → Type 0) where
     statements active (p ∷ []) params = one active p params
     statements active (p ∷ q ∷ ps) params = several (p ∷ q ∷ ps) params
 
-    text : (active : Bool) (sql : List ℕ) (t : Result (List Piece) ScanFault) (params : List Value) → MayAsk P (asking.asks_text hinders active sql t params)
+    text : (active : Bool) (sql : List ℕ) (t : Result (List StatementSpan) ScanFault) (params : List Value) → MayAsk P (asking.asks_text hinders active sql t params)
     text active sql (Err fault) params = tt
     text active sql (Ok pieces) params = statements active (map (prepared_from sql) pieces) params
 
@@ -131,7 +131,7 @@ module _ (v : View) (P : ℕ → Type 0) where
     sole (p ∷ []) params = query p params
     sole (p ∷ q ∷ ps) params = not_one (p ∷ q ∷ ps)
 
-    rows : (sql : List ℕ) (t : Result (List Piece) ScanFault) (params : List Value) → MayAsk P (asking.asks_rows hinders sql t params)
+    rows : (sql : List ℕ) (t : Result (List StatementSpan) ScanFault) (params : List Value) → MayAsk P (asking.asks_rows hinders sql t params)
     rows sql (Err fault) params = tt
     rows sql (Ok pieces) params = sole (map (prepared_from sql) pieces) params
 
@@ -150,13 +150,13 @@ module _ (v : View) (P : ℕ → Type 0) where
   room : (s : Session) (p : Prepared) (tail : Option ℕ) → MayAsk P (asking.with_room s p tail)
   room s p tail = either (nat_le 64 (prepared_count s.statements)) _ (Prepares p tail) tt tt
 
-  pieces_too : (s : Session) (sql : List ℕ) (wide : Bool) (pieces : List Piece) → MayAsk P (asking.asks_prepare_pieces s sql wide pieces)
+  pieces_too : (s : Session) (sql : List ℕ) (wide : Bool) (pieces : List StatementSpan) → MayAsk P (asking.asks_prepare_pieces s sql wide pieces)
   pieces_too s sql wide [] = tt
   pieces_too s sql wide (p ∷ []) = either (is_left_out p.word) _ _ tt (room s (prepared_from sql p) (asking.tail_of wide p))
   pieces_too s sql wide (p ∷ q ∷ ps) =
       either (any_barred (map (prepared_from sql) (p ∷ q ∷ ps))) _ _ tt (either wide (asking.with_room s (prepared_from sql p) (asking.tail_of wide p)) _ (room s (prepared_from sql p) (asking.tail_of wide p)) tt)
 
-  prepare : (s : Session) (sql : List ℕ) (wide : Bool) (t : Result (List Piece) ScanFault) → MayAsk P (asking.asks_prepare s sql wide t)
+  prepare : (s : Session) (sql : List ℕ) (wide : Bool) (t : Result (List StatementSpan) ScanFault) → MayAsk P (asking.asks_prepare s sql wide t)
   prepare s sql wide (Err fault) = tt
   prepare s sql wide (Ok pieces) = pieces_too s sql wide pieces
 

@@ -6,16 +6,16 @@ use Rattle.std.proofs.lemmas.List.{drop_more, drop_all, take_more, set_split, se
 use Rattle.wire_words.specs.declared.message.Message.{Message}
 use Rattle.client_connection.specs.declared.connection.CloseReason.{CloseReason}
 use Rattle.client_connection.specs.Connection.{Conn, peer_received}
-use Rattle.page_apply.specs.ByName.{FirstAt}
-use Rattle.page_apply.proofs.First.{stays, first_put}
-use Rattle.raft_vote.specs.declared.fault.PeerFault.{PeerFault}
-use Rattle.raft_vote.specs.declared.message.RaftMessage.{RaftMessage}
+use Rattle.database_state.specs.ByName.{FirstAt}
+use Rattle.database_state.proofs.First.{stays, first_put}
+use Rattle.raft_messages.specs.declared.fault.PeerFault.{PeerFault}
+use Rattle.raft_messages.specs.declared.message.RaftMessage.{RaftMessage}
 use Rattle.node_core.specs.declared.links.Letter.{Letter}
 use Rattle.node_core.specs.declared.links.Letter.TheVariants as letters
 use Rattle.node_core.specs.declared.links.Link.{Link}
 use Rattle.node_core.specs.declared.running.Running.{Running}
 use Rattle.node_core.specs.Carrying.{if_from, peers_message, Waiting, with_waiting, behind_link, waiting_of, first_waiting, letter_for, letter_of, LinkTook, TookFirst, is_of, link_on, link_reason, heard_link, reason_at}
-use Rattle.node_core.specs.Carrying.{lines_in, without_link, SentSo, WrongSo}
+use Rattle.node_core.specs.Carrying.{lines_in, without_link, TookPeerMessage, TookWrongMessage}
 
 -- ---- a message
 
@@ -169,14 +169,14 @@ none_of x e = cc
 -- a message that is its peer's
 pub sent_so : (old mid : Running) (me : ℕ) (given : Option Letter) (message : RaftMessage) → old.has_links ≡ true → me ≡ old.view.id
     → TookFirst me (first_waiting old.links.all.items) old.links.all.items mid.links.all.items given → given ≡ Some (letters.Message message) → mid ≡ record old { links = mid.links }
-    → SentSo (lines_in old) (lines_in mid) message
+    → TookPeerMessage (lines_in old) (lines_in mid) message
 sent_so old mid me given message takes id took is same = by (first_waiting old.links.all.items) refl took
   where
     read : (conn : ℕ) (o : Option RaftMessage) → letter_for conn o ≡ letters.Message message → o ≡ Some message
     read conn None e = absurd cc
     read conn (Some m) e = cc
 
-    by : (o : Option Waiting) → first_waiting old.links.all.items ≡ o → TookFirst me o old.links.all.items mid.links.all.items given → SentSo (lines_in old) (lines_in mid) message
+    by : (o : Option Waiting) → first_waiting old.links.all.items ≡ o → TookFirst me o old.links.all.items mid.links.all.items given → TookPeerMessage (lines_in old) (lines_in mid) message
     by None e t = absurd (none_of (letters.Message message) (sym t.0 ∙ is))
     by (Some w) e t = record {
       takes = takes;
@@ -189,14 +189,14 @@ sent_so old mid me given message takes id took is same = by (first_waiting old.l
 -- and one that isn't
 pub wrong_so : (old mid new : Running) (me : ℕ) (given : Option Letter) (conn : ℕ) → old.has_links ≡ true → me ≡ old.view.id
     → TookFirst me (first_waiting old.links.all.items) old.links.all.items mid.links.all.items given → given ≡ Some (letters.Wrong conn)
-    → lines_in new ≡ record (lines_in old) { links = without_link conn mid.links.all.items } → WrongSo (lines_in old) (lines_in new) conn
+    → lines_in new ≡ record (lines_in old) { links = without_link conn mid.links.all.items } → TookWrongMessage (lines_in old) (lines_in new) conn
 wrong_so old mid new me given conn takes id took is same = by (first_waiting old.links.all.items) refl took
   where
     unread : (at : ℕ) (o : Option RaftMessage) → letter_for at o ≡ letters.Wrong conn → (o ≡ None) × (conn ≡ at)
     unread at None e = (refl, cc)
     unread at (Some m) e = absurd cc
 
-    by : (o : Option Waiting) → first_waiting old.links.all.items ≡ o → TookFirst me o old.links.all.items mid.links.all.items given → WrongSo (lines_in old) (lines_in new) conn
+    by : (o : Option Waiting) → first_waiting old.links.all.items ≡ o → TookFirst me o old.links.all.items mid.links.all.items given → TookWrongMessage (lines_in old) (lines_in new) conn
     by None e t = absurd (none_of (letters.Wrong conn) (sym t.0 ∙ is))
     by (Some w) e t =
         let u = unread w.link.conn (peers_message me w.link.peer w.message) (some_of _ _ (sym t.0 ∙ is)) in

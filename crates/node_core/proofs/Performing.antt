@@ -1,13 +1,13 @@
 -- An act for a client is done.
 use Rattle.std.proofs.Common.{◌≡◌, ℕ, List, [], ◌∷◌, ◌++◌, refl, sym, ap, subst, ◌∙◌, append-nil}
-use Rattle.page_apply.specs.Machines.{IsMachine}
-use Rattle.session_rules.specs.Machine.{machine_of}
-use Rattle.raft_rules.specs.Log.{Entry}
+use Rattle.database_state.specs.Machines.{IsMachine}
+use Rattle.session_spec.specs.Machine.{machine_of}
+use Rattle.raft_spec.specs.Log.{Entry}
 use Rattle.raft_core.specs.declared.event.RaftEvent.{RaftEvent}
 use Rattle.raft_core.specs.declared.event.RaftEvent.TheVariants as raft_events
 use Rattle.client_sessions.specs.declared.act.Act.{Act}
 use Rattle.client_sessions.specs.declared.act.Act.TheVariants as acts
-use Rattle.node_core.specs.declared.outs.Outs.{Outs}
+use Rattle.node_core.specs.declared.outs.StepOutputs.{StepOutputs}
 use Rattle.node_core.specs.declared.running.Running.{Running}
 use Rattle.node_core.specs.Account.{proposals_in}
 use Rattle.node_core.specs.Performing.{Performed}
@@ -44,7 +44,7 @@ performed_propose old new act conn entries kind machine due is = subst (λ (a : 
   files = ap (λ (n : Running). machine_of n.applied.machine) is;
 })
 
-pub performed_transfer : (old new : Running) (outs : Outs) (act : Act) (conn to : ℕ) (reply : List ℕ) → act ≡ acts.Transfer conn to reply → IsMachine old.applied.machine → outs.replies.items ≡ old.outs.replies.items ++ (conn, reply) ∷ [] → outs.reads.items ≡ old.outs.reads.items
+pub performed_transfer : (old new : Running) (outs : StepOutputs) (act : Act) (conn to : ℕ) (reply : List ℕ) → act ≡ acts.Transfer conn to reply → IsMachine old.applied.machine → outs.replies.items ≡ old.outs.replies.items ++ (conn, reply) ∷ [] → outs.reads.items ≡ old.outs.reads.items
     → new.due.items ≡ old.due.items ++ raft_events.Transfer to ∷ [] → new ≡ record old { outs = outs; due = new.due } → Performed old new act
 performed_transfer old new outs act conn to reply kind machine said unread due is = subst (λ (a : Act). Performed old new a) (sym kind) (record {
   replies = ap (λ (n : Running). n.outs.replies.items) is ∙ said;

@@ -4,12 +4,12 @@ use Rattle.std.specs.Prelude.{◌==◌, ◌||◌, ◌&&◌, not, is_none}
 use Rattle.std.specs.List.{filter, flat_map}
 use Rattle.std.specs.Option.{option_or}
 use Rattle.wire_msgs.specs.declared.response.Response.{Response}
-use Rattle.session_rules.specs.Sessions.{Reply, Refusal, Single, Rows, Kind, Opening, Configuring, Writing, Committing, Querying, Flight, Session, Gateway, absent, fresh, is_busy, is_due, responses_of}
-use Rattle.session_rules.specs.Causes.{LeadershipLost}
-use Rattle.session_rules.specs.Events.{tidy, landed, settled_by, on_applied, landed_reply, told_to, told_by, told_applied, lost, on_lost, ordered, last_of, waits, told_lost, left, on_hangup, connects, connected}
-use Rattle.session_rules.specs.Requests.{with_later, with_session, without_later}
+use Rattle.session_spec.specs.Sessions.{Reply, Refusal, Single, Rows, Kind, Opening, Configuring, Writing, Committing, Querying, Flight, Session, Gateway, absent, fresh, is_busy, is_due, responses_of}
+use Rattle.session_spec.specs.Causes.{LeadershipLost}
+use Rattle.session_spec.specs.Events.{tidy, landed, settled_by, on_applied, landed_reply, told_to, told_by, told_applied, lost, on_lost, ordered, last_of, waits, told_lost, left, on_hangup, connects, connected}
+use Rattle.session_spec.specs.Requests.{with_later, with_session, without_later}
 use Rattle.session_table.specs.Sweeping.{told_in, all_told}
-use Rattle.gateway.specs.Later.{first_due_in, first_due}
+use Rattle.session_gateway.specs.Later.{first_due_in, first_due}
 use Rattle.client_sessions.specs.Clients.{Clients, joining, offered_on, offer_of, next_offer}
 use Rattle.node_core.specs.Plain.{plain_reply, plain_kind, plain_flight, plain_session, plain_gate}
 

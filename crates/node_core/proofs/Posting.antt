@@ -1,30 +1,30 @@
 -- What a replica's call says of its step is a step of Raft that is kept and posted, and what its turn leaves.
 use Rattle.std.proofs.Common.{◌≡◌, ℕ, Bool, true, false, not, List, [], refl, sym, ap, subst, ◌∙◌, append-nil}
 use Rattle.std.specs.Prelude.{map, ◌&&◌, ◌==◌, Option, Some, None}
-use Rattle.page_apply.specs.Machines.{IsMachine}
-use Rattle.session_rules.specs.Machine.{machine_of}
-use Rattle.session_rules.specs.Events.{told_lost}
-use Rattle.raft_rules.specs.Node as raft
-use Rattle.raft_rules.specs.Node.{is_leader}
-use Rattle.raft_rules.specs.NodeValues.{IsCoherent, node_of}
-use Rattle.raft_vote.specs.declared.message.RaftMessage.{RaftMessage}
+use Rattle.database_state.specs.Machines.{IsMachine}
+use Rattle.session_spec.specs.Machine.{machine_of}
+use Rattle.session_spec.specs.Events.{told_lost}
+use Rattle.raft_spec.specs.Node as raft
+use Rattle.raft_spec.specs.Node.{is_leader}
+use Rattle.raft_spec.specs.NodeValues.{IsCoherent, node_of}
+use Rattle.raft_messages.specs.declared.message.RaftMessage.{RaftMessage}
 use Rattle.raft_core.specs.declared.event.RaftEvent.{RaftEvent}
 use Rattle.raft_core.specs.declared.event.RaftEvent.TheVariants as events
 use Rattle.raft_core.specs.Events.{input_of}
 use Rattle.client_sessions.specs.Calls.{told_all_lost}
-use Rattle.raft_member.specs.Members.{Configurations}
-use Rattle.node_state.specs.declared.office.Office.{Office as Held}
-use Rattle.node_replica.specs.Letters.{Tells}
-use Rattle.node_replica.specs.Mails.{MailValue, all_posted}
-use Rattle.node_replica.specs.Replicas.{ReplicaValue, IsWhole, kept_of, stepped, said}
-use Rattle.node_rules.specs.Accounts.{SameTerm}
-use Rattle.node_rules.specs.Steps.{AllSent}
-use Rattle.node_rules.specs.Turns.{KeepsAll}
-use Rattle.node_rules.specs.RaftTurns.{RaftSteps, LeavesLog, HasEnded, Office, in_office, loses, has_none, IsNoProposal}
-use Rattle.node_rules.proofs.EndedSessions.{ends_on_holds}
+use Rattle.raft_membership.specs.Members.{Configurations}
+use Rattle.applied_state.specs.declared.leadership.Leadership.{Leadership as Held}
+use Rattle.raft_on_disk.specs.Letters.{Tells}
+use Rattle.raft_on_disk.specs.Mails.{MailValue, all_posted}
+use Rattle.raft_on_disk.specs.Replicas.{ReplicaValue, IsWhole, kept_of, stepped, said}
+use Rattle.node_spec.specs.Accounts.{SameTerm}
+use Rattle.node_spec.specs.Steps.{AllSent}
+use Rattle.node_spec.specs.Turns.{KeepsAll}
+use Rattle.node_spec.specs.RaftTurns.{RaftSteps, LeavesLog, HasEnded, LeadershipFollows, in_office, loses, has_none, IsNoProposal}
+use Rattle.node_spec.proofs.EndedSessions.{ends_on_holds}
 use Rattle.node_core.specs.declared.running.Running.{Running}
 use Rattle.node_core.specs.Account.{proposals_in, moment_of, letter_of, IsOwn}
-use Rattle.node_core.specs.Posting.{Posts, LeavesSo, ends_office, LosesSo, OfficeSo, FollowsSo}
+use Rattle.node_core.specs.Posting.{Posts, KeepsAllButLog, ends_office, LosesLeadership, FollowsLeadership, StepsWithoutSnapshot}
 use Rattle.node_core.specs.Values.{clients_in, waiting_on}
 use Rattle.node_core.specs.Whole.{IsOutside, InOffice, LeadsInOffice, ServesLast, IsFree, IsLed}
 use Rattle.node_core.proofs.Accounting.{sends_none}
@@ -78,7 +78,7 @@ same_term old new i own p =
     }
 
 leaves_at : (old : Running) (q : ReplicaValue) (mail : MailValue) (i : raft.Input) → LeavesLog i → IsOwn i → Posts old (record old { replica = q; mail = mail }) i → q.raft.snapshot ≡ old.replica.raft.snapshot → q.snap ≡ old.replica.snap →
-    IsMachine old.applied.machine → LeavesSo old (record old { replica = q; mail = mail }) i
+    IsMachine old.applied.machine → KeepsAllButLog old (record old { replica = q; mail = mail }) i
 leaves_at old q mail i leaves own p snapshot snap machine = record {
   posts = p;
   leaves = record {
@@ -94,9 +94,9 @@ leaves_at old q mail i leaves own p snapshot snap machine = record {
 }
 
 pub leaves_so : (old new : Running) (i : raft.Input) → LeavesLog i → IsOwn i → Posts old new i → new ≡ record old { replica = new.replica; mail = new.mail } → new.replica.raft.snapshot ≡ old.replica.raft.snapshot → new.replica.snap ≡ old.replica.snap →
-    IsMachine old.applied.machine → LeavesSo old new i
+    IsMachine old.applied.machine → KeepsAllButLog old new i
 leaves_so old new i leaves own p is snapshot snap machine =
-    subst (λ (n : Running). LeavesSo old n i) (sym is) (leaves_at old new.replica new.mail i leaves own (subst (λ (n : Running). Posts old n i) is p) snapshot snap machine)
+    subst (λ (n : Running). KeepsAllButLog old n i) (sym is) (leaves_at old new.replica new.mail i leaves own (subst (λ (n : Running). Posts old n i) is p) snapshot snap machine)
 
 -- ---- an office that is lost
 
@@ -109,7 +109,7 @@ not_true true e = absurd cc
 not_true false e = refl
 
 office_kept : (old new : Running) → new.outs.replies.items ≡ old.outs.replies.items → new.outs.reads.items ≡ old.outs.reads.items → ((conn : ℕ) → (moment_of new).node.waiting conn ≡ (moment_of old).node.waiting conn) → IsMachine new.applied.machine →
-    machine_of new.applied.machine ≡ machine_of old.applied.machine → Office (moment_of old) (moment_of new) [] → OfficeSo old new
+    machine_of new.applied.machine ≡ machine_of old.applied.machine → LeadershipFollows (moment_of old) (moment_of new) [] → FollowsLeadership old new
 office_kept old new outs reads waiting machine files office = record {
   replies = [];
   office = office;
@@ -124,14 +124,14 @@ office_kept old new outs reads waiting machine files office = record {
 
 -- Behind Raft's step an office was kept or lost.
 offices_at : (old : Running) (q : ReplicaValue) (mail : MailValue) (new : Running) (o : Option Held) → InOffice o old.view.serving old.replica.raft → LeadsInOffice o old.replica.raft → IsFree o (moment_of old) → IsMachine old.applied.machine →
-    (ends_office o q.raft ≡ false → new ≡ record old { replica = q; mail = mail }) → (ends_office o q.raft ≡ true → LosesSo (record old { replica = q; mail = mail }) new × (new.view.serving ≡ false)) →
-    new.replica ≡ q → (b : Bool) → ends_office o q.raft ≡ b → OfficeSo old new
+    (ends_office o q.raft ≡ false → new ≡ record old { replica = q; mail = mail }) → (ends_office o q.raft ≡ true → LosesLeadership (record old { replica = q; mail = mail }) new × (new.view.serving ≡ false)) →
+    new.replica ≡ q → (b : Bool) → ends_office o q.raft ≡ b → FollowsLeadership old new
 offices_at old q mail new None office led free machine stays lost same true e = absurd cc
 offices_at old q mail new None office led free machine stays lost same false e =
-    subst (OfficeSo old) (sym (stays e)) (office_kept old (record old { replica = q; mail = mail }) refl refl (λ conn. refl) machine refl
+    subst (FollowsLeadership old) (sym (stays e)) (office_kept old (record old { replica = q; mail = mail }) refl refl (λ conn. refl) machine refl
     (office_lacks (moment_of old) (moment_of (record old { replica = q; mail = mail })) led free.0 refl office office))
 offices_at old q mail new (Some o) office led free machine stays lost same false e =
-    subst (OfficeSo old) (sym (stays e)) (office_kept old (record old { replica = q; mail = mail }) refl refl (λ conn. refl) machine refl
+    subst (FollowsLeadership old) (sym (stays e)) (office_kept old (record old { replica = q; mail = mail }) refl refl (λ conn. refl) machine refl
     (office_stays (moment_of old) (moment_of (record old { replica = q; mail = mail })) o.term office.0 office.1 (not_false (is_leader q.raft.role && (o.term == q.raft.term)) e) refl refl))
 offices_at old q mail new (Some o) office led free machine stays lost same true e =
     let l = (lost e).0 in
@@ -150,17 +150,17 @@ offices_at old q mail new (Some o) office led free machine stays lost same true 
     }
 
 pub offices_so : (old mid new : Running) → InOffice old.office old.view.serving old.replica.raft → IsLed old → IsMachine old.applied.machine → mid ≡ record old { replica = mid.replica; mail = mid.mail } →
-    (ends_office mid.office mid.replica.raft ≡ false → new ≡ mid) → (ends_office mid.office mid.replica.raft ≡ true → LosesSo mid new) → (ends_office mid.office mid.replica.raft ≡ true → (new.office ≡ None) × (new.view.serving ≡ false)) →
-    new.replica ≡ mid.replica → OfficeSo old new
+    (ends_office mid.office mid.replica.raft ≡ false → new ≡ mid) → (ends_office mid.office mid.replica.raft ≡ true → LosesLeadership mid new) → (ends_office mid.office mid.replica.raft ≡ true → (new.office ≡ None) × (new.view.serving ≡ false)) →
+    new.replica ≡ mid.replica → FollowsLeadership old new
 offices_so old mid new office led machine is stays lost left same =
     let same_office : mid.office ≡ old.office = ap (λ (n : Running). n.office) is in
     let ends : (b : Bool) → ends_office old.office mid.replica.raft ≡ b → ends_office mid.office mid.replica.raft ≡ b = λ b e. ap (λ (o : Option Held). ends_office o mid.replica.raft) same_office ∙ e in
     offices_at old mid.replica mid.mail new old.office office led.leads led.free machine (λ e. stays (ends false e) ∙ is)
-    (λ e. (subst (λ (n : Running). LosesSo n new) is (lost (ends true e)), (left (ends true e)).1)) same (ends_office old.office mid.replica.raft) refl
+    (λ e. (subst (λ (n : Running). LosesLeadership n new) is (lost (ends true e)), (left (ends true e)).1)) same (ends_office old.office mid.replica.raft) refl
 
 -- who is in no office behind it has nothing open or in flight
 free_at : (old : Running) (q : ReplicaValue) (mail : MailValue) (new : Running) (o : Option Held) → IsFree o (moment_of old) → old.due.items ≡ [] →
-    (ends_office o q.raft ≡ false → new ≡ record old { replica = q; mail = mail }) → (ends_office o q.raft ≡ true → LosesSo (record old { replica = q; mail = mail }) new × (new.due.items ≡ old.due.items)) →
+    (ends_office o q.raft ≡ false → new ≡ record old { replica = q; mail = mail }) → (ends_office o q.raft ≡ true → LosesLeadership (record old { replica = q; mail = mail }) new × (new.due.items ≡ old.due.items)) →
     (b : Bool) → ends_office o q.raft ≡ b → (p : Option Held) → (b ≡ false → p ≡ o) → IsFree p (moment_of new)
 free_at old q mail new o free idle stays lost b e (Some p) which = tt
 free_at old q mail new None free idle stays lost true e None which = absurd cc
@@ -171,12 +171,12 @@ free_at old q mail new (Some o) free idle stays lost true e None which =
     (subst HasEnded (sym (lost_sessions (clients_in old) (clients_in new) l.0.clients)) (ends_on_holds.lost_all (clients_in old).sessions), ap proposals_in (l.1 ∙ idle))
 
 pub free_so : (old mid new : Running) → IsLed old → old.due.items ≡ [] → mid ≡ record old { replica = mid.replica; mail = mid.mail } →
-    (ends_office mid.office mid.replica.raft ≡ false → new ≡ mid) → (ends_office mid.office mid.replica.raft ≡ true → LosesSo mid new) → new.due.items ≡ mid.due.items → IsFree new.office (moment_of new)
+    (ends_office mid.office mid.replica.raft ≡ false → new ≡ mid) → (ends_office mid.office mid.replica.raft ≡ true → LosesLeadership mid new) → new.due.items ≡ mid.due.items → IsFree new.office (moment_of new)
 free_so old mid new led idle is stays lost due =
     let same_office : mid.office ≡ old.office = ap (λ (n : Running). n.office) is in
     let ends : (b : Bool) → ends_office old.office mid.replica.raft ≡ b → ends_office mid.office mid.replica.raft ≡ b = λ b e. ap (λ (o : Option Held). ends_office o mid.replica.raft) same_office ∙ e in
     free_at old mid.replica mid.mail new old.office led.free idle (λ e. stays (ends false e) ∙ is)
-    (λ e. (subst (λ (n : Running). LosesSo n new) is (lost (ends true e)), due ∙ ap (λ (n : Running). n.due.items) is)) (ends_office old.office mid.replica.raft) refl new.office
+    (λ e. (subst (λ (n : Running). LosesLeadership n new) is (lost (ends true e)), due ∙ ap (λ (n : Running). n.due.items) is)) (ends_office old.office mid.replica.raft) refl new.office
     (λ e. ap (λ (n : Running). n.office) (stays (ends false e)) ∙ same_office)
 
 pub serves_so : (old mid new : Running) → IsLed old → mid ≡ record old { replica = mid.replica; mail = mid.mail } → (ends_office mid.office mid.replica.raft ≡ false → new ≡ mid) →
@@ -199,8 +199,8 @@ outside_plain (events.Snapped at) o = absurd o
 outside_plain (events.Servers servers) o = absurd o
 
 -- behind Raft's step, whatever configurations follow it
-pub follows_so : (old step : Running) (event : RaftEvent) (c : Configurations) → IsOutside event → Posts old step (input_of event) → OfficeSo old step → old.due.items ≡ [] → step.due.items ≡ old.due.items →
-    step.applied.index ≡ old.applied.index → step.replica.raft.snapshot ≡ old.replica.raft.snapshot → step.replica.snap ≡ old.replica.snap → FollowsSo old (record step { members = c }) (input_of event)
+pub follows_so : (old step : Running) (event : RaftEvent) (c : Configurations) → IsOutside event → Posts old step (input_of event) → FollowsLeadership old step → old.due.items ≡ [] → step.due.items ≡ old.due.items →
+    step.applied.index ≡ old.applied.index → step.replica.raft.snapshot ≡ old.replica.raft.snapshot → step.replica.snap ≡ old.replica.snap → StepsWithoutSnapshot old (record step { members = c }) (input_of event)
 follows_so old step event c outside p o idle due index snapshot snap = record {
   posts = posts_on old step (record step { members = c }) (input_of event) refl refl p;
   replies = o.replies;
@@ -222,7 +222,7 @@ follows_so old step event c outside p o idle due index snapshot snap = record {
   reads = o.reads;
 }
   where
-    same_office : Office (moment_of old) (moment_of step) o.replies → Office (moment_of old) (moment_of (record step { members = c })) o.replies
+    same_office : LeadershipFollows (moment_of old) (moment_of step) o.replies → LeadershipFollows (moment_of old) (moment_of (record step { members = c })) o.replies
     same_office (in_office a b t s v r) = in_office a b t s v r
     same_office (loses a b s v r) = loses a b s v r
     same_office (has_none a h s u v r) = has_none a h s u v r

@@ -3,33 +3,33 @@ use Rattle.std.proofs.Common.{◌≡◌, inr, ℕ, ◌<◌, ◌≤◌, false, co
 use Rattle.std.specs.Prelude.{◌-◌, drop, map, nat_lt, Option, Some, None}
 use Rattle.std.specs.List.{AllByRecursion}
 use Rattle.std.proofs.lemmas.Bool.{cond_both, cond-true, ltb-true, lt-ltb}
-use Rattle.raft_rules.specs.Log.{LogEnd}
-use Rattle.raft_rules.specs.Node as rules
-use Rattle.raft_rules.specs.NodeValues.{NodeValue, IsCoherent, node_of}
-use Rattle.raft_rules.specs.Compaction.{compacted_step}
-use Rattle.raft_vote.specs.declared.message.Snapshot.{Snapshot}
-use Rattle.raft_vote.specs.declared.message.What.{What}
-use Rattle.raft_vote.specs.declared.message.What.TheVariants as whats
-use Rattle.raft_vote.specs.declared.message.RaftMessage.{RaftMessage}
-use Rattle.raft_vote.specs.Messages.{message_value}
+use Rattle.raft_spec.specs.Log.{LogEnd}
+use Rattle.raft_spec.specs.Node as rules
+use Rattle.raft_spec.specs.NodeValues.{NodeValue, IsCoherent, node_of}
+use Rattle.raft_spec.specs.Compaction.{compacted_step}
+use Rattle.raft_messages.specs.declared.message.Snapshot.{Snapshot}
+use Rattle.raft_messages.specs.declared.message.MessageBody.{MessageBody}
+use Rattle.raft_messages.specs.declared.message.MessageBody.TheVariants as whats
+use Rattle.raft_messages.specs.declared.message.RaftMessage.{RaftMessage}
+use Rattle.raft_messages.specs.Messages.{message_value}
 use Rattle.raft_core.specs.declared.event.RaftEvent.{RaftEvent}
 use Rattle.raft_core.specs.declared.event.RaftEvent.TheVariants as events
 use Rattle.raft_core.specs.Events.{input_of, offered}
-use Rattle.raft_world.specs.Members.{Setup}
+use Rattle.raft_safety.specs.Members.{Setup}
 use Rattle.store_laws.specs.Names.{NodeFiles}
 use Rattle.store_laws.specs.Store.{Snap, Log, Kept}
 use Rattle.store_laws.specs.Meta.{with_vote}
 use Rattle.store_laws.specs.Snapshots.{Longer, Left, given}
 use Rattle.store_format.specs.FilesRead.{snap_kept}
-use Rattle.node_replica.specs.Keeping.{kept_at}
-use Rattle.node_replica.specs.Letters.{Carries, CarriesIn, Tells}
-use Rattle.node_replica.specs.Replicas.{ReplicaValue, IsWhole, IsIntake, kept_of, stepped, said, bytes_in, bytes_after, snap_after, HasMoved, snapped}
-use Rattle.node_replica.specs.Stops.{MayLoad, before, between, after}
-use Rattle.node_rules.specs.Steps.{Letter, WhatSent, AllSent}
-use Rattle.node_rules.specs.Accounts.{Moment}
-use Rattle.node_rules.specs.RaftTurns.{raft_after, RaftSteps, KeepsSnapshot, SpellsApplied, BytesAfter, own_bytes, StopsAt, at_first, at_vote, at_end}
-use Rattle.node_rules.specs.RaftTurns as turns
-use Rattle.node_rules.proofs.RaftGoes.{all_is_kept_holds}
+use Rattle.raft_on_disk.specs.Keeping.{kept_at}
+use Rattle.raft_on_disk.specs.Letters.{Carries, CarriesIn, Tells}
+use Rattle.raft_on_disk.specs.Replicas.{ReplicaValue, IsWhole, IsIntake, kept_of, stepped, said, bytes_in, bytes_after, snap_after, HasMoved, snapped}
+use Rattle.raft_on_disk.specs.Stops.{MayLoad, before, between, after}
+use Rattle.node_spec.specs.Steps.{Letter, WhatSent, AllSent}
+use Rattle.node_spec.specs.Accounts.{Moment}
+use Rattle.node_spec.specs.RaftTurns.{raft_after, RaftSteps, KeepsSnapshot, SpellsApplied, BytesAfter, own_bytes, StopsAt, at_first, at_vote, at_end}
+use Rattle.node_spec.specs.RaftTurns as turns
+use Rattle.node_spec.proofs.RaftGoes.{all_is_kept_holds}
 use Rattle.node_core.specs.Account as account
 use Rattle.node_core.specs.Finding.{Loads}
 use Rattle.node_core.specs.Account.{letter_of}
@@ -69,7 +69,7 @@ sent_so a b q (m ∷ messages) y whole carries = (what m.what carries.0, sent_so
     bytes : b.node.kept.snap.bytes ≡ q.snap.bytes
     bytes = ap (λ (k : Kept). k.snap.bytes) y.kept
 
-    what : (w : What) → Carries q.snap w → WhatSent a.node.kept b.node.kept (account.bytes_in w) (message_value (record m { what = w })).what
+    what : (w : MessageBody) → Carries q.snap w → WhatSent a.node.kept b.node.kept (account.bytes_in w) (message_value (record m { what = w })).what
     what (whats.Install snapshot) c = inr (ap (λ (s : Snap). s.index) c ∙ sym index, ap (λ (s : Snap). s.bytes) c ∙ sym bytes)
     what (whats.AskVote last) c = tt
     what (whats.Vote granted) c = tt

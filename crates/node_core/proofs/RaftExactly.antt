@@ -5,23 +5,23 @@ use Rattle.std.specs.Prelude.{Option, Some, None, is_some, ◌&&◌, ◌||◌, �
 use Rattle.std.proofs.lemmas.List.{map-append, take_more}
 use Rattle.std.proofs.lemmas.List.Elements.{filter-append}
 use Rattle.std.proofs.lemmas.Bool.{cond-true, cond-false, lt-ltb, le-ltb, or_parts}
-use Rattle.page_apply.specs.declared.database.Database.{Database}
-use Rattle.page_apply.specs.Machines.{names_of}
-use Rattle.page_apply.specs.Restoring.{restored}
-use Rattle.session_rules.specs.Machine.{machine_of}
-use Rattle.session_rules.specs.Sessions.{Reply, View}
+use Rattle.database_state.specs.declared.database.Database.{Database}
+use Rattle.database_state.specs.Machines.{names_of}
+use Rattle.database_state.specs.Restoring.{restored}
+use Rattle.session_spec.specs.Machine.{machine_of}
+use Rattle.session_spec.specs.Sessions.{Reply, View}
 use Rattle.session_table.specs.Sweeping.{all_told}
-use Rattle.raft_rules.specs.Compaction.{compacted_step}
-use Rattle.raft_rules.specs.Log.{Entry, LogEnd, log_end}
-use Rattle.raft_rules.specs.Node.{Role, Leader, Candidate, Follower, Node, Server, is_leader}
-use Rattle.raft_rules.specs.NodeValues.{NodeValue, node_of}
-use Rattle.raft_world.specs.Members.{any_change, changes, is_change, reads}
-use Rattle.raft_member.specs.Members.{Configurations, all_changed, configuration_in, cut_at, first_of, last_servers, read_setup}
-use Rattle.raft_vote.specs.Servers.{configuration_of}
-use Rattle.raft_vote.specs.declared.message.RaftMessage.{RaftMessage}
-use Rattle.raft_vote.specs.declared.message.Snapshot.{Snapshot}
-use Rattle.raft_vote.specs.declared.message.What.{What}
-use Rattle.raft_vote.specs.declared.message.What.TheVariants as whats
+use Rattle.raft_spec.specs.Compaction.{compacted_step}
+use Rattle.raft_spec.specs.Log.{Entry, LogEnd, log_end}
+use Rattle.raft_spec.specs.Node.{Role, Leader, Candidate, Follower, Node, Server, is_leader}
+use Rattle.raft_spec.specs.NodeValues.{NodeValue, node_of}
+use Rattle.raft_safety.specs.Members.{any_change, changes, is_change, reads}
+use Rattle.raft_membership.specs.Members.{Configurations, all_changed, configuration_in, cut_at, first_of, last_servers, read_setup}
+use Rattle.raft_messages.specs.Servers.{configuration_of}
+use Rattle.raft_messages.specs.declared.message.RaftMessage.{RaftMessage}
+use Rattle.raft_messages.specs.declared.message.Snapshot.{Snapshot}
+use Rattle.raft_messages.specs.declared.message.MessageBody.{MessageBody}
+use Rattle.raft_messages.specs.declared.message.MessageBody.TheVariants as whats
 use Rattle.raft_core.specs.Events.{brought, input_of, offered}
 use Rattle.raft_core.specs.Queries.{leader_at}
 use Rattle.raft_core.specs.declared.event.RaftEvent.{RaftEvent}
@@ -30,20 +30,20 @@ use Rattle.client_sessions.specs.Calls.{lost_all, sent, told_all_lost, told_conn
 use Rattle.client_sessions.specs.Clients.{Clients}
 use Rattle.client_sessions.specs.Seen.{clients_of}
 use Rattle.client_sessions.specs.declared.clients.Clients.{Clients as Held}
-use Rattle.node_replica.specs.Letters.{Tells}
-use Rattle.node_replica.specs.Looking.{puts_snapshot}
-use Rattle.node_replica.specs.Mails.{MailValue, all_posted}
-use Rattle.node_replica.specs.Replicas.{ReplicaValue, IsWhole, HasMoved, said, snap_after, stepped}
-use Rattle.node_state.specs.Snapshot.{IsRestored, NodeSnapshot, offered_to, snapshot_in, snapshot_value}
-use Rattle.node_state.specs.declared.applied.Applied.{Applied}
-use Rattle.node_state.specs.declared.office.Office.{Office}
-use Rattle.node_state.specs.declared.office.Phase.TheVariants.{Barrier}
-use Rattle.node_core.specs.declared.outs.Outs.{Outs}
+use Rattle.raft_on_disk.specs.Letters.{Tells}
+use Rattle.raft_on_disk.specs.Looking.{puts_snapshot}
+use Rattle.raft_on_disk.specs.Mails.{MailValue, all_posted}
+use Rattle.raft_on_disk.specs.Replicas.{ReplicaValue, IsWhole, HasMoved, said, snap_after, stepped}
+use Rattle.applied_state.specs.Snapshot.{IsRestored, NodeSnapshot, offered_to, snapshot_in, snapshot_value}
+use Rattle.applied_state.specs.declared.applied.Applied.{Applied}
+use Rattle.applied_state.specs.declared.leadership.Leadership.{Leadership}
+use Rattle.applied_state.specs.declared.leadership.LeadershipPhase.TheVariants.{Barrier}
+use Rattle.node_core.specs.declared.outs.StepOutputs.{StepOutputs}
 use Rattle.node_core.specs.declared.running.Running.{Running}
 use Rattle.node_core.specs.Core.{Core, are_others, core_of, ended, evens, followed, has_lost, is_even, leaving, looked, losing, replaced, showing_servers, won, won_by}
-use Rattle.node_core.specs.Exact.{ChangesFrom, DueIf, InstallsBy, OnOffered, OnPut, OwnBy, RaftBy, StepBy, ToldBy, brings, change_for, change_in, index_of, is_follower, puts, told_behind}
+use Rattle.node_core.specs.Exact.{ChangesFrom, ExactDue, ExactInstall, OnOffered, OnPut, ExactOwnStep, ExactRaft, ExactStep, ExactTold, brings, change_for, change_in, index_of, is_follower, puts, told_behind}
 use Rattle.node_core.specs.Exact as exactly
-use Rattle.node_core.specs.ExactRaft.{BringsBy, EndsBy, FollowedBy, IsFrom}
+use Rattle.node_core.specs.ExactRaft.{ExactSnapshot, ExactLeadershipEnd, ExactMembersFollow, IsFrom}
 use Rattle.node_core.specs.Plain.{plain_gate}
 use Rattle.node_core.specs.Posting.{MayTake, ends_office}
 use Rattle.node_core.specs.Values.{clients_in}
@@ -64,24 +64,24 @@ with_me me w = record w { me = me }
 pub step_by : (old : Running) (replica : ReplicaValue) (mail : MailValue) (event : RaftEvent) (batch : Option ℕ) (installed : Bool) (posted : List RaftMessage) → IsWhole old.replica
     → replica.id ≡ old.replica.id → node_of replica.raft ≡ stepped old.replica event → replica.snap ≡ snap_after old.replica event → Tells (said old.replica event) replica.snap posted
     → HasMoved (node_of old.replica.raft) (node_of replica.raft) batch installed → mail ≡ all_posted old.mail posted
-    → StepBy event batch (core_of old) (core_of (record old { replica = replica; mail = mail }))
+    → ExactStep event batch (core_of old) (core_of (record old { replica = replica; mail = mail }))
 unfolding core_of with_me
 step_by old replica mail event batch installed posted was id made snap tells moved mails =
     let new : Running = record old { replica = replica; mail = mail } in
     let low : old.replica.raft.snapshot.index ≤ old.replica.raft.commit = was.coherent.applied in
-    let mine : StepBy event batch (with_me old.replica.raft.id (core_of old)) (with_me old.replica.raft.id (core_of new)) = record {
+    let mine : ExactStep event batch (with_me old.replica.raft.id (core_of old)) (with_me old.replica.raft.id (core_of new)) = record {
       posted = posted;
       tells = subst (λ s. Tells (said old.replica event) s posted) snap tells;
       moved = changes_from (node_of old.replica.raft) (stepped old.replica event) batch installed low (subst (λ (t : Node). HasMoved (node_of old.replica.raft) t batch installed) made moved);
       is = λ i. record (with_me old.replica.raft.id (core_of old)) { raft = made i; snap = snap i; mail = mails i };
     } in
-    let same : StepBy event batch (core_of old) (with_me old.replica.id (core_of new)) =
-    subst (λ (me : ℕ). StepBy event batch (with_me me (core_of old)) (with_me me (core_of new))) was.id mine in
-    subst (λ (me : ℕ). StepBy event batch (core_of old) (with_me me (core_of new))) (sym id) same
+    let same : ExactStep event batch (core_of old) (with_me old.replica.id (core_of new)) =
+    subst (λ (me : ℕ). ExactStep event batch (with_me me (core_of old)) (with_me me (core_of new))) was.id mine in
+    subst (λ (me : ℕ). ExactStep event batch (core_of old) (with_me me (core_of new))) (sym id) same
 
 -- ---- leadership lost
 
-pub losing_is : (old : Running) (clients : Held) (machine : List Database) (outs : Outs) → clients_of clients machine ≡ lost_all (clients_in old)
+pub losing_is : (old : Running) (clients : Held) (machine : List Database) (outs : StepOutputs) → clients_of clients machine ≡ lost_all (clients_in old)
     → machine_of machine ≡ machine_of old.applied.machine → outs.replies.items ≡ old.outs.replies.items ++ told_all_lost (clients_in old) → outs.closed.items ≡ old.outs.closed.items
     → core_of (record old { clients = clients; applied = record old.applied { machine = machine }; outs = outs }) ≡ losing (core_of old)
 unfolding core_of
@@ -100,7 +100,7 @@ losing_is old clients machine outs lost files said closed =
       closed = closed i;
     }
 
-has_lost_is : (o : Option Office) (h : NodeValue) → has_lost o (node_of h) ≡ ends_office o h
+has_lost_is : (o : Option Leadership) (h : NodeValue) → has_lost o (node_of h) ≡ ends_office o h
 has_lost_is None h = refl
 has_lost_is (Some office) h = refl
 
@@ -129,35 +129,35 @@ unfolding core_of
 others_are old first others is = is
 
 pub followed_untold : (old mid : Running) (batch : Option ℕ) (others : Bool) → others ≡ are_others batch (core_of old) → others ≡ false → core_of mid ≡ followed batch (core_of old)
-    → FollowedBy batch (core_of old) (core_of mid)
+    → ExactMembersFollow batch (core_of old) (core_of mid)
 followed_untold old mid batch others is stays follows =
-    subst (λ (b : Bool). ToldBy (told_behind b (followed batch (core_of old))) (followed batch (core_of old)) (core_of mid)) (sym stays ∙ is) follows
+    subst (λ (b : Bool). ExactTold (told_behind b (followed batch (core_of old))) (followed batch (core_of old)) (core_of mid)) (sym stays ∙ is) follows
 
 pub followed_told : (old mid new : Running) (batch : Option ℕ) (others : Bool) → others ≡ are_others batch (core_of old) → others ≡ true → core_of mid ≡ followed batch (core_of old)
-    → ToldBy (told_behind true (core_of mid)) (core_of mid) (core_of new) → FollowedBy batch (core_of old) (core_of new)
+    → ExactTold (told_behind true (core_of mid)) (core_of mid) (core_of new) → ExactMembersFollow batch (core_of old) (core_of new)
 followed_told old mid new batch others is differs follows tells =
-    subst (λ (b : Bool). ToldBy (told_behind b (followed batch (core_of old))) (followed batch (core_of old)) (core_of new)) (sym differs ∙ is)
-    (subst (λ (w : Core). ToldBy (told_behind true w) w (core_of new)) follows tells)
+    subst (λ (b : Bool). ExactTold (told_behind b (followed batch (core_of old))) (followed batch (core_of old)) (core_of new)) (sym differs ∙ is)
+    (subst (λ (w : Core). ExactTold (told_behind true w) w (core_of new)) follows tells)
 
 no_follower : (r : Role) → r ≢ Follower → is_follower r ≡ false
 no_follower Leader n = refl
 no_follower Candidate n = refl
 no_follower Follower n = absurd (n refl)
 
-pub untold_by : (n : Running) → n.replica.raft.role ≢ Follower → ToldBy (told_behind true (core_of n)) (core_of n) (core_of n)
+pub untold_by : (n : Running) → n.replica.raft.role ≢ Follower → ExactTold (told_behind true (core_of n)) (core_of n) (core_of n)
 unfolding core_of
-untold_by n other = subst (λ (b : Bool). ToldBy (cond b (Some (last_servers n.members)) None) (core_of n) (core_of n)) (sym (no_follower n.replica.raft.role other)) refl
+untold_by n other = subst (λ (b : Bool). ExactTold (cond b (Some (last_servers n.members)) None) (core_of n) (core_of n)) (sym (no_follower n.replica.raft.role other)) refl
 
-pub told_by : (old new : Running) (servers : List Server) → old.replica.raft.role ≡ Follower → servers ≡ last_servers old.members → ToldBy (Some servers) (core_of old) (core_of new)
-    → ToldBy (told_behind true (core_of old)) (core_of old) (core_of new)
+pub told_by : (old new : Running) (servers : List Server) → old.replica.raft.role ≡ Follower → servers ≡ last_servers old.members → ExactTold (Some servers) (core_of old) (core_of new)
+    → ExactTold (told_behind true (core_of old)) (core_of old) (core_of new)
 unfolding core_of
 told_by old new servers follows current tells =
-    subst (λ (b : Bool). ToldBy (cond b (Some (last_servers old.members)) None) (core_of old) (core_of new)) (sym (ap is_follower follows))
-    (subst (λ (s : List Server). ToldBy (Some s) (core_of old) (core_of new)) current tells)
+    subst (λ (b : Bool). ExactTold (cond b (Some (last_servers old.members)) None) (core_of old) (core_of new)) (sym (ap is_follower follows))
+    (subst (λ (s : List Server). ExactTold (Some s) (core_of old) (core_of new)) current tells)
 
 -- ---- leadership won
 
-won_some : (o : Option Office) (r : Node) → is_some o ≡ true → o ≡ won_by o r
+won_some : (o : Option Leadership) (r : Node) → is_some o ≡ true → o ≡ won_by o r
 won_some None r is = absurd (true≢false (sym is))
 won_some (Some office) r is = refl
 
@@ -165,11 +165,11 @@ pub win_kept : (n : Running) → is_some n.office ≡ true → core_of n ≡ won
 unfolding core_of
 win_kept n is = λ i. record (core_of n) { office = won_some n.office (node_of n.replica.raft) is i }
 
-won_none : (o new : Option Office) (r : Node) → is_some o ≡ false → new ≡ cond (is_leader r.role) (Some (record { term = r.term; phase = Barrier (length r.log) })) None → new ≡ won_by o r
+won_none : (o new : Option Leadership) (r : Node) → is_some o ≡ false → new ≡ cond (is_leader r.role) (Some (record { term = r.term; phase = Barrier (length r.log) })) None → new ≡ won_by o r
 won_none None new r none is = is
 won_none (Some office) new r none is = absurd (true≢false none)
 
-none_is : (o : Option Office) → is_some o ≡ false → o ≡ None
+none_is : (o : Option Leadership) → is_some o ≡ false → o ≡ None
 none_is None none = refl
 none_is (Some office) none = absurd (true≢false none)
 
@@ -184,7 +184,7 @@ pub ends_at : (log : List Entry) (last : LogEnd) → last ≡ log_end log → la
 unfolding log_end
 ends_at log last is = ap (λ (e : LogEnd). e.index) is
 
-pub win_so : (n : Running) (office : Office) (term index : ℕ) → is_some n.office ≡ false → is_leader n.replica.raft.role ≡ true → term ≡ n.replica.raft.term
+pub win_so : (n : Running) (office : Leadership) (term index : ℕ) → is_some n.office ≡ false → is_leader n.replica.raft.role ≡ true → term ≡ n.replica.raft.term
     → index ≡ length (node_of n.replica.raft).log → office ≡ record { term = term; phase = Barrier index } → core_of (record n { office = Some office }) ≡ won (core_of n)
 unfolding core_of
 win_so n office term index none leads in_term ends value =
@@ -212,14 +212,14 @@ shown_is old mid new is looks = looks ∙ ap (λ (n : Running). looked (core_of 
 
 -- ---- a step, and what follows
 
-pub follows_exactly : (event : RaftEvent) (batch : Option ℕ) (old kept told led new : Running) → EndsBy event batch (core_of old) (core_of kept) → FollowedBy batch (core_of kept) (core_of told)
-    → core_of led ≡ won (core_of told) → core_of new ≡ looked (core_of led) → exactly.FollowsBy event (core_of old) (core_of new)
+pub follows_exactly : (event : RaftEvent) (batch : Option ℕ) (old kept told led new : Running) → ExactLeadershipEnd event batch (core_of old) (core_of kept) → ExactMembersFollow batch (core_of kept) (core_of told)
+    → core_of led ≡ won (core_of told) → core_of new ≡ looked (core_of led) → exactly.ExactFollow event (core_of old) (core_of new)
 follows_exactly event batch old kept told led new ends follows wins looks = record {
   batch = batch;
   mid = ends.mid;
   steps = ends.steps;
   last = core_of told;
-  tells = subst (λ (w : Core). FollowedBy batch w (core_of told)) ends.is follows;
+  tells = subst (λ (w : Core). ExactMembersFollow batch w (core_of told)) ends.is follows;
   is = looks ∙ ap looked wins;
 }
 
@@ -243,11 +243,11 @@ replaced_is lost put s a is applied same members from =
       turns = (same i).turns;
     })
 
-pub installs_exactly : (event : RaftEvent) (batch : Option ℕ) (s : NodeSnapshot) (a : Applied) (old kept lost put told new : Running) → EndsBy event batch (core_of old) (core_of kept)
+pub installs_exactly : (event : RaftEvent) (batch : Option ℕ) (s : NodeSnapshot) (a : Applied) (old kept lost put told new : Running) → ExactLeadershipEnd event batch (core_of old) (core_of kept)
     → core_of lost ≡ losing (core_of kept) → put ≡ record lost { members = put.members; applied = put.applied } → put.applied ≡ a → clients_of lost.clients a.machine ≡ clients_in lost
     → put.members ≡ all_changed (first_of a.servers lost.replica.snap.index) (suc lost.replica.snap.index) (drop lost.replica.snap.index (node_of lost.replica.raft).log)
-    → ToldBy (told_behind true (core_of put)) (core_of put) (core_of told) → core_of new ≡ showing_servers (core_of told) → IsFrom s a
-    → InstallsBy event a.index s (core_of old) (core_of new)
+    → ExactTold (told_behind true (core_of put)) (core_of put) (core_of told) → core_of new ≡ showing_servers (core_of told) → IsFrom s a
+    → ExactInstall event a.index s (core_of old) (core_of new)
 installs_exactly event batch s a old kept lost put told new ends loses is applied same members tells shows from =
     let placed : core_of put ≡ replaced a.index s (losing (ended ends.mid)) =
     replaced_is lost put s a is applied same members from ∙ ap (λ (w : Core). replaced a.index s w) loses ∙ ap (λ (w : Core). replaced a.index s (losing w)) ends.is in
@@ -256,22 +256,22 @@ installs_exactly event batch s a old kept lost put told new ends loses is applie
       mid = ends.mid;
       steps = ends.steps;
       last = core_of told;
-      tells = subst (λ (w : Core). ToldBy (told_behind true w) w (core_of told)) placed tells;
+      tells = subst (λ (w : Core). ExactTold (told_behind true w) w (core_of told)) placed tells;
       is = shows;
     }
 
 -- ---- an event from outside
 
-pub takes_plain : (event : RaftEvent) (w v : Core) → puts event w ≡ false → exactly.FollowsBy event w v → RaftBy event w v
+pub takes_plain : (event : RaftEvent) (w v : Core) → puts event w ≡ false → exactly.ExactFollow event w v → ExactRaft event w v
 takes_plain event w v none follows = subst (λ (b : Bool). OnPut event b w v) (sym none) follows
 
-pub takes_snapshot : (event : RaftEvent) (a : Applied) (w v : Core) → (b : BringsBy event w a) → InstallsBy event a.index b.state w v → RaftBy event w v
+pub takes_snapshot : (event : RaftEvent) (a : Applied) (w v : Core) → (b : ExactSnapshot event w a) → ExactInstall event a.index b.state w v → ExactRaft event w v
 takes_snapshot event a w v b installs =
     subst (λ (put : Bool). OnPut event put w v) (sym b.put)
     (subst (λ (state : Option NodeSnapshot). OnOffered event state w v) (sym b.found)
-    (subst (λ (index : ℕ). InstallsBy event index b.state w v) b.index installs))
+    (subst (λ (index : ℕ). ExactInstall event index b.state w v) b.index installs))
 
-pub takes_none : (event : RaftEvent) (w : Core) → (puts event w ≡ true) × (brings w (offered event) ≡ None) → RaftBy event w w
+pub takes_none : (event : RaftEvent) (w : Core) → (puts event w ≡ true) × (brings w (offered event) ≡ None) → ExactRaft event w w
 takes_none event w lost =
     subst (λ (put : Bool). OnPut event put w w) (sym lost.0) (subst (λ (state : Option NodeSnapshot). OnOffered event state w w) (sym lost.1) refl)
 
@@ -294,7 +294,7 @@ puts_is n event m b whole is told =
     ∙ ap (λ (me : ℕ). nat_lt n.replica.raft.commit (compacted_step me (node_of n.replica.raft) (input_of (due.Message m))).node.snapshot.index) (sym whole.id)
     ∙ sym told
 
-none_brought : (what : What) → ((s : Snapshot) → what ≢ whats.Install s) → brought what ≡ None
+none_brought : (what : MessageBody) → ((s : Snapshot) → what ≢ whats.Install s) → brought what ≡ None
 none_brought (whats.Install s) other = absurd (other s refl)
 none_brought (whats.AskVote last) other = refl
 none_brought (whats.Vote granted) other = refl
@@ -310,24 +310,24 @@ pub brings_is : (n : Running) (event : RaftEvent) (m : RaftMessage) (s : Snapsho
     → read ≡ offered_to (names_of n.applied.machine) (snapshot_in bytes) → brings (core_of n) (offered event) ≡ read
 unfolding core_of
 brings_is n event m s bytes read is what of told =
-    ap (λ (e : RaftEvent). brings (core_of n) (offered e)) is ∙ ap (λ (x : What). brings (core_of n) (brought x)) what
+    ap (λ (e : RaftEvent). brings (core_of n) (offered e)) is ∙ ap (λ (x : MessageBody). brings (core_of n) (brought x)) what
     ∙ ap (λ (l : List ℕ). offered_to (names_of n.applied.machine) (snapshot_in l)) (sym of) ∙ sym told
 
 pub brings_so : (n : Running) (event : RaftEvent) (m : RaftMessage) (s : Snapshot) (bytes : List ℕ) (a : Applied) → IsWhole n.replica → event ≡ due.Message m → m.what ≡ whats.Install s → bytes ≡ s.bytes
     → puts event (core_of n) ≡ true → option_map snapshot_value (Some a) ≡ offered_to (names_of n.applied.machine) (snapshot_in bytes) → IsRestored s.index bytes a
-    → BringsBy event (core_of n) a
+    → ExactSnapshot event (core_of n) a
 brings_so n event m s bytes a whole is what of put told restored = record {
   state = snapshot_value a;
   put = put;
   found = brings_is n event m s bytes (Some (snapshot_value a)) is what of told;
-  index = restored.index_is ∙ sym (ap (λ (e : RaftEvent). index_of (offered e)) is ∙ ap (λ (x : What). index_of (brought x)) what);
+  index = restored.index_is ∙ sym (ap (λ (e : RaftEvent). index_of (offered e)) is ∙ ap (λ (x : MessageBody). index_of (brought x)) what);
   from = record { servers = refl; files = ap machine_of restored.fresh };
 }
 
 -- ---- what the node gives Raft
 
-pub own_exactly : (event : RaftEvent) (batch : Option ℕ) (old told made follows new : Running) → ToldBy (change_for event old.replica.raft.role) (core_of old) (core_of told)
-    → StepBy event batch (core_of told) (core_of made) → core_of follows ≡ followed batch (core_of made) → core_of new ≡ looked (core_of follows) → OwnBy event (core_of old) (core_of new)
+pub own_exactly : (event : RaftEvent) (batch : Option ℕ) (old told made follows new : Running) → ExactTold (change_for event old.replica.raft.role) (core_of old) (core_of told)
+    → ExactStep event batch (core_of told) (core_of made) → core_of follows ≡ followed batch (core_of made) → core_of new ≡ looked (core_of follows) → ExactOwnStep event (core_of old) (core_of new)
 unfolding core_of
 own_exactly event batch old told made follows new tells steps goes looks = record {
   mid = core_of told;
@@ -342,18 +342,18 @@ pub none_left : (xs ys : List RaftEvent) → xs ≡ ys → ys ≡ drop 1 xs → 
 none_left [] ys same rest = refl
 none_left (x ∷ xs) ys same rest = let e : length (x ∷ xs) ≡ length xs = ap length (same ∙ rest) in absurd (omega (arith, e))
 
-pub due_none : (old popped : Running) → old.due.items ≡ [] → popped ≡ record old { due = popped.due } → popped.due.items ≡ [] → DueIf old.due.items (core_of old) (core_of popped) false
+pub due_none : (old popped : Running) → old.due.items ≡ [] → popped ≡ record old { due = popped.due } → popped.due.items ≡ [] → ExactDue old.due.items (core_of old) (core_of popped) false
 unfolding core_of
 due_none old popped none is empty =
-    subst (λ (events : List RaftEvent). DueIf events (core_of old) (core_of popped) false) (sym none)
+    subst (λ (events : List RaftEvent). ExactDue events (core_of old) (core_of popped) false) (sym none)
     (ap core_of is ∙ (λ i. record (core_of old) { due = (empty ∙ sym none) i }), refl)
 
-pub due_some : (old popped new : Running) (event : RaftEvent) → old.due.items ≡ event ∷ popped.due.items → popped ≡ record old { due = popped.due } → OwnBy event (core_of popped) (core_of new)
-    → DueIf old.due.items (core_of old) (core_of new) true
+pub due_some : (old popped new : Running) (event : RaftEvent) → old.due.items ≡ event ∷ popped.due.items → popped ≡ record old { due = popped.due } → ExactOwnStep event (core_of popped) (core_of new)
+    → ExactDue old.due.items (core_of old) (core_of new) true
 unfolding core_of
 due_some old popped new event first is owns =
-    subst (λ (events : List RaftEvent). DueIf events (core_of old) (core_of new) true) (sym first)
-    (subst (λ (w : Core). OwnBy event w (core_of new)) (ap core_of is) owns, refl)
+    subst (λ (events : List RaftEvent). ExactDue events (core_of old) (core_of new) true) (sym first)
+    (subst (λ (w : Core). ExactOwnStep event w (core_of new)) (ap core_of is) owns, refl)
 
 -- ---- a change of servers
 
@@ -381,25 +381,25 @@ change_other (due.Message m) role none = refl
 change_other (due.Snapped at) role none = refl
 change_other (due.Servers servers) role none = refl
 
-untold_change : (n : Running) (servers : Option (List Server)) → servers ≡ None → ToldBy servers (core_of n) (core_of n)
-untold_change n servers none = subst (λ (s : Option (List Server)). ToldBy s (core_of n) (core_of n)) (sym none) refl
+untold_change : (n : Running) (servers : Option (List Server)) → servers ≡ None → ExactTold servers (core_of n) (core_of n)
+untold_change n servers none = subst (λ (s : Option (List Server)). ExactTold s (core_of n) (core_of n)) (sym none) refl
 
-pub untold_other : (n : Running) (event : RaftEvent) → ((es : List Entry) → event ≢ due.Propose es) → ToldBy (change_for event n.replica.raft.role) (core_of n) (core_of n)
+pub untold_other : (n : Running) (event : RaftEvent) → ((es : List Entry) → event ≢ due.Propose es) → ExactTold (change_for event n.replica.raft.role) (core_of n) (core_of n)
 untold_other n event none = untold_change n (change_for event n.replica.raft.role) (change_other event n.replica.raft.role none)
 
 pub untold_plain : (n : Running) (event : RaftEvent) (entries slice : List Entry) → event ≡ due.Propose entries → slice ≡ entries → any_change (read_setup []) slice ≡ false
-    → ToldBy (change_for event n.replica.raft.role) (core_of n) (core_of n)
+    → ExactTold (change_for event n.replica.raft.role) (core_of n) (core_of n)
 untold_plain n event entries slice is of none =
     untold_change n (change_for event n.replica.raft.role)
     (ap (λ (e : RaftEvent). change_for e n.replica.raft.role) is ∙ change_none n.replica.raft.role entries (subst (λ (es : List Entry). any_change (read_setup []) es ≡ false) of none))
 
 pub told_change : (old new : Running) (event : RaftEvent) (entry : Entry) (servers : List Server) → event ≡ due.Propose (entry ∷ []) → MayTake event old.replica.raft
-    → configuration_in entry ≡ Some servers → ToldBy (Some servers) (core_of old) (core_of new) → ToldBy (change_for event old.replica.raft.role) (core_of old) (core_of new)
+    → configuration_in entry ≡ Some servers → ExactTold (Some servers) (core_of old) (core_of new) → ExactTold (change_for event old.replica.raft.role) (core_of old) (core_of new)
 told_change old new event entry servers is takes reads tells =
     let leads : is_leader old.replica.raft.role ≡ true = subst (λ (e : RaftEvent). MayTake e old.replica.raft) is takes in
     let change : change_for event old.replica.raft.role ≡ Some servers =
     ap (λ (e : RaftEvent). change_for e old.replica.raft.role) is ∙ cond-true (is_leader old.replica.raft.role) (configuration_in entry) None leads ∙ reads in
-    subst (λ (s : Option (List Server)). ToldBy s (core_of old) (core_of new)) (sym change) tells
+    subst (λ (s : Option (List Server)). ExactTold s (core_of old) (core_of new)) (sym change) tells
 
 -- ---- even peers
 

@@ -3,20 +3,20 @@ use Rattle.std.proofs.Common.{◌≡◌, ◌≤◌, ◌<◌, ℕ, Bool, true, fa
 use Rattle.std.specs.Prelude.{◌≢◌, Option, Some, None, nat_lt, MatchOption}
 use Rattle.std.specs.List.{AllByRecursion}
 use Rattle.std.proofs.lemmas.Bool.{ltb-true}
-use Rattle.raft_rules.specs.Log.{LogEnd}
-use Rattle.raft_rules.specs.Laws as raft
-use Rattle.raft_rules.specs.Node.{Node, Role, Leader, Candidate, Follower, is_leader}
-use Rattle.node_state.specs.declared.office.Office.{Office}
-use Rattle.raft_rules.specs.NodeValues.{NodeValue, node_of}
-use Rattle.raft_vote.specs.Servers.{IsConfiguration}
-use Rattle.raft_member.specs.Members.{Configurations, AllStand}
+use Rattle.raft_spec.specs.Log.{LogEnd}
+use Rattle.raft_spec.specs.Laws as raft
+use Rattle.raft_spec.specs.Node.{Node, Role, Leader, Candidate, Follower, is_leader}
+use Rattle.applied_state.specs.declared.leadership.Leadership.{Leadership}
+use Rattle.raft_spec.specs.NodeValues.{NodeValue, node_of}
+use Rattle.raft_messages.specs.Servers.{IsConfiguration}
+use Rattle.raft_membership.specs.Members.{Configurations, AllStand}
 use Rattle.raft_core.specs.declared.event.RaftEvent.{RaftEvent}
 use Rattle.raft_core.specs.declared.event.RaftEvent.TheVariants as events
 use Rattle.raft_core.specs.Events.{EventFits, offered}
 use Rattle.store_laws.specs.Store.{no_snap}
 use Rattle.store_format.specs.FilesRead.{snap_kept}
-use Rattle.client_sessions.specs.Seen.{StandOver}
-use Rattle.node_replica.specs.Replicas.{ReplicaValue, IsWhole, HasMoved, end_of, stepped, snap_after}
+use Rattle.client_sessions.specs.Seen.{AreValidOver}
+use Rattle.raft_on_disk.specs.Replicas.{ReplicaValue, IsWhole, HasMoved, end_of, stepped, snap_after}
 use Rattle.node_core.specs.declared.running.Running.{Running}
 use Rattle.node_core.specs.Stepping.{PutsNone, HasStepped, HasFollowed, HasTold}
 use Rattle.node_core.specs.Values.{clients_in}
@@ -96,7 +96,7 @@ holds_after old told stepped followed event batch g t none s f =
     record {
       replica = f.whole;
       short = f.short;
-      clients = subst (λ (n : Running). StandOver n.clients n.applied.machine) (sym f.is) s.stand;
+      clients = subst (λ (n : Running). AreValidOver n.clients n.applied.machine) (sym f.is) s.stand;
       turns = subst (λ (n : Running). HasTurns (clients_in n)) (sym f.is) s.turns;
       servers = subst IsConfiguration (sym (ap (λ (n : Running). n.applied.servers) f.is ∙ s.rest.servers ∙ servers)) h.servers;
       members = f.stand;
@@ -107,7 +107,7 @@ holds_after old told stepped followed event batch g t none s f =
     }
 
 -- the office has no part in it
-pub reoffice : (n : Running) (o : Option Office) → Holds n → Holds (record n { office = o })
+pub reoffice : (n : Running) (o : Option Leadership) → Holds n → Holds (record n { office = o })
 reoffice n o h = record { replica = h.replica; short = h.short; clients = h.clients; turns = h.turns; servers = h.servers; members = h.members; at = h.at; low = h.low; high = h.high; due = h.due }
 
 pub seen_after : (old told stepped followed : Running) (event : RaftEvent) (batch : Option ℕ) → IsGoing old → HasTold old told → HasStepped told stepped event batch → HasFollowed stepped followed → followed.view.servers ≡ followed.applied.servers
@@ -116,12 +116,12 @@ seen_after old told stepped followed event batch g t s f =
     ∙ sym (ap (λ (n : Running). n.applied.servers) f.is ∙ s.rest.servers ∙ ap (λ (n : Running). n.applied.servers) t.is)
 
 -- a node that was in no office without serving
-pub unserved : (o : Option Office) (serving : Bool) (h : NodeValue) → InOffice o serving h → o ≡ None → serving ≡ false
+pub unserved : (o : Option Leadership) (serving : Bool) (h : NodeValue) → InOffice o serving h → o ≡ None → serving ≡ false
 unserved None serving h g e = g
 unserved (Some o) serving h g e = absurd cc
 
 -- one that follows is in none
-pub follows_on : (o : Option Office) (serving : Bool) (h i : NodeValue) → h.role ≡ Follower → InOffice o serving h → InOffice o serving i
+pub follows_on : (o : Option Leadership) (serving : Bool) (h i : NodeValue) → h.role ≡ Follower → InOffice o serving h → InOffice o serving i
 follows_on None serving h i e g = g
 follows_on (Some o) serving h i e g = absurd cc
 

@@ -6,17 +6,17 @@ use Rattle.wire_words.specs.declared.message.Message.{Message}
 use Rattle.wire_words.specs.Stream.{fault_in, going_on, peer_limit}
 use Rattle.client_connection.specs.declared.connection.CloseReason.{CloseReason}
 use Rattle.client_connection.specs.Connection.{Conn, HasTaken, PeerHasTaken, opened, peer_received, received, with_more}
-use Rattle.client_sessions.specs.declared.joining.Joining.{Joining}
-use Rattle.client_sessions.specs.declared.joining.Joining.TheVariants as joinings
+use Rattle.client_sessions.specs.declared.connect_result.ConnectResult.{ConnectResult}
+use Rattle.client_sessions.specs.declared.connect_result.ConnectResult.TheVariants as joinings
 use Rattle.client_sessions.specs.Clients.{Clients, with_stream, joining, joined_as, hung_up, without}
-use Rattle.page_apply.specs.ByName.{change_first}
-use Rattle.raft_vote.specs.declared.fault.PeerFault.{PeerFault}
-use Rattle.raft_vote.specs.declared.message.RaftMessage.{RaftMessage}
-use Rattle.raft_vote.specs.Reading.{peer_message_of}
+use Rattle.database_state.specs.ByName.{change_first}
+use Rattle.raft_messages.specs.declared.fault.PeerFault.{PeerFault}
+use Rattle.raft_messages.specs.declared.message.RaftMessage.{RaftMessage}
+use Rattle.raft_messages.specs.Reading.{peer_message_of}
 use Rattle.node_core.specs.declared.event.Event.TheVariants as events
 use Rattle.node_core.specs.declared.links.Link.{Link}
 use Rattle.node_core.specs.Carrying.{Lines, Waiting, with_waiting, behind_link, waiting_of, first_waiting, is_of, link_on, without_link, heard_link, if_from, came_unless, heard_by_line, gone_at}
-use Rattle.node_core.specs.Carrying.{TakesAsked, TakesConnect, TakesSent, FindsWrong, LooksAt, with_first, ConnectSo}
+use Rattle.node_core.specs.Carrying.{TakesAsked, TakesConnect, TakesSent, FindsWrong, LooksAt, with_first, TookConnect}
 use Rattle.node_core.specs.Sent.{IsOnce, Apart, BeginsApart, EventsStayApart, MovesStayApart, Carries, CarryingBegins, CarryingHears, CarryingSends, CarryingStays}
 
 -- ---- connections by their numbers
@@ -197,7 +197,7 @@ gone_apart l conn a other c e = by (other == conn) e
     by true e = absurd cc
     by false e = e
 
-came_apart : (k : Clients) (l : Lines) (conn : ℕ) → l.streams ≡ k.streams → link_on conn l.links ≡ None → Apart l → (how : Joining)
+came_apart : (k : Clients) (l : Lines) (conn : ℕ) → l.streams ≡ k.streams → link_on conn l.links ≡ None → Apart l → (how : ConnectResult)
     → (other : ℕ) (c : Conn) → (joined_as k conn how).streams other ≡ Some c → link_on other l.links ≡ None
 came_apart k l conn same free a joinings.Joined other c e = put_apart l conn (Some opened) free a other c (ap (λ (s : ℕ → Option Conn). with_stream s conn (Some opened) other) same ∙ e)
 came_apart k l conn same free a joinings.Full other c e = a.clients other c (ap (λ (s : ℕ → Option Conn). s other) same ∙ e)
@@ -238,7 +238,7 @@ events_stay_apart events.Beat k l same a = a
 events_stay_apart (events.Peer message) k l same a = a
 events_stay_apart (events.ReadDone conn read) k l same a = a
 
-connect_moves_apart : (old new : Lines) (conn peer : ℕ) → ConnectSo old new conn peer → Apart old → Apart new
+connect_moves_apart : (old new : Lines) (conn peer : ℕ) → TookConnect old new conn peer → Apart old → Apart new
 connect_moves_apart old new conn peer x a =
     let link : Link = record { conn = conn; peer = peer; stream = x.now } in
     let free = a.clients conn (with_first x.message x.now) x.opens in

@@ -2,20 +2,20 @@
 use Rattle.std.proofs.Common.{◌≡◌, ◌⊎◌, inl, inr, ⊎_elim, ℕ, ◌<◌, ◌≤◌, Bool, true, false, cond, List, [], length, refl, sym, ap, subst, ◌∙◌, arith}
 use Rattle.std.specs.Prelude.{◌&&◌, nat_lt, nat_le}
 use Rattle.std.proofs.lemmas.Bool.{cond_both, cond-true, cond-false, ltb-true, leb-false, lt-ltb, le-ltb}
-use Rattle.raft_rules.specs.Log.{Entry, LogEnd, matches}
-use Rattle.raft_rules.specs.Node.{Follower, What, AskVote, Vote, Append, Ack, Install, TimeoutNow, Message, Node, Outcome, voters, among, peers, majority, is_leader, is_candidate, Timeout, Beat, Propose, Transfer, Snapped, UseServers, Input, Local, Receive}
-use Rattle.raft_rules.specs.Outcomes.{in_newer_term, with_grants}
-use Rattle.raft_rules.specs.Elections.{on_grants, grants_vote, on_ask_vote, grants_with, on_vote}
-use Rattle.raft_rules.specs.Replication.{agrees, replaces_committed, take_entries, on_append, on_ack}
-use Rattle.raft_rules.specs.Snapshots.{on_install}
-use Rattle.raft_rules.specs.Receiving.{on_own_term, on_older_term, in_range, on_message}
-use Rattle.raft_rules.specs.Steps.{finish, raft_step}
-use Rattle.raft_rules.specs.NodeValues.{IsCoherent, node_of}
-use Rattle.raft_rules.specs.Compaction.{compacted_step}
-use Rattle.raft_rules.proofs.SnapshotEnds.{stands_snapshot, ends_snapshot, snapshots_come_holds}
-use Rattle.raft_world.specs.Members.{Setup}
-use Rattle.node_rules.specs.Accounts.{Moment}
-use Rattle.node_rules.specs.RaftTurns.{raft_after, BytesAfter, kept_bytes, brought_bytes}
+use Rattle.raft_spec.specs.Log.{Entry, LogEnd, matches}
+use Rattle.raft_spec.specs.Node.{Follower, What, AskVote, Vote, Append, Ack, Install, TimeoutNow, Message, Node, Outcome, voters, among, peers, majority, is_leader, is_candidate, Timeout, Beat, Propose, Transfer, Snapped, UseServers, Input, Local, Receive}
+use Rattle.raft_spec.specs.Outcomes.{in_newer_term, with_grants}
+use Rattle.raft_spec.specs.Elections.{on_grants, grants_vote, on_ask_vote, grants_with, on_vote}
+use Rattle.raft_spec.specs.Replication.{agrees, replaces_committed, take_entries, on_append, on_ack}
+use Rattle.raft_spec.specs.Snapshots.{on_install}
+use Rattle.raft_spec.specs.Receiving.{on_own_term, on_older_term, in_range, on_message}
+use Rattle.raft_spec.specs.Steps.{finish, raft_step}
+use Rattle.raft_spec.specs.NodeValues.{IsCoherent, node_of}
+use Rattle.raft_spec.specs.Compaction.{compacted_step}
+use Rattle.raft_spec.proofs.SnapshotEnds.{stands_snapshot, ends_snapshot, snapshots_come_holds}
+use Rattle.raft_safety.specs.Members.{Setup}
+use Rattle.node_spec.specs.Accounts.{Moment}
+use Rattle.node_spec.specs.RaftTurns.{raft_after, BytesAfter, kept_bytes, brought_bytes}
 
 abbrev Settles : LogEnd → ℕ → Outcome → Type 0
 Settles x commit d = (d.node.snapshot ≡ x) ⊎ ((commit < d.node.snapshot.index) × (d.node.role ≡ Follower))

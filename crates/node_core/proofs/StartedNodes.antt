@@ -1,22 +1,22 @@
 -- A node over what was loaded.
 use Rattle.std.proofs.Common.{◌≡◌, suc, ◌-◌, false, true, List, ◌++◌, length, drop, sym, ap, subst, ◌∙◌, arith}
 use Rattle.std.specs.List.{AllByRecursion}
-use Rattle.raft_rules.specs.Account.{loaded}
-use Rattle.raft_rules.specs.Laws.{HasShortTerm}
-use Rattle.raft_rules.specs.Log.{Entry, LogEnd}
-use Rattle.raft_rules.specs.Node.{Node, Server, is_leader}
-use Rattle.raft_rules.specs.NodeValues.{NodeValue, IsCoherent, node_of}
-use Rattle.raft_vote.specs.Servers.{IsConfiguration}
-use Rattle.raft_world.specs.Members.{configuration}
-use Rattle.raft_member.specs.Members.{Configurations, AllStand, IsOf, last_servers, read_setup}
+use Rattle.raft_spec.specs.Account.{loaded}
+use Rattle.raft_spec.specs.Laws.{HasShortTerm}
+use Rattle.raft_spec.specs.Log.{Entry, LogEnd}
+use Rattle.raft_spec.specs.Node.{Node, Server, is_leader}
+use Rattle.raft_spec.specs.NodeValues.{NodeValue, IsCoherent, node_of}
+use Rattle.raft_messages.specs.Servers.{IsConfiguration}
+use Rattle.raft_safety.specs.Members.{configuration}
+use Rattle.raft_membership.specs.Members.{Configurations, AllStand, IsOf, last_servers, read_setup}
 use Rattle.store_laws.specs.Store.{Snap, Kept}
 use Rattle.store_format.specs.Starts.{CanStart}
-use Rattle.session_rules.specs.Sessions.{View}
+use Rattle.session_spec.specs.Sessions.{View}
 use Rattle.client_sessions.specs.Clients.{Clients}
-use Rattle.node_replica.specs.Replicas.{ReplicaValue, IsWhole, kept_of, stored_at}
-use Rattle.node_state.specs.declared.applied.Applied.{Applied}
-use Rattle.node_rules.specs.RaftTurns.{HasEnded}
-use Rattle.node_rules.proofs.EndedSessions.{ends_on_holds}
+use Rattle.raft_on_disk.specs.Replicas.{ReplicaValue, IsWhole, kept_of, stored_at}
+use Rattle.applied_state.specs.declared.applied.Applied.{Applied}
+use Rattle.node_spec.specs.RaftTurns.{HasEnded}
+use Rattle.node_spec.proofs.EndedSessions.{ends_on_holds}
 use Rattle.node_core.specs.declared.running.Running.{Running}
 use Rattle.node_core.specs.Account.{proposals_in, moment_of}
 use Rattle.node_core.specs.Starting.{AppliesKept, Begun, HasStarted}

@@ -3,31 +3,31 @@ use Rattle.std.proofs.Common.{◌≡◌, inr, ℕ, suc, ◌+◌, ◌-◌, ◌<�
 use Rattle.std.specs.Prelude.{Some, Ok, Err}
 use Rattle.std.proofs.Math.Seq.{drop-append-add}
 use Rattle.std.proofs.lemmas.List.{length-append, length-drop, length-replicate, length-take-le, take-append-drop, take-map, drop-drop}
-use Rattle.session_rules.specs.Machine.{machine_of, files}
-use Rattle.session_rules.specs.Restarts.{restarted, shifted}
-use Rattle.session_rules.specs.Seen.{entry_seen}
-use Rattle.raft_rules.specs.Log.{Entry}
-use Rattle.raft_rules.specs.Node.{Server, Node}
-use Rattle.raft_rules.specs.Account.{Stored, stored_of, loaded}
-use Rattle.raft_rules.specs.Compaction.{compacted, with_whole_log}
-use Rattle.raft_world.specs.Cuts.{Same, Twin}
-use Rattle.raft_world.specs.Members.{Setup}
-use Rattle.raft_member.specs.Members.{IsOf, read_setup}
-use Rattle.raft_vote.specs.Servers.{IsConfiguration}
-use Rattle.raft_vote.specs.declared.message.Snapshot.{Snapshot as SnapshotOf}
-use Rattle.raft_rules.specs.NodeValues.{node_of}
-use Rattle.page_apply.specs.Databases.{contents_of}
-use Rattle.cluster_world.specs.Clusters.{booted}
+use Rattle.session_spec.specs.Machine.{machine_of, files}
+use Rattle.session_spec.specs.Restarts.{restarted, shifted}
+use Rattle.session_spec.specs.Seen.{entry_seen}
+use Rattle.raft_spec.specs.Log.{Entry}
+use Rattle.raft_spec.specs.Node.{Server, Node}
+use Rattle.raft_spec.specs.Account.{Stored, stored_of, loaded}
+use Rattle.raft_spec.specs.Compaction.{compacted, with_whole_log}
+use Rattle.raft_safety.specs.Cuts.{Same, Twin}
+use Rattle.raft_safety.specs.Members.{Setup}
+use Rattle.raft_membership.specs.Members.{IsOf, read_setup}
+use Rattle.raft_messages.specs.Servers.{IsConfiguration}
+use Rattle.raft_messages.specs.declared.message.Snapshot.{Snapshot as SnapshotOf}
+use Rattle.raft_spec.specs.NodeValues.{node_of}
+use Rattle.database_state.specs.Databases.{contents_of}
+use Rattle.cluster_model.specs.Clusters.{booted}
 use Rattle.store_laws.specs.Store.{Kept, Log, no_snap}
 use Rattle.store_format.specs.FilesRead.{snap_kept}
 use Rattle.store_format.specs.Starts.{CanStart}
-use Rattle.node_replica.specs.Replicas.{end_of, stored_at}
-use Rattle.node_state.specs.declared.applied.Applied.{Applied}
-use Rattle.node_state.specs.Applied.{HasApplied, HasNoPins}
-use Rattle.node_state.specs.Snapshot.{IsRestored, commits_of}
-use Rattle.node_rules.specs.Nodes.{Node as RuleNode, IsCutOff, KeptIs, Stands}
-use Rattle.node_rules.specs.Steps.{Counts}
-use Rattle.node_rules.specs.Voting.{VotersStart, StartCounts}
+use Rattle.raft_on_disk.specs.Replicas.{end_of, stored_at}
+use Rattle.applied_state.specs.declared.applied.Applied.{Applied}
+use Rattle.applied_state.specs.Applied.{HasApplied, HasNoPins}
+use Rattle.applied_state.specs.Snapshot.{IsRestored, commits_of}
+use Rattle.node_spec.specs.Nodes.{Node as RuleNode, IsCutOff, KeptIs, Stands}
+use Rattle.node_spec.specs.Steps.{Counts}
+use Rattle.node_spec.specs.Voting.{VotersStart, StartCounts}
 use Rattle.disk_model.specs.Disk.{Disk}
 use Rattle.disk_model.specs.Trait.{Text}
 use Rattle.segment_store.specs.Open.{Open}

@@ -1,22 +1,22 @@
 -- A turn of Raft's, from its step to its end.
 use Rattle.std.proofs.Common.{◌≡◌, ◌≤◌, ℕ, List, [], ◌∷◌, refl, sym, ap, subst, ◌∙◌}
 use Rattle.std.specs.Prelude.{Option, Some, None}
-use Rattle.page_apply.specs.Machines.{IsMachine}
-use Rattle.raft_rules.specs.Laws.{HasShortTerm}
-use Rattle.raft_rules.specs.Node as raft
-use Rattle.raft_rules.specs.NodeValues.{node_of}
+use Rattle.database_state.specs.Machines.{IsMachine}
+use Rattle.raft_spec.specs.Laws.{HasShortTerm}
+use Rattle.raft_spec.specs.Node as raft
+use Rattle.raft_spec.specs.NodeValues.{node_of}
 use Rattle.raft_core.specs.declared.event.RaftEvent.{RaftEvent}
 use Rattle.raft_core.specs.declared.event.RaftEvent.TheVariants as events
 use Rattle.raft_core.specs.Events.{input_of}
-use Rattle.raft_member.specs.Members.{Configurations}
-use Rattle.client_sessions.specs.Seen.{StandOver}
-use Rattle.session_rules.specs.Sessions.{View}
-use Rattle.node_state.specs.declared.office.Office.{Office as Held}
-use Rattle.node_replica.specs.Replicas.{ReplicaValue, IsWhole, HasMoved}
-use Rattle.node_rules.specs.RaftTurns.{HasEnded}
+use Rattle.raft_membership.specs.Members.{Configurations}
+use Rattle.client_sessions.specs.Seen.{AreValidOver}
+use Rattle.session_spec.specs.Sessions.{View}
+use Rattle.applied_state.specs.declared.leadership.Leadership.{Leadership as Held}
+use Rattle.raft_on_disk.specs.Replicas.{ReplicaValue, IsWhole, HasMoved}
+use Rattle.node_spec.specs.RaftTurns.{HasEnded}
 use Rattle.node_core.specs.declared.running.Running.{Running}
 use Rattle.node_core.specs.Account.{proposals_in, moment_of, Fresh}
-use Rattle.node_core.specs.Posting.{Posts, LeavesSo, ToldOr, told_inputs, OfficeSo, FollowsSo, FollowsOn}
+use Rattle.node_core.specs.Posting.{Posts, KeepsAllButLog, MaybeToldServers, told_inputs, FollowsLeadership, StepsWithoutSnapshot, TurnsWithoutSnapshot}
 use Rattle.node_core.specs.Stepping.{PutsNone, HasMade, HasStepped, HasFollowed, HasTold, KeepsRest}
 use Rattle.node_core.specs.Values.{clients_in, seen}
 use Rattle.node_core.specs.Voters.{BesideAll}
@@ -27,7 +27,7 @@ use Rattle.node_core.proofs.RaftTurns.{same_snap, keeps_snapshot, told, told_non
 
 -- ---- behind Raft's step
 
-pub stepped_so : (old mid new : Running) (event : RaftEvent) (batch : Option ℕ) → HasMade old mid event batch → HasShortTerm (node_of old.replica.raft) → new.replica ≡ mid.replica → KeepsRest mid new → StandOver new.clients new.applied.machine →
+pub stepped_so : (old mid new : Running) (event : RaftEvent) (batch : Option ℕ) → HasMade old mid event batch → HasShortTerm (node_of old.replica.raft) → new.replica ≡ mid.replica → KeepsRest mid new → AreValidOver new.clients new.applied.machine →
     HasTurns (clients_in new) → InOffice new.office new.view.serving new.replica.raft → HasStepped old new event batch
 stepped_so old mid new event batch m short replica rest stand turns office = record {
   whole = subst IsWhole (sym replica) m.whole;
@@ -57,7 +57,7 @@ pub told_so : (old new : Running) (servers : List raft.Server) (batch : Option �
 told_so old new servers batch whole short m = told old new servers whole m.whole (m.short short) m.node m.snap m.commit m.is
 
 pub tells_so : (old new : Running) (servers : List raft.Server) (batch : Option ℕ) → IsWhole old.replica → HasMade old new (events.Servers servers) batch → Posts old new (raft.Local (raft.UseServers servers)) → IsMachine old.applied.machine →
-    LeavesSo old new (raft.Local (raft.UseServers servers))
+    KeepsAllButLog old new (raft.Local (raft.UseServers servers))
 tells_so old new servers batch whole m posts machine =
     leaves_so old new (raft.Local (raft.UseServers servers)) tt tt posts m.is (keeps_snapshot old.replica new.replica (events.Servers servers) whole m.whole m.node m.snap tt)
     (same_snap old.replica new.replica (events.Servers servers) _ refl m.whole m.node m.snap tt) machine
@@ -75,14 +75,14 @@ pub holds_behind : (old step followed : Running) (event : RaftEvent) (batch : Op
 holds_behind old step followed event batch g none s f = holds_after old old step followed event batch g (told_none old g.holds.replica g.holds.short) none s f
 
 -- the step, whatever configurations follow it
-pub follows_step : (old step : Running) (event : RaftEvent) (batch : Option ℕ) → IsGoing old → IsOutside event → PutsNone old.replica event → old.due.items ≡ [] → HasStepped old step event batch → Posts old step (input_of event) → OfficeSo old step →
-    (c : Configurations) → FollowsSo old (record step { members = c }) (input_of event)
+pub follows_step : (old step : Running) (event : RaftEvent) (batch : Option ℕ) → IsGoing old → IsOutside event → PutsNone old.replica event → old.due.items ≡ [] → HasStepped old step event batch → Posts old step (input_of event) → FollowsLeadership old step →
+    (c : Configurations) → StepsWithoutSnapshot old (record step { members = c }) (input_of event)
 follows_step old step event batch g outside none idle s posts offices c =
     follows_so old step event c outside posts offices idle s.rest.due s.rest.index (keeps_snapshot old.replica step.replica event g.holds.replica s.whole s.node s.snap none)
     (same_snap old.replica step.replica event _ refl s.whole s.node s.snap none)
 
 pub began_so : (old step followed new : Running) (event : RaftEvent) (batch : Option ℕ) → IsGoing old → IsOutside event → PutsNone old.replica event → old.due.items ≡ [] → HasStepped old step event batch → Posts old step (input_of event) →
-    OfficeSo old step → (tells : ToldOr (record step { members = followed.members }) followed) → BesideAll old followed (input_of event ∷ told_inputs tells) → Fresh followed new → FollowsOn old new event
+    FollowsLeadership old step → (tells : MaybeToldServers (record step { members = followed.members }) followed) → BesideAll old followed (input_of event ∷ told_inputs tells) → Fresh followed new → TurnsWithoutSnapshot old new event
 began_so old step followed new event batch g outside none idle s posts offices tells beside fresh = record {
   mid = record step { members = followed.members };
   follows = follows_step old step event batch g outside none idle s posts offices followed.members;

@@ -3,24 +3,24 @@ use Rattle.std.proofs.Common.{Bool, false, true≢false, append_assoc, ◌≡◌
 use Rattle.std.specs.Prelude.{◌==◌, OnErr}
 use Rattle.std.proofs.lemmas.Bool.{cond-true, cond-false, eq-eqb, ne_eqb}
 use Rattle.wire_msgs.specs.declared.request.Request.{Request}
-use Rattle.page_apply.specs.Machines.{IsMachine}
-use Rattle.session_decisions.specs.Reading.{read_named}
+use Rattle.database_state.specs.Machines.{IsMachine}
+use Rattle.session_outcomes.specs.Reading.{read_named}
 use Rattle.sql_engine.specs.declared.kind.EngineKind.{EngineKind}
 use Rattle.sql_engine.specs.Meanings.{Meaning, Told}
-use Rattle.raft_rules.specs.Node as raft
+use Rattle.raft_spec.specs.Node as raft
 use Rattle.raft_core.specs.declared.event.RaftEvent.{RaftEvent}
 use Rattle.raft_core.specs.declared.event.RaftEvent.TheVariants as raft_events
 use Rattle.raft_core.specs.Events.{input_of}
-use Rattle.raft_world.specs.Members.{Setup}
+use Rattle.raft_safety.specs.Members.{Setup}
 use Rattle.store_laws.specs.Store.{Kept}
-use Rattle.node_replica.specs.Replicas.{kept_of}
-use Rattle.node_rules.specs.Accounts.{Moment, both, read_by, with_input, MayEnd, LeftBy}
-use Rattle.node_rules.specs.Steps.{TellsSo}
-use Rattle.node_rules.specs.RaftTurns.{IsFirst, StopLeaves}
+use Rattle.raft_on_disk.specs.Replicas.{kept_of}
+use Rattle.node_spec.specs.Accounts.{Moment, both, read_by, with_input, MayEnd, LeftBy}
+use Rattle.node_spec.specs.Steps.{TellsVoters}
+use Rattle.node_spec.specs.RaftTurns.{IsFirst, StopLeaves}
 use Rattle.node_core.specs.declared.event.Event.{Event}
 use Rattle.node_core.specs.declared.event.Event.TheVariants as happens
 use Rattle.node_core.specs.declared.running.Running.{Running}
-use Rattle.node_core.specs.Account.{moment_of, Brought, Since, Begin, Happens, Comes, Compacts, BytesAsk, told_of, AtRest, Stopped, none_made, Between, Comes_in, IsOwn, IsMore, IsAlone, message_by, messages_of, Underway, StopsBy}
+use Rattle.node_core.specs.Account.{moment_of, Brought, Since, Begin, Happens, Comes, Compacts, BytesAsk, told_of, AtRest, Stopped, none_made, Between, Comes_in, IsOwn, IsMore, IsAlone, message_by, messages_of, Underway, AccountsForStop}
 use Rattle.node_core.specs.Finding.{StopsIn, unchanged_yet, in_change, StopsOwn, before_own, in_own, StopsCompacting, BeganStops, at_once, later_on, StopsLetter, letter_stopped, no_letter}
 use Rattle.node_core.specs.Posting.{told_inputs}
 use Rattle.node_core.specs.Voters.{MayBe}
@@ -54,7 +54,7 @@ module _ (law : StopLeaves) (m : Meaning) (kind : EngineKind) (setup : Setup) wh
 
   -- within the step of an input that the node added
   stops_in : {before now : Option Told} (x : Brought) (late : Bool) (from mid : Running) (begin : Begin) (i : raft.Input) (kept : Kept) → AtRest from → Comes_in from begin x → (since : Since m kind setup x late from mid before now) → IsOwn i → IsFirst (moment_of mid) i →
-      TellsSo setup from.replica.id (seen from) (read_by x.bytes x.joins x.read (with_input since.piece i)) → StopsIn setup x.bytes mid i kept → Stopped m kind setup from begin kept
+      TellsVoters setup from.replica.id (seen from) (read_by x.bytes x.joins x.read (with_input since.piece i)) → StopsIn setup x.bytes mid i kept → Stopped m kind setup from begin kept
   stops_in x late from mid begin i kept stood comes since own first tells s =
       since_within m kind setup x late from mid begin i kept stood comes since own tells
       (λ known. subst (λ me. LeftBy setup me x.bytes x.joins (moment_of mid) i kept) since.id (law setup mid.replica.id x.bytes x.joins (moment_of mid) i kept first s))
@@ -72,13 +72,13 @@ module _ (law : StopLeaves) (m : Meaning) (kind : EngineKind) (setup : Setup) wh
 
   module _ {before now : Option Told} (start : Running) (event : Event) (a : Running) (u : Underway m kind setup start a event before now) where
     -- between two turns
-    pub stopped_here : StopsBy m kind setup start event (kept_of a.replica)
+    pub stopped_here : AccountsForStop m kind setup start event (kept_of a.replica)
     stopped_here = underway_stops m kind setup start a event (kept_of a.replica) u (since_stops m kind setup u.so_far.brought u.so_far.late u.from a u.begin u.stood u.so_far.comes u.so_far.since u.so_far.beside)
 
     -- in a turn for what the node gave Raft itself
-    pub stopped_own : (kept : Kept) → StopsOwn setup u.so_far.brought.bytes a kept → StopsBy m kind setup start event kept
+    pub stopped_own : (kept : Kept) → StopsOwn setup u.so_far.brought.bytes a kept → AccountsForStop m kind setup start event kept
     unfolding since_on
-    stopped_own kept (before_own (unchanged_yet e)) = subst (StopsBy m kind setup start event) (sym e) stopped_here
+    stopped_own kept (before_own (unchanged_yet e)) = subst (AccountsForStop m kind setup start event) (sym e) stopped_here
     stopped_own kept (before_own (in_change servers may s)) =
         let x = u.so_far.brought in
         let i : raft.Input = raft.Local (raft.UseServers servers) in
@@ -94,7 +94,7 @@ module _ (law : StopLeaves) (m : Meaning) (kind : EngineKind) (setup : Setup) wh
         (ap (λ (is : List raft.Input). (u.so_far.since.piece.inputs ++ is) ++ i ∷ []) t.is ∙ append_assoc u.so_far.since.piece.inputs (told_inputs told) (i ∷ []))) s)
 
     -- at the begin of another act
-    pub stopped_next : (b : Running) (next : Begin) (kept : Kept) → MayEnd (moment_of a) → a.replica.raft.id ≡ a.replica.id → Between a b → IsMore next → (a.has_links ≡ false → IsAlone next) → MovesLines a b (message_by next) → Stopped m kind setup b next kept → StopsBy m kind setup start event kept
+    pub stopped_next : (b : Running) (next : Begin) (kept : Kept) → MayEnd (moment_of a) → a.replica.raft.id ≡ a.replica.id → Between a b → IsMore next → (a.has_links ≡ false → IsAlone next) → MovesLines a b (message_by next) → Stopped m kind setup b next kept → AccountsForStop m kind setup start event kept
     stopped_next b next kept end id between more alone moves stopped =
         let f = u.so_far in
         let r = since_ends m kind setup f.brought f.late u.from a u.begin u.stood f.comes f.since f.beside end id in
@@ -104,7 +104,7 @@ module _ (law : StopLeaves) (m : Meaning) (kind : EngineKind) (setup : Setup) wh
         (since_up_to event start b (messages_of ((u.begins ++ u.begin ∷ []) ++ next ∷ [])) (since_next event start a b (u.begins ++ u.begin ∷ []) next u.lines moves))
 
     -- in an own snapshot
-    pub stopped_compacting : (kept : Kept) → MayEnd (moment_of a) → a.replica.raft.id ≡ a.replica.id → AtRest a → MayBe setup a [] (raft.Local (raft.Snapped a.applied.index) ∷ []) → StopsCompacting setup [] a kept → StopsBy m kind setup start event kept
+    pub stopped_compacting : (kept : Kept) → MayEnd (moment_of a) → a.replica.raft.id ≡ a.replica.id → AtRest a → MayBe setup a [] (raft.Local (raft.Snapped a.applied.index) ∷ []) → StopsCompacting setup [] a kept → AccountsForStop m kind setup start event kept
     stopped_compacting kept end id stood may s =
         stopped_next a (Compacts a.applied.index) kept end id (record { same = refl; links = refl; mail = refl; replies = refl; reads = refl }) tt (λ none. tt) (no_moves a)
         (begin_within m kind setup (record { inputs = raft.Local (raft.Snapped a.applied.index) ∷ []; bytes = []; joins = None; read = None; asks = λ conn. [] }) a (Compacts a.applied.index) (raft.Local (raft.Snapped a.applied.index)) kept stood
@@ -112,8 +112,8 @@ module _ (law : StopLeaves) (m : Meaning) (kind : EngineKind) (setup : Setup) wh
         (λ known. law setup a.replica.id [] None (moment_of a) (raft.Local (raft.Snapped a.applied.index)) kept tt (s known)))
 
     -- at the begin of a message of a peer
-    pub stopped_letter : (kept : Kept) → MayEnd (moment_of a) → a.replica.raft.id ≡ a.replica.id → AtRest a → StopsLetter m kind setup a kept → StopsBy m kind setup start event kept
-    stopped_letter kept end id stood (no_letter e) = subst (StopsBy m kind setup start event) (sym e) stopped_here
+    pub stopped_letter : (kept : Kept) → MayEnd (moment_of a) → a.replica.raft.id ≡ a.replica.id → AtRest a → StopsLetter m kind setup a kept → AccountsForStop m kind setup start event kept
+    stopped_letter kept end id stood (no_letter e) = subst (AccountsForStop m kind setup start event) (sym e) stopped_here
     stopped_letter kept end id stood (letter_stopped message mid linked is moves s) =
         stopped_next mid (Comes message) kept end id
         (record { same = ap seen is; links = ap (λ (n : Running). n.has_links) is; mail = ap (λ (n : Running). n.mail) is; replies = ap (λ (n : Running). n.outs.replies.items) is; reads = ap (λ (n : Running). n.outs.reads.items) is }) tt
@@ -162,7 +162,7 @@ client_stopped m kind setup old happens.Beat machine stood c = absurd c
 client_stopped m kind setup old (happens.Peer message) machine stood c = absurd c
 
 -- the first act was stopped
-pub first_stopped : (m : Meaning) (kind : EngineKind) (setup : Setup) (start from : Running) (event : Event) (kept : Kept) → Between start from → Stopped m kind setup from (Happens event) kept → StopsBy m kind setup start event kept
+pub first_stopped : (m : Meaning) (kind : EngineKind) (setup : Setup) (start from : Running) (event : Event) (kept : Kept) → Between start from → Stopped m kind setup from (Happens event) kept → AccountsForStop m kind setup start event kept
 first_stopped m kind setup start from event kept between stopped = record {
   begins = [];
   last = Happens event;

@@ -2,29 +2,29 @@
 use Rattle.std.proofs.Common.{◌≡◌, ◌≢◌, ℕ, List, [], ◌∷◌, ◌++◌, refl, sym, ap, subst, ◌∙◌, None}
 use Rattle.sql_engine.specs.declared.kind.EngineKind.{EngineKind}
 use Rattle.sql_engine.specs.Meanings.{Meaning}
-use Rattle.raft_rules.specs.Node as raft
-use Rattle.raft_rules.specs.NodeValues.{node_of}
-use Rattle.raft_vote.specs.declared.message.RaftMessage.{RaftMessage}
-use Rattle.raft_vote.specs.Messages.{message_value}
-use Rattle.raft_vote.specs.declared.message.What.{What}
-use Rattle.raft_vote.specs.declared.message.What.TheVariants as whats
+use Rattle.raft_spec.specs.Node as raft
+use Rattle.raft_spec.specs.NodeValues.{node_of}
+use Rattle.raft_messages.specs.declared.message.RaftMessage.{RaftMessage}
+use Rattle.raft_messages.specs.Messages.{message_value}
+use Rattle.raft_messages.specs.declared.message.MessageBody.{MessageBody}
+use Rattle.raft_messages.specs.declared.message.MessageBody.TheVariants as whats
 use Rattle.raft_core.specs.declared.event.RaftEvent.{RaftEvent}
 use Rattle.raft_core.specs.declared.event.RaftEvent.TheVariants as events
 use Rattle.raft_core.specs.Events.{input_of, offered}
-use Rattle.raft_member.specs.Members.{Configurations, read_setup}
-use Rattle.raft_world.specs.Members.{Setup}
+use Rattle.raft_membership.specs.Members.{Configurations, read_setup}
+use Rattle.raft_safety.specs.Members.{Setup}
 use Rattle.store_laws.specs.Snapshots.{Longer, given}
 use Rattle.store_laws.specs.Store.{Snap, Kept}
-use Rattle.node_replica.specs.Replicas as replicas
-use Rattle.node_replica.specs.Replicas.{kept_of}
-use Rattle.node_rules.specs.Accounts.{Moment}
-use Rattle.node_rules.specs.RaftTurns.{raft_after, IsFirst, KeepsSnapshot, BytesAfter, kept_bytes, brought_bytes, own_bytes, at_first, at_vote, at_end}
-use Rattle.node_rules.specs.RaftTurns as turns
+use Rattle.raft_on_disk.specs.Replicas as replicas
+use Rattle.raft_on_disk.specs.Replicas.{kept_of}
+use Rattle.node_spec.specs.Accounts.{Moment}
+use Rattle.node_spec.specs.RaftTurns.{raft_after, IsFirst, KeepsSnapshot, BytesAfter, kept_bytes, brought_bytes, own_bytes, at_first, at_vote, at_end}
+use Rattle.node_spec.specs.RaftTurns as turns
 use Rattle.node_core.specs.declared.running.Running.{Running}
 use Rattle.node_core.specs.Account as account
 use Rattle.node_core.specs.Account.{proposals_in, moment_of, IsOwn}
 use Rattle.node_core.specs.Finding.{StopsIn, StopsTelling, untold_yet, in_telling, StopsBehind, StopsFollowing, in_step, behind_step, StopsInstalling, in_install, behind_install, StopsChanging, unchanged_yet, in_change, StopsOwn, before_own, in_own, BeganStops, at_once, later_on}
-use Rattle.node_core.specs.Posting.{Posts, ToldOr, untold, told_servers, told_inputs, FollowsSo, InstallsSo, WasDue}
+use Rattle.node_core.specs.Posting.{Posts, MaybeToldServers, untold, told_servers, told_inputs, StepsWithoutSnapshot, StepsWithSnapshot, TookFirstDue}
 use Rattle.node_core.specs.Stepping.{HasTold}
 use Rattle.node_core.specs.Taking.{bytes_with}
 use Rattle.node_core.specs.Voters.{MayBe}
@@ -40,7 +40,7 @@ use Rattle.node_core.proofs.RaftBridges.{longer_self}
 pub with_offer : (event : RaftEvent) → replicas.bytes_in (offered event) ≡ bytes_with event
 with_offer (events.Message m) = of_what m.what
   where
-    of_what : (w : What) → replicas.bytes_in (offered (events.Message (record m { what = w }))) ≡ account.bytes_in w
+    of_what : (w : MessageBody) → replicas.bytes_in (offered (events.Message (record m { what = w }))) ≡ account.bytes_in w
     of_what (whats.Install s) = refl
     of_what (whats.AskVote last) = refl
     of_what (whats.Vote granted) = refl
@@ -86,13 +86,13 @@ keeps_left setup came old new i p keeps =
 
 -- ---- behind an event from outside
 
-pub behind_telling : (setup : Setup) (old step : Running) (event : RaftEvent) (kept : Kept) → ((c : Configurations) → FollowsSo old (record step { members = c }) (input_of event)) → StopsBehind setup (bytes_with event) step kept → StopsFollowing setup old event kept
+pub behind_telling : (setup : Setup) (old step : Running) (event : RaftEvent) (kept : Kept) → ((c : Configurations) → StepsWithoutSnapshot old (record step { members = c }) (input_of event)) → StopsBehind setup (bytes_with event) step kept → StopsFollowing setup old event kept
 behind_telling setup old step event kept follows (c, untold_yet e) =
-    let f : FollowsSo old (record step { members = c }) (input_of event) = follows c in
+    let f : StepsWithoutSnapshot old (record step { members = c }) (input_of event) = follows c in
     in_step (subst (StopsIn setup (bytes_with event) old (input_of event)) (sym e) (keeps_left setup (bytes_with event) old (record step { members = c }) (input_of event) f.posts f.follows.snapshot))
 behind_telling setup old step event kept follows (c, in_telling servers x) = behind_step (record step { members = c }) servers (follows c) x
 
-pub behind_following : (setup : Setup) (old mid last : Running) (event : RaftEvent) → FollowsSo old mid (input_of event) → ToldOr mid last → StopsFollowing setup old event (kept_of last.replica)
+pub behind_following : (setup : Setup) (old mid last : Running) (event : RaftEvent) → StepsWithoutSnapshot old mid (input_of event) → MaybeToldServers mid last → StopsFollowing setup old event (kept_of last.replica)
 behind_following setup old mid last event f (untold e) =
     in_step (subst (λ (n : Running). StopsIn setup (bytes_with event) old (input_of event) (kept_of n.replica)) (sym e) (keeps_left setup (bytes_with event) old mid (input_of event) f.posts f.follows.snapshot))
 behind_following setup old mid last event f (told_servers servers l) = behind_step mid servers f (keeps_left setup (bytes_with event) mid last (raft.Local (raft.UseServers servers)) l.posts l.leaves.snapshot)
@@ -106,13 +106,13 @@ untold_behind setup came old = (old.members, untold_yet refl)
 
 -- ---- behind a snapshot that came
 
-pub behind_placing : (setup : Setup) (old placed : Running) (event : RaftEvent) (message : RaftMessage) (kept : Kept) → event ≡ events.Message message → InstallsSo setup old placed (account.bytes_in message.what) (message_value message) →
+pub behind_placing : (setup : Setup) (old placed : Running) (event : RaftEvent) (message : RaftMessage) (kept : Kept) → event ≡ events.Message message → StepsWithSnapshot setup old placed (account.bytes_in message.what) (message_value message) →
     StopsIn setup (bytes_with event) old (input_of event) (kept_of placed.replica) → StopsTelling setup (account.bytes_in message.what) placed kept → StopsInstalling setup old event kept
 behind_placing setup old placed event message kept is i here (untold_yet e) = in_install (subst (StopsIn setup (bytes_with event) old (input_of event)) (sym e) here)
 behind_placing setup old placed event message kept is i here (in_telling servers x) = behind_install message placed servers is i x
 
-pub behind_placed : (setup : Setup) (old placed last : Running) (event : RaftEvent) (message : RaftMessage) → event ≡ events.Message message → InstallsSo setup old placed (account.bytes_in message.what) (message_value message) →
-    StopsIn setup (bytes_with event) old (input_of event) (kept_of placed.replica) → ToldOr placed last → StopsInstalling setup old event (kept_of last.replica)
+pub behind_placed : (setup : Setup) (old placed last : Running) (event : RaftEvent) (message : RaftMessage) → event ≡ events.Message message → StepsWithSnapshot setup old placed (account.bytes_in message.what) (message_value message) →
+    StopsIn setup (bytes_with event) old (input_of event) (kept_of placed.replica) → MaybeToldServers placed last → StopsInstalling setup old event (kept_of last.replica)
 behind_placed setup old placed last event message is i here (untold e) = in_install (subst (λ (n : Running). StopsIn setup (bytes_with event) old (input_of event) (kept_of n.replica)) (sym e) here)
 behind_placed setup old placed last event message is i here (told_servers servers l) =
     behind_install message placed servers is i (keeps_left setup (account.bytes_in message.what) placed last (raft.Local (raft.UseServers servers)) l.posts l.leaves.snapshot)
@@ -134,11 +134,11 @@ stops_due setup came a w i kept own (at_end bytes b l) = at_end bytes (by b) (re
     by (own_bytes index e s) = absurd (subst IsOwn e own)
 
 -- what the node may be told doesn't hang on what is due
-may_before : (setup : Setup) (came : List ℕ) (before popped : Running) (event : RaftEvent) (is : List raft.Input) → WasDue event before popped → MayBe setup popped came is → MayBe setup before came is
+may_before : (setup : Setup) (came : List ℕ) (before popped : Running) (event : RaftEvent) (is : List raft.Input) → TookFirstDue event before popped → MayBe setup popped came is → MayBe setup before came is
 may_before setup came before popped event is was may = subst (λ (n : Running). MayBe setup n came is) (before_is before popped event was) may
 
 -- where Raft was told servers before
-pub own_telling : (setup : Setup) (came : List ℕ) (before popped : Running) (event : RaftEvent) (kept : Kept) → WasDue event before popped → StopsChanging setup came popped kept → StopsOwn setup came before kept
+pub own_telling : (setup : Setup) (came : List ℕ) (before popped : Running) (event : RaftEvent) (kept : Kept) → TookFirstDue event before popped → StopsChanging setup came popped kept → StopsOwn setup came before kept
 own_telling setup came before popped event kept was (unchanged_yet e) = before_own (unchanged_yet (e ∙ ap (λ (n : Running). kept_of n.replica) was.is))
 own_telling setup came before popped event kept was (in_change servers may x) =
     before_own (in_change servers (may_before setup came before popped event (raft.Local (raft.UseServers servers) ∷ []) was may) (subst (λ (n : Running). StopsIn setup came n (raft.Local (raft.UseServers servers)) kept) (before_is before popped event was) (stops_due setup came popped before (raft.Local (raft.UseServers servers)) kept tt x)))
@@ -161,7 +161,7 @@ is_first (events.Message m) told w own due = absurd own
 is_first (events.Snapped at) told w own due = absurd own
 is_first (events.Servers servers) told w own due = absurd own
 
-pub own_making : (setup : Setup) (came : List ℕ) (before popped told : Running) (event : RaftEvent) (kept : Kept) → IsOwnDue event → WasDue event before popped → HasTold popped told → (tells : ToldOr popped told) → MayBe setup popped came (told_inputs tells ++ input_of event ∷ []) → StopsIn setup (bytes_with event) told (input_of event) kept → StopsOwn setup came before kept
+pub own_making : (setup : Setup) (came : List ℕ) (before popped told : Running) (event : RaftEvent) (kept : Kept) → IsOwnDue event → TookFirstDue event before popped → HasTold popped told → (tells : MaybeToldServers popped told) → MayBe setup popped came (told_inputs tells ++ input_of event ∷ []) → StopsIn setup (bytes_with event) told (input_of event) kept → StopsOwn setup came before kept
 own_making setup came before popped told event kept own was t tells may x =
     let mid : Running = record told { due = before.due } in
     subst (λ (n : Running). StopsOwn setup came n kept) (before_is before popped event was) (in_own mid (input_of event) (told_due popped told before tells) (own_input event own)

@@ -6,15 +6,15 @@ use Rattle.sql_engine.specs.Known.{Known}
 use Rattle.sql_engine.specs.Meanings.{Meaning, Stays, Told}
 use Rattle.disk_model.specs.Disk.{Disk}
 use Rattle.disk_model.specs.Trait.{Text}
-use Rattle.raft_rules.specs.Node.{Server}
-use Rattle.raft_world.specs.Members.{Setup}
-use Rattle.raft_member.specs.Members.{read_setup}
+use Rattle.raft_spec.specs.Node.{Server}
+use Rattle.raft_safety.specs.Members.{Setup}
+use Rattle.raft_membership.specs.Members.{read_setup}
 use Rattle.client_sessions.specs.Seen.{Agrees}
-use Rattle.node_replica.specs.Replicas.{IsKept}
+use Rattle.raft_on_disk.specs.Replicas.{IsKept}
 use Rattle.node_core.specs.declared.event.Event.{Event}
 use Rattle.node_core.specs.declared.running.Running.{Running}
 use Rattle.node_core.specs.Account.{Underway}
-use Rattle.node_core.specs.Conns.{ConnsOn}
+use Rattle.node_core.specs.Conns.{StreamsClose}
 use Rattle.node_core.specs.Core.{core_of}
 use Rattle.node_core.specs.Exact.{UnlinkedTurn}
 use Rattle.node_core.specs.ExactParts.{Answered}
@@ -32,7 +32,7 @@ pub record Turned (M : EngineKind → Meaning) (tells : Bool) (before now : Disk
   pub same_kind : kind_now ≡ kind
   pub on : (opening : List Server) (start : Running) (event : Event) (first : Option Told) → Underway (M kind) kind (read_setup opening) start old event first told → Underway (M kind) kind (read_setup opening) start new event first told_now
   pub opened : openings ≤ openings_now
-  pub conns : ConnsOn old new
+  pub conns : StreamsClose old new
   pub exact : Ahead (M kind) kind told told_now (core_of old) (core_of new)
 
 pub none_turned : (M : EngineKind → Meaning) (tells : Bool) (states : Disk Text → Type 0) (faults : ℕ) (kind : EngineKind) (openings : ℕ) (told : Option Told) (known : List Known) (n : Running) → IsGoing n → IsLed n → Agrees known n.clients n.applied.machine → Turned M tells states states faults faults kind kind openings openings told told known n n
@@ -49,7 +49,7 @@ under_kind {first} {mid} {now} M k l setup start a b event e f = subst (λ z. Un
 pub turned_on : (M : EngineKind → Meaning) (tells : Bool) (s0 s1 s2 : Disk Text → Type 0) (f0 f1 f2 : ℕ) (k0 k1 k2 : EngineKind) (o0 o1 o2 : ℕ) (t0 t1 t2 : Option Told) (known1 known2 : List Known) (old mid new : Running) → Turned M tells s0 s1 f0 f1 k0 k1 o0 o1 t0 t1 known1 old mid
     → IsGoing new → IsLed new → Agrees known2 new.clients new.applied.machine → (IsKept tells s1 mid.replica → IsKept tells s2 new.replica) → f1 ≤ f2 → Stays k1 k2 o1 o2
     → ((opening : List Server) (start : Running) (event : Event) (first : Option Told) → Underway (M k1) k1 (read_setup opening) start mid event first t1 → Underway (M k1) k1 (read_setup opening) start new event first t2)
-    → ConnsOn mid new → (more : Bool) → more ≡ true → Answered t1 t2 (UnlinkedTurn (M k1) k1 (core_of mid) (core_of new) more) → Turned M tells s0 s2 f0 f2 k0 k2 o0 o2 t0 t2 known2 old new
+    → StreamsClose mid new → (more : Bool) → more ≡ true → Answered t1 t2 (UnlinkedTurn (M k1) k1 (core_of mid) (core_of new) more) → Turned M tells s0 s2 f0 f2 k0 k2 o0 o2 t0 t2 known2 old new
 turned_on M tells s0 s1 s2 f0 f1 f2 k0 k1 k2 o0 o1 o2 t0 t1 t2 known1 known2 old mid new t g led a stored le s on conns more left exact = record {
   going = g;
   led = led;

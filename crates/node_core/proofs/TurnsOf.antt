@@ -4,27 +4,27 @@ use Rattle.std.specs.Prelude.{Option, Some, None}
 use Rattle.wire_msgs.specs.declared.request.Request.{Request}
 use Rattle.sql_engine.specs.declared.kind.EngineKind.{EngineKind}
 use Rattle.sql_engine.specs.Meanings.{Meaning, Told}
-use Rattle.statement_runs.specs.Running.{TellsAll}
-use Rattle.statement_runs.proofs.Telling.{tells_none}
-use Rattle.session_rules.specs.Entries.{Content}
-use Rattle.session_rules.specs.Sessions.{Reply}
-use Rattle.session_world.specs.Lending.{lends_by}
-use Rattle.raft_rules.specs.Log.{Entry}
-use Rattle.raft_rules.specs.Node as raft
-use Rattle.raft_world.specs.Members.{Setup}
-use Rattle.node_replica.specs.Replicas.{kept_of}
-use Rattle.node_rules.specs.Accounts.{no_piece}
-use Rattle.node_rules.specs.ClientTurns.{Stays, Connects, HangsUp, Hears, Applies, Resumes, ResumingGoes, Reads, Serves}
-use Rattle.node_rules.specs.RaftTurns.{Leaves, LeavingGoes, Follows, FollowingGoes, Installs, InstallGoes, TakesSnapshot, SnapshotGoes}
-use Rattle.node_rules.specs.Steps.{Letter, AllSent}
-use Rattle.node_rules.specs.Turns.{Handles, HandlingGoes, Proposes, Owes}
-use Rattle.node_rules.proofs.Applying.{applying_goes_holds}
-use Rattle.node_rules.proofs.Connecting.{staying_goes_holds, connecting_goes_holds, hanging_goes_holds, hearing_goes_holds}
-use Rattle.node_rules.proofs.Later.{reading_begins_holds}
-use Rattle.node_rules.proofs.Owing.{owing_goes_holds}
-use Rattle.node_rules.proofs.Serving.{serving_goes_holds}
-use Rattle.node_rules.proofs.Stretches.{goes_begins_holds}
-use Rattle.node_rules.proofs.Taking.{proposal_goes_holds}
+use Rattle.session_statements.specs.Running.{TellsAll}
+use Rattle.session_statements.proofs.Telling.{tells_none}
+use Rattle.session_spec.specs.Entries.{Content}
+use Rattle.session_spec.specs.Sessions.{Reply}
+use Rattle.session_safety.specs.Lending.{lends_by}
+use Rattle.raft_spec.specs.Log.{Entry}
+use Rattle.raft_spec.specs.Node as raft
+use Rattle.raft_safety.specs.Members.{Setup}
+use Rattle.raft_on_disk.specs.Replicas.{kept_of}
+use Rattle.node_spec.specs.Accounts.{no_piece}
+use Rattle.node_spec.specs.ClientTurns.{Stays, Connects, HangsUp, Hears, Applies, Resumes, ResumingGoes, Reads, Serves}
+use Rattle.node_spec.specs.RaftTurns.{Leaves, LeavingGoes, Follows, FollowingGoes, Installs, InstallGoes, TakesSnapshot, SnapshotGoes}
+use Rattle.node_spec.specs.Steps.{Letter, AllSent}
+use Rattle.node_spec.specs.Turns.{Handles, HandlingGoes, Proposes, Owes}
+use Rattle.node_spec.proofs.Applying.{applying_goes_holds}
+use Rattle.node_spec.proofs.Connecting.{staying_goes_holds, connecting_goes_holds, hanging_goes_holds, hearing_goes_holds}
+use Rattle.node_spec.proofs.Later.{reading_begins_holds}
+use Rattle.node_spec.proofs.Owing.{owing_goes_holds}
+use Rattle.node_spec.proofs.Serving.{serving_goes_holds}
+use Rattle.node_spec.proofs.Stretches.{goes_begins_holds}
+use Rattle.node_spec.proofs.Taking.{proposal_goes_holds}
 use Rattle.node_core.specs.declared.running.Running.{Running}
 use Rattle.node_core.specs.Account.{moment_of, Says, Brought, IsOwn, KnowsServers}
 use Rattle.node_core.proofs.Accounting.{TurnsIn, QuietTurns, SinceIn, adds_none, since_nothing, since_on}

@@ -15,22 +15,22 @@ use Rattle.client_connection.specs.Connection.{Conn, opened, received}
 use Rattle.sql_engine.specs.declared.kind.EngineKind.{EngineKind}
 use Rattle.sql_engine.specs.Meanings.{Meaning, Told}
 use Rattle.sql_engine.specs.Replies.{Statement}
-use Rattle.page_apply.specs.declared.database.Database.{Database}
-use Rattle.session_rules.specs.Causes.{LeadershipLost}
-use Rattle.session_rules.specs.Events.{tidy, landed, settled_by, on_applied, landed_reply, told_to, told_by, told_applied, still_lent, lost, on_lost, placed, ordered, last_of, waits, told_lost, left, on_hangup, connected}
-use Rattle.session_rules.specs.Machine.{Machine}
-use Rattle.session_rules.specs.Requests.{with_session, without_later, affected_by}
-use Rattle.session_rules.specs.Sessions.{Reply, Refusal, Single, Rows as RowsOf, responses_of, result, empty, db, Kind, Opening, Configuring, Writing, Committing, Querying, Flight, Later, Due, Lent, Session, Gateway, View, absent, fresh, is_flying, is_due, is_busy, Effect, HandsOver, JoinsPeer, Weighs, Turned, Refused, Lacks, Answers, Proposes, Lends, Affects}
+use Rattle.database_state.specs.declared.database.Database.{Database}
+use Rattle.session_spec.specs.Causes.{LeadershipLost}
+use Rattle.session_spec.specs.Events.{tidy, landed, settled_by, on_applied, landed_reply, told_to, told_by, told_applied, still_lent, lost, on_lost, placed, ordered, last_of, waits, told_lost, left, on_hangup, connected}
+use Rattle.session_spec.specs.Machine.{Machine}
+use Rattle.session_spec.specs.Requests.{with_session, without_later, affected_by}
+use Rattle.session_spec.specs.Sessions.{Reply, Refusal, Single, Rows as RowsOf, responses_of, result, empty, db, Kind, Opening, Configuring, Writing, Committing, Querying, Flight, Later, Due, Lent, Session, Gateway, View, absent, fresh, is_flying, is_due, is_busy, Effect, HandsOver, JoinsPeer, Weighs, Turned, Refused, Lacks, Answers, Proposes, Lends, Affects}
 use Rattle.session_table.specs.declared.session.Session.{Session as TableSession}
 use Rattle.session_table.specs.Sweeping.{told_in, all_told}
 use Rattle.session_table.specs.Table.{has_conn, session_found, session_at, table_of}
-use Rattle.gateway.specs.declared.act.Act.{Act as GatewayAct}
-use Rattle.gateway.specs.Calls.{Is}
-use Rattle.gateway.specs.Seen.{seen}
+use Rattle.session_gateway.specs.declared.act.Act.{Act as GatewayAct}
+use Rattle.session_gateway.specs.Calls.{Is}
+use Rattle.session_gateway.specs.Seen.{seen}
 use Rattle.client_sessions.specs.declared.act.Act.{Act}
 use Rattle.client_sessions.specs.declared.clients.Clients.{Clients as Held}
-use Rattle.client_sessions.specs.declared.joining.Joining.{Joining}
-use Rattle.client_sessions.specs.declared.joining.Joining.TheVariants.{Joined, Full, Taken}
+use Rattle.client_sessions.specs.declared.connect_result.ConnectResult.{ConnectResult}
+use Rattle.client_sessions.specs.declared.connect_result.ConnectResult.TheVariants.{Joined, Full, Taken}
 use Rattle.client_sessions.specs.Calls.{Comes, TookTurn, told_conns, landed_at, lost_all, call_of, scene}
 use Rattle.client_sessions.specs.Clients.{Clients, no_clients, joining, joined, joined_as, without, hung_up, closing, closed, heard, heard_on, Offer, first_of, offered_on, offered, offer_of, next_offer, taken, freed, Fits, Sound}
 use Rattle.client_sessions.specs.Later.{Resumes, Finishes, turn_for}
@@ -102,7 +102,7 @@ elsewhere false conn busy x y away h = h
 pub none_turns : HasTurns no_clients
 none_turns = λ conn free. refl
 
-joined_turns : (k : Clients) (conn : ℕ) (how : Joining) → HasTurns k → HasTurns (joined_as k conn how)
+joined_turns : (k : Clients) (conn : ℕ) (how : ConnectResult) → HasTurns k → HasTurns (joined_as k conn how)
 unfolding connected
 joined_turns k conn Joined h = λ other free. offered_where (other == conn) other fresh (k.sessions.session other) (Some opened) (k.streams other) (λ e. refl) (λ e. h other free)
 joined_turns k conn Full h = h

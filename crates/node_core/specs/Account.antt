@@ -8,34 +8,34 @@ use Rattle.wire_msgs.specs.declared.response.Response.{Response}
 use Rattle.wire_msgs.specs.Responses.{response_bytes}
 use Rattle.sql_engine.specs.declared.kind.EngineKind.{EngineKind}
 use Rattle.sql_engine.specs.Meanings.{Meaning, Told}
-use Rattle.session_rules.specs.Causes.{failure, unread_cause}
-use Rattle.session_rules.specs.Sessions.{Reply, Job, responses_of}
-use Rattle.statement_runs.specs.Running.{TellsAll}
-use Rattle.session_decisions.specs.Reading.{read_named}
+use Rattle.session_spec.specs.Causes.{failure, unread_cause}
+use Rattle.session_spec.specs.Sessions.{Reply, Job, responses_of}
+use Rattle.session_statements.specs.Running.{TellsAll}
+use Rattle.session_outcomes.specs.Reading.{read_named}
 use Rattle.client_connection.specs.Connection.{Conn, received}
-use Rattle.page_apply.specs.Machines.{names_of}
-use Rattle.raft_rules.specs.Log.{Entry}
-use Rattle.raft_rules.specs.Node as raft
-use Rattle.raft_vote.specs.declared.message.RaftMessage.{RaftMessage}
-use Rattle.raft_vote.specs.declared.message.What.{What}
-use Rattle.raft_vote.specs.declared.message.What.TheVariants as whats
-use Rattle.raft_vote.specs.Messages.{message_value}
+use Rattle.database_state.specs.Machines.{names_of}
+use Rattle.raft_spec.specs.Log.{Entry}
+use Rattle.raft_spec.specs.Node as raft
+use Rattle.raft_messages.specs.declared.message.RaftMessage.{RaftMessage}
+use Rattle.raft_messages.specs.declared.message.MessageBody.{MessageBody}
+use Rattle.raft_messages.specs.declared.message.MessageBody.TheVariants as whats
+use Rattle.raft_messages.specs.Messages.{message_value}
 use Rattle.raft_core.specs.declared.event.RaftEvent.{RaftEvent}
 use Rattle.raft_core.specs.declared.event.RaftEvent.TheVariants as due
-use Rattle.raft_world.specs.Members.{Setup}
+use Rattle.raft_safety.specs.Members.{Setup}
 use Rattle.store_laws.specs.Store.{Kept}
-use Rattle.node_replica.specs.Looking.{puts_snapshot}
-use Rattle.node_replica.specs.Mails.{no_mail, all_posted, sent}
-use Rattle.node_replica.specs.Replicas.{kept_of}
-use Rattle.node_state.specs.Snapshot.{snapshot_in, offered_to}
-use Rattle.node_rules.specs.Accounts.{Moment, resting, Piece, Goes, Begins}
-use Rattle.node_rules.specs.RaftTurns.{HasServers}
-use Rattle.node_rules.specs.Steps.{Letter, Taken, Made, TellsSo, CountsSo, StepsSo, StopsSo, AllSent}
+use Rattle.raft_on_disk.specs.Looking.{puts_snapshot}
+use Rattle.raft_on_disk.specs.Mails.{no_mail, all_posted, sent}
+use Rattle.raft_on_disk.specs.Replicas.{kept_of}
+use Rattle.applied_state.specs.Snapshot.{snapshot_in, offered_to}
+use Rattle.node_spec.specs.Accounts.{Moment, resting, Piece, Goes, Begins}
+use Rattle.node_spec.specs.RaftTurns.{HasServers}
+use Rattle.node_spec.specs.Steps.{Letter, Taken, Made, TellsVoters, VotersWereTold, CompletesStep, StopsInStep, AllSent}
 use Rattle.node_core.specs.declared.event.Event.{Event}
 use Rattle.node_core.specs.declared.event.Event.TheVariants as events
-use Rattle.node_core.specs.declared.outs.Outs.{Outs}
+use Rattle.node_core.specs.declared.outs.StepOutputs.{StepOutputs}
 use Rattle.node_core.specs.declared.running.Running.{Running}
-use Rattle.node_core.specs.Carrying.{LinesSince, LinesBy, LinesUpTo}
+use Rattle.node_core.specs.Carrying.{LinesSince, ConnectionsOfStep, ConnectionsOfStop}
 use Rattle.node_core.specs.Values.{seen, clients_in, requests_in, waiting_on}
 use Rattle.node_core.specs.Voters.{Beside}
 
@@ -59,7 +59,7 @@ moment_of n = record { node = seen n; applied = n.applied.index; due = proposals
 -- ---- what is said
 
 -- the bytes of a snapshot that a message brings
-abbrev pub bytes_in : What → List ℕ
+abbrev pub bytes_in : MessageBody → List ℕ
 bytes_in (whats.Install snapshot) = snapshot.bytes
 bytes_in (whats.AskVote last) = []
 bytes_in (whats.Vote granted) = []
@@ -304,9 +304,9 @@ pub record Act (m : Meaning) (kind : EngineKind) (setup : Setup) (old new : Runn
   pub id : new.replica.raft.id ≡ old.replica.raft.id
   pub taken : Taken
   pub takes : Takes old begin taken
-  pub steps : KnowsServers setup old → StepsSo m kind setup old.replica.id (seen old) (seen new) taken made.letters made.replies made.jobs made.answers
-  pub tells : TellsSo setup old.replica.id (seen old) taken
-  pub counts : CountsSo setup old.replica.id (seen old) (seen new) taken
+  pub steps : KnowsServers setup old → CompletesStep m kind setup old.replica.id (seen old) (seen new) taken made.letters made.replies made.jobs made.answers
+  pub tells : TellsVoters setup old.replica.id (seen old) taken
+  pub counts : VotersWereTold setup old.replica.id (seen old) (seen new) taken
   pub sent : AllSent (kept_of old.replica) (kept_of new.replica) made.letters
 
 -- These acts lead from one node to another, and make this. Before each of them, and after the last, only what the rules don't see changes.
@@ -327,8 +327,8 @@ pub record Stopped (m : Meaning) (kind : EngineKind) (setup : Setup) (old : Runn
   pub stood : AtRest old
   pub taken : Taken
   pub takes : Takes old begin taken
-  pub stops : KnowsServers setup old → StopsSo m kind setup old.replica.id (seen old) kept taken
-  pub tells : TellsSo setup old.replica.id (seen old) taken
+  pub stops : KnowsServers setup old → StopsInStep m kind setup old.replica.id (seen old) kept taken
+  pub tells : TellsVoters setup old.replica.id (seen old) taken
 
 -- ---- the acts of a step
 
@@ -421,7 +421,7 @@ pub record Underway (m : Meaning) (kind : EngineKind) (setup : Setup) (start now
 -- Connections ask what the event's bytes bring to the streams that they had before. A node without links takes no peer's message from a
 -- connection, and stays without them. The messages of peers that it takes from connections, and whom it closes, are those of the moves that it
 -- makes there.
-pub record StepsBy (m : Meaning) (kind : EngineKind) (setup : Setup) (old new : Running) (event : Event) (outs : Outs) (told_before told_now : Option Told)
+pub record AccountsForStep (m : Meaning) (kind : EngineKind) (setup : Setup) (old new : Running) (event : Event) (outs : StepOutputs) (told_before told_now : Option Told)
     : Type 0 where
   pub begins : List Begin
   pub are : AreOf event begins
@@ -436,10 +436,10 @@ pub record StepsBy (m : Meaning) (kind : EngineKind) (setup : Setup) (old new : 
   pub asks : Brings old (Happens event) (acts_asks m kind setup old new begins made acts)
   pub links : new.has_links ≡ old.has_links
   pub alone : AreAlone old begins
-  pub lines : LinesBy event old new outs (messages_of begins)
+  pub lines : ConnectionsOfStep event old new outs (messages_of begins)
 
 -- A step that failed or was stopped: what is kept is what the last of its acts left, and those before it ended well.
-pub record StopsBy (m : Meaning) (kind : EngineKind) (setup : Setup) (old : Running) (event : Event) (kept : Kept) : Type 0 where
+pub record AccountsForStop (m : Meaning) (kind : EngineKind) (setup : Setup) (old : Running) (event : Event) (kept : Kept) : Type 0 where
   pub begins : List Begin
   pub last : Begin
   pub are : AreOf event (begins ++ last ∷ [])
@@ -448,4 +448,4 @@ pub record StopsBy (m : Meaning) (kind : EngineKind) (setup : Setup) (old : Runn
   pub acts : Acts m kind setup old mid begins made
   pub stopped : Stopped m kind setup mid last kept
   pub alone : AreAlone old (begins ++ last ∷ [])
-  pub lines : LinesUpTo event old (messages_of (begins ++ last ∷ []))
+  pub lines : ConnectionsOfStop event old (messages_of (begins ++ last ∷ []))

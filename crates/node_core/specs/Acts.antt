@@ -1,7 +1,7 @@
 -- What an act of clients says, what it gives Raft to propose, and what it hands to a reader.
 use Rattle.std.specs.Prelude.{ℕ, List, [], ◌∷◌, map}
-use Rattle.raft_rules.specs.Log.{Entry}
-use Rattle.session_rules.specs.Sessions.{Job}
+use Rattle.raft_spec.specs.Log.{Entry}
+use Rattle.session_spec.specs.Sessions.{Job}
 use Rattle.client_sessions.specs.declared.act.Act.{Act}
 use Rattle.client_sessions.specs.declared.act.Act.TheVariants.{Reply, Propose, Lend, Transfer, Peer}
 

@@ -7,20 +7,20 @@ use Rattle.wire_msgs.specs.Reading.{request_of}
 use Rattle.client_connection.specs.declared.connection.CloseReason.{CloseReason}
 use Rattle.client_connection.specs.declared.connection.CloseReason.TheVariants.{Limit, Peer}
 use Rattle.client_connection.specs.Connection.{Conn, received, peer_received, reason_of}
-use Rattle.client_sessions.specs.declared.joining.Joining.{Joining}
-use Rattle.client_sessions.specs.declared.joining.Joining.TheVariants as joinings
+use Rattle.client_sessions.specs.declared.connect_result.ConnectResult.{ConnectResult}
+use Rattle.client_sessions.specs.declared.connect_result.ConnectResult.TheVariants as joinings
 use Rattle.client_sessions.specs.Clients.{Clients, with_stream, closing, joining, joined, hung_up}
-use Rattle.page_apply.specs.ByName.{change_first}
-use Rattle.raft_vote.specs.declared.fault.PeerFault.{PeerFault}
-use Rattle.raft_vote.specs.declared.message.RaftMessage.{RaftMessage}
-use Rattle.raft_vote.specs.Reading.{peer_message_of}
+use Rattle.database_state.specs.ByName.{change_first}
+use Rattle.raft_messages.specs.declared.fault.PeerFault.{PeerFault}
+use Rattle.raft_messages.specs.declared.message.RaftMessage.{RaftMessage}
+use Rattle.raft_messages.specs.Reading.{peer_message_of}
 use Rattle.node_core.specs.declared.event.Event.{Event}
 use Rattle.node_core.specs.declared.event.Event.TheVariants as events
 use Rattle.node_core.specs.declared.links.Letter.{Letter}
 use Rattle.node_core.specs.declared.links.Letter.TheVariants as letters
 use Rattle.node_core.specs.declared.links.Letter.TheVariants.{Wrong}
 use Rattle.node_core.specs.declared.links.Link.{Link}
-use Rattle.node_core.specs.declared.outs.Outs.{Outs}
+use Rattle.node_core.specs.declared.outs.StepOutputs.{StepOutputs}
 use Rattle.node_core.specs.declared.running.Running.{Running}
 use Rattle.node_core.specs.Values.{clients_in}
 
@@ -123,7 +123,7 @@ close_of conn (Some reason) = (conn, reason) ∷ []
 -- ---- an event
 
 -- no room was left for one that comes
-abbrev pub full_for : ℕ → Joining → List (ℕ × CloseReason)
+abbrev pub full_for : ℕ → ConnectResult → List (ℕ × CloseReason)
 full_for conn joinings.Joined = []
 full_for conn joinings.Full = (conn, Limit) ∷ []
 full_for conn joinings.Taken = []
@@ -192,14 +192,14 @@ abbrev pub with_first : Message → Conn → Conn
 with_first message stream = record { end = stream.end; waiting = message ∷ stream.waiting; full = stream.full }
 
 -- The first message of a client was taken.
-pub record AskedSo (old new : Lines) (conn : ℕ) : Type 0 where
+pub record TookRequest (old new : Lines) (conn : ℕ) : Type 0 where
   pub message : Message
   pub now : Conn
   pub opens : old.streams conn ≡ Some (with_first message now)
   pub is : new ≡ record old { streams = with_stream old.streams conn (Some now) }
 
 -- It is a CONNECT: what waits behind it, and what is unread, is the peer's from now on.
-pub record ConnectSo (old new : Lines) (conn peer : ℕ) : Type 0 where
+pub record TookConnect (old new : Lines) (conn peer : ℕ) : Type 0 where
   pub message : Message
   pub now : Conn
   pub opens : old.streams conn ≡ Some (with_first message now)
@@ -212,7 +212,7 @@ pub record ConnectSo (old new : Lines) (conn peer : ℕ) : Type 0 where
   }
 
 -- The first message on the peers' connections is one of its peer to this node.
-pub record SentSo (old new : Lines) (message : RaftMessage) : Type 0 where
+pub record TookPeerMessage (old new : Lines) (message : RaftMessage) : Type 0 where
   pub takes : old.takes ≡ true
   pub first : Waiting
   pub waits : first_waiting old.links ≡ Some first
@@ -220,7 +220,7 @@ pub record SentSo (old new : Lines) (message : RaftMessage) : Type 0 where
   pub is : new ≡ record old { links = first.links }
 
 -- It is none, or not of its peer.
-pub record WrongSo (old new : Lines) (conn : ℕ) : Type 0 where
+pub record TookWrongMessage (old new : Lines) (conn : ℕ) : Type 0 where
   pub takes : old.takes ≡ true
   pub first : Waiting
   pub waits : first_waiting old.links ≡ Some first
@@ -239,17 +239,17 @@ gone_at None l conn (Some reason) = record l { streams = with_stream l.streams c
 gone_at (Some link) l conn (Some reason) = record l { links = without_link conn l.links }
 
 -- The connection on which bytes came was looked at, and has gone where there is a reason.
-pub record LooksSo (old new : Lines) (conn : ℕ) (reason : Option CloseReason) : Type 0 where
+pub record ChecksConnection (old new : Lines) (conn : ℕ) (reason : Option CloseReason) : Type 0 where
   pub heard : old.heard ≡ Some conn
   pub why : reason ≡ reason_at (link_on conn old.links) (old.streams conn)
   pub is : new ≡ gone_at (link_on conn old.links) (record old { heard = None }) conn reason
 
 abbrev pub MovesBy : Lines → Lines → Move → Type 0
-MovesBy old new (TakesAsked conn) = AskedSo old new conn
-MovesBy old new (TakesConnect conn peer) = ConnectSo old new conn peer
-MovesBy old new (TakesSent message) = SentSo old new message
-MovesBy old new (FindsWrong conn) = WrongSo old new conn
-MovesBy old new (LooksAt conn reason) = LooksSo old new conn reason
+MovesBy old new (TakesAsked conn) = TookRequest old new conn
+MovesBy old new (TakesConnect conn peer) = TookConnect old new conn peer
+MovesBy old new (TakesSent message) = TookPeerMessage old new message
+MovesBy old new (FindsWrong conn) = TookWrongMessage old new conn
+MovesBy old new (LooksAt conn reason) = ChecksConnection old new conn reason
 
 -- these moves lead from one to the other
 abbrev pub Runs : Lines → Lines → List Move → Type 0
@@ -282,7 +282,7 @@ pub record LinesSince (event : Event) (start now : Running) (sent : List RaftMes
 -- The connections in a step that ended well: behind its event, moves were made by which these messages happened at Raft and no others; the
 -- event and these moves close the connections that are closed, and no others; the connection on which bytes came was looked at; and at a
 -- node with links no message of a peer waits any more.
-pub record LinesBy (event : Event) (old new : Running) (outs : Outs) (sent : List RaftMessage) : Type 0 where
+pub record ConnectionsOfStep (event : Event) (old new : Running) (outs : StepOutputs) (sent : List RaftMessage) : Type 0 where
   pub moves : List Move
   pub runs : Runs (begun_by event (clients_in old) (lines_in old)) (lines_in new) moves
   pub sent_is : sent ≡ flat_map sent_by moves
@@ -291,7 +291,7 @@ pub record LinesBy (event : Event) (old new : Running) (outs : Outs) (sent : Lis
   pub none_waits : new.has_links ≡ true → first_waiting new.links.all.items ≡ None
 
 -- And in one that was stopped, up to the last of these messages.
-pub record LinesUpTo (event : Event) (old : Running) (sent : List RaftMessage) : Type 0 where
+pub record ConnectionsOfStop (event : Event) (old : Running) (sent : List RaftMessage) : Type 0 where
   pub moves : List Move
   pub last : Lines
   pub runs : Runs (begun_by event (clients_in old) (lines_in old)) last moves

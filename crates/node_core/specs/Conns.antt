@@ -9,7 +9,7 @@ use Rattle.client_sessions.specs.Clients.{Clients, closing, hung_up, joining}
 use Rattle.node_core.specs.declared.event.Event.{Event}
 use Rattle.node_core.specs.declared.event.Event.TheVariants as events
 use Rattle.node_core.specs.declared.node.Node.{Node}
-use Rattle.node_core.specs.declared.outs.Outs.{Outs}
+use Rattle.node_core.specs.declared.outs.StepOutputs.{StepOutputs}
 use Rattle.node_core.specs.declared.running.Running.{Running}
 use Rattle.node_core.specs.declared.links.Link.{Link}
 use Rattle.node_core.specs.Carrying.{BeginsLines, lines_in, close_of, full_for, link_on, reason_at, gone_at}
@@ -93,7 +93,7 @@ pub record KeepsConns (old new : Running) : Type 0 where
   pub has_links : new.has_links ≡ old.has_links
 
 -- No connection comes, and no bytes come: of a node without links those that are closed so far, and the one that will be, are the same.
-pub record ConnsOn (old new : Running) : Type 0 where
+pub record StreamsClose (old new : Running) : Type 0 where
   pub streams : StreamsOn (clients_in old).streams (clients_in new).streams
   pub closes : IsUnlinked old → IsUnlinked new × (closes_in new ≡ closes_in old)
 
@@ -112,12 +112,12 @@ pub record LeavesConns (old new : Running) (conn peer : ℕ) : Type 0 where
   pub has_links : new.has_links ≡ old.has_links
 
 -- so behind what came of a message
-abbrev pub ConnsBehind : Act → Running → Running → Type 0
-ConnsBehind (acts.Reply conn messages) old new = KeepsConns old new
-ConnsBehind (acts.Propose conn entries) old new = KeepsConns old new
-ConnsBehind (acts.Lend conn job) old new = KeepsConns old new
-ConnsBehind (acts.Transfer conn to reply) old new = KeepsConns old new
-ConnsBehind (acts.Peer conn id reply) old new = LeavesConns old new conn id
+abbrev pub StreamsAfterMessage : Act → Running → Running → Type 0
+StreamsAfterMessage (acts.Reply conn messages) old new = KeepsConns old new
+StreamsAfterMessage (acts.Propose conn entries) old new = KeepsConns old new
+StreamsAfterMessage (acts.Lend conn job) old new = KeepsConns old new
+StreamsAfterMessage (acts.Transfer conn to reply) old new = KeepsConns old new
+StreamsAfterMessage (acts.Peer conn id reply) old new = LeavesConns old new conn id
 
 -- A connection was closed, if it was to be, and for this reason.
 pub record ClosesConn (old new : Running) (conn : ℕ) (reason : Option CloseReason) : Type 0 where
@@ -135,6 +135,6 @@ pub record ConnsBegin (event : Event) (old new : Running) : Type 0 where
 
 -- A step: each stream has what the event brought to it, and messages were taken from its front; and of a node without links exactly these
 -- connections are closed.
-pub record ConnsBy (event : Event) (old new : Running) (outs : Outs) : Type 0 where
+pub record StreamsOfStep (event : Event) (old new : Running) (outs : StepOutputs) : Type 0 where
   pub streams : (conn : ℕ) → StreamOn (brought event conn ((clients_in old).streams conn)) ((clients_in new).streams conn)
   pub closes : IsUnlinked old → IsUnlinked new × (outs.closed.items ≡ closes_by event (clients_in old))

@@ -6,35 +6,35 @@ use Rattle.client_connection.specs.declared.connection.CloseReason.{CloseReason}
 use Rattle.client_connection.specs.declared.connection.CloseReason.TheVariants.{Limit}
 use Rattle.client_connection.specs.Connection.{Conn, opened, received}
 use Rattle.wire_msgs.specs.declared.response.Response.{Response}
-use Rattle.session_rules.specs.Entries.{Content, Does, Configures, Other, written}
-use Rattle.session_rules.specs.Events.{on_applied, told_applied, on_lost, told_lost, on_hangup, connected}
-use Rattle.session_rules.specs.Machine.{Machine, machine_of, done}
-use Rattle.session_rules.specs.Requests.{with_session}
-use Rattle.session_rules.specs.Seen.{log_seen}
-use Rattle.session_rules.specs.Sessions.{Session, Gateway, View}
+use Rattle.session_spec.specs.Entries.{Content, Does, Configures, Other, written}
+use Rattle.session_spec.specs.Events.{on_applied, told_applied, on_lost, told_lost, on_hangup, connected}
+use Rattle.session_spec.specs.Machine.{Machine, machine_of, done}
+use Rattle.session_spec.specs.Requests.{with_session}
+use Rattle.session_spec.specs.Seen.{log_seen}
+use Rattle.session_spec.specs.Sessions.{Session, Gateway, View}
 use Rattle.session_table.specs.Sweeping.{all_told}
 use Rattle.client_sessions.specs.Calls.{sent, told_conns, bytes_of}
 use Rattle.client_sessions.specs.Clients.{Clients, Offer, with_stream, closing}
-use Rattle.client_sessions.specs.declared.joining.Joining.{Joining}
-use Rattle.client_sessions.specs.declared.joining.Joining.TheVariants as joinings
-use Rattle.raft_rules.specs.Log.{Entry}
-use Rattle.raft_rules.specs.Node as raft
-use Rattle.raft_rules.specs.Node.{Server, is_leader}
-use Rattle.raft_rules.specs.NodeValues as values
-use Rattle.raft_world.specs.Members.{any_change}
-use Rattle.raft_member.specs.Members.{Configurations, first_of, cut_at, settled, all_changed, read_setup}
+use Rattle.client_sessions.specs.declared.connect_result.ConnectResult.{ConnectResult}
+use Rattle.client_sessions.specs.declared.connect_result.ConnectResult.TheVariants as joinings
+use Rattle.raft_spec.specs.Log.{Entry}
+use Rattle.raft_spec.specs.Node as raft
+use Rattle.raft_spec.specs.Node.{Server, is_leader}
+use Rattle.raft_spec.specs.NodeValues as values
+use Rattle.raft_safety.specs.Members.{any_change}
+use Rattle.raft_membership.specs.Members.{Configurations, first_of, cut_at, settled, all_changed, read_setup}
 use Rattle.raft_core.specs.Queries.{leader_at}
 use Rattle.raft_core.specs.declared.event.RaftEvent.{RaftEvent}
 use Rattle.raft_core.specs.declared.event.RaftEvent.TheVariants as events
 use Rattle.store_laws.specs.Store.{Snap}
-use Rattle.page_apply.specs.Restoring.{restored}
-use Rattle.node_replica.specs.Mails.{MailValue, no_mail}
-use Rattle.node_state.specs.Applied.{servers_after}
-use Rattle.node_state.specs.Office.{owed, office_after, serves}
-use Rattle.node_state.specs.Snapshot.{NodeSnapshot}
-use Rattle.node_state.specs.declared.effect.Effect.{Effect}
-use Rattle.node_state.specs.declared.office.Office.{Office}
-use Rattle.node_state.specs.declared.office.Phase.TheVariants.{Barrier}
+use Rattle.database_state.specs.Restoring.{restored}
+use Rattle.raft_on_disk.specs.Mails.{MailValue, no_mail}
+use Rattle.applied_state.specs.Applied.{servers_after}
+use Rattle.applied_state.specs.Office.{owed, office_after, serves}
+use Rattle.applied_state.specs.Snapshot.{NodeSnapshot}
+use Rattle.applied_state.specs.declared.effect.AppliedEffect.{AppliedEffect}
+use Rattle.applied_state.specs.declared.leadership.Leadership.{Leadership}
+use Rattle.applied_state.specs.declared.leadership.LeadershipPhase.TheVariants.{Barrier}
 use Rattle.node_core.specs.declared.links.Link.{Link}
 use Rattle.node_core.specs.declared.running.Running.{Running}
 use Rattle.node_core.specs.Plain.{plain_session, plain_gate}
@@ -54,7 +54,7 @@ pub record Core : Type 0 where
   pub streams : ℕ → Option Conn
   pub turns : List ℕ
   pub view : View
-  pub office : Option Office
+  pub office : Option Leadership
   pub due : List RaftEvent
   pub heard : Option ℕ
   pub links : List Link
@@ -117,7 +117,7 @@ showing_servers w = looked (with_servers_seen w)
 
 -- ---- the office
 
-abbrev pub won_by : Option Office → raft.Node → Option Office
+abbrev pub won_by : Option Leadership → raft.Node → Option Leadership
 won_by (Some office) r = Some office
 won_by None r = cond (is_leader r.role) (Some (record { term = r.term; phase = Barrier (length r.log) })) None
 
@@ -125,7 +125,7 @@ abbrev pub won : Core → Core
 won w = record w { office = won_by w.office w.raft }
 
 -- a step has ended the leadership of the office
-abbrev pub has_lost : Option Office → raft.Node → Bool
+abbrev pub has_lost : Option Leadership → raft.Node → Bool
 has_lost None r = false
 has_lost (Some office) r = not (is_leader r.role && (office.term == r.term))
 
@@ -217,7 +217,7 @@ abbrev pub giving : RaftEvent → Core → Core
 giving event w = record w { due = w.due ++ event ∷ [] }
 
 -- it proposes what it owes; where it owes nothing it may serve from now on
-abbrev pub owing : Office → List Content → Core → Core
+abbrev pub owing : Leadership → List Content → Core → Core
 owing office [] w = serving_from (serves office.phase) w
 owing office (c ∷ cs) w = giving (events.Propose (written office.term (c ∷ cs))) w
 
@@ -225,13 +225,13 @@ owing office (c ∷ cs) w = giving (events.Propose (written office.term (c ∷ c
 abbrev pub waiting : Core → List Entry
 waiting w = drop w.applied w.raft.log
 
-abbrev pub duty_of : Option Office → Effect → Core → Core
+abbrev pub duty_of : Option Leadership → AppliedEffect → Core → Core
 duty_of None effect w = w
 duty_of (Some office) effect w =
     owing (office_after office w.applied w.files) (owed office.phase w.applied w.files effect (log_seen (waiting w)))
     (record w { office = Some (office_after office w.applied w.files) })
 
-abbrev pub dutiful : Effect → Core → Core
+abbrev pub dutiful : AppliedEffect → Core → Core
 dutiful effect w = duty_of w.office effect w
 
 -- ---- clients
@@ -251,7 +251,7 @@ abbrev pub idle : Core → Core
 idle w = record w { turns = [] }
 
 -- a connection comes, by how it does
-abbrev pub joined_by : Joining → ℕ → Core → Core
+abbrev pub joined_by : ConnectResult → ℕ → Core → Core
 joined_by joinings.Joined conn w = record w { sessions = connected w.sessions conn; streams = with_stream w.streams conn (Some opened) }
 joined_by joinings.Full conn w = record w { closed = w.closed ++ (conn, Limit) ∷ [] }
 joined_by joinings.Taken conn w = w

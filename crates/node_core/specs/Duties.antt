@@ -1,9 +1,9 @@
 -- What a leader does behind an entry that was applied.
 use Rattle.std.specs.Prelude.{◌≡◌, ◌⊎◌, ℕ, true, List, [], None}
-use Rattle.session_rules.specs.Entries.{Content}
-use Rattle.session_rules.specs.Machine.{Machine, machine_of}
-use Rattle.node_rules.specs.ClientTurns.{Stays, Serves}
-use Rattle.node_rules.specs.Turns.{Owes}
+use Rattle.session_spec.specs.Entries.{Content}
+use Rattle.session_spec.specs.Machine.{Machine, machine_of}
+use Rattle.node_spec.specs.ClientTurns.{Stays, Serves}
+use Rattle.node_spec.specs.Turns.{Owes}
 use Rattle.node_core.specs.declared.running.Running.{Running}
 use Rattle.node_core.specs.Account.{moment_of}
 
@@ -22,7 +22,7 @@ abbrev pub ServesFrom : Running → Running → Type 0
 ServesFrom old new = (new ≡ old) ⊎ (IsSettled old × (new ≡ record old { view = record old.view { serving = true } }))
 
 -- It proposes what it owes, or it serves from now on, or nothing has changed.
-abbrev pub DutySo : Running → Running → Type 0
-DutySo old new =
+abbrev pub PerformsDuty : Running → Running → Type 0
+PerformsDuty old new =
     Stays (moment_of old) (moment_of new)
     ⊎ (Serves (moment_of old) (moment_of new) ⊎ ((contents : List Content) × Owes (moment_of old) (moment_of new) contents))

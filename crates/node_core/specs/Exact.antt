@@ -8,37 +8,37 @@ use Rattle.wire_msgs.specs.Reading.{request_of}
 use Rattle.sql_engine.specs.declared.kind.EngineKind.{EngineKind}
 use Rattle.sql_engine.specs.Meanings.{Meaning}
 use Rattle.sql_engine.specs.Replies.{Statement}
-use Rattle.session_rules.specs.Causes.{failure, unread_cause}
-use Rattle.session_rules.specs.Engines.{Answer, AllowsFor, used_for}
-use Rattle.session_rules.specs.Entries.{written}
-use Rattle.session_rules.specs.Requests.{on_request, handed, on_later, handed_later, without_later, affected_by}
-use Rattle.session_rules.specs.Seen.{entry_seen}
-use Rattle.session_rules.specs.Sessions.{Gateway, HandsOver, JoinsPeer, Weighs, Turned, Refused, Lacks, Answers, Proposes, Lends, Affects}
-use Rattle.session_rules.specs.Sessions.{later_query, responses_of}
-use Rattle.gateway.specs.Later.{first_due}
+use Rattle.session_spec.specs.Causes.{failure, unread_cause}
+use Rattle.session_spec.specs.Engines.{Answer, AllowsFor, used_for}
+use Rattle.session_spec.specs.Entries.{written}
+use Rattle.session_spec.specs.Requests.{on_request, handed, on_later, handed_later, without_later, affected_by}
+use Rattle.session_spec.specs.Seen.{entry_seen}
+use Rattle.session_spec.specs.Sessions.{Gateway, HandsOver, JoinsPeer, Weighs, Turned, Refused, Lacks, Answers, Proposes, Lends, Affects}
+use Rattle.session_spec.specs.Sessions.{later_query, responses_of}
+use Rattle.session_gateway.specs.Later.{first_due}
 use Rattle.client_sessions.specs.Clients.{Offer, joining, next_offer}
-use Rattle.raft_rules.specs.Log.{Entry, term_at}
-use Rattle.raft_rules.specs.Node.{Node, Server, Role, Leader, Candidate, Follower, Outcome, is_leader}
-use Rattle.raft_rules.specs.Todo.{IsBatch}
-use Rattle.raft_rules.specs.Compaction.{compacted_step}
+use Rattle.raft_spec.specs.Log.{Entry, term_at}
+use Rattle.raft_spec.specs.Node.{Node, Server, Role, Leader, Candidate, Follower, Outcome, is_leader}
+use Rattle.raft_spec.specs.Todo.{IsBatch}
+use Rattle.raft_spec.specs.Compaction.{compacted_step}
 use Rattle.raft_snapshot.specs.Compacting.{is_due}
-use Rattle.raft_member.specs.Members.{configuration_in, last_servers}
-use Rattle.raft_vote.specs.declared.message.RaftMessage.{RaftMessage}
-use Rattle.raft_vote.specs.declared.message.Snapshot.{Snapshot}
-use Rattle.raft_vote.specs.Servers.{servers_bytes}
+use Rattle.raft_membership.specs.Members.{configuration_in, last_servers}
+use Rattle.raft_messages.specs.declared.message.RaftMessage.{RaftMessage}
+use Rattle.raft_messages.specs.declared.message.Snapshot.{Snapshot}
+use Rattle.raft_messages.specs.Servers.{servers_bytes}
 use Rattle.raft_core.specs.Events.{input_of, offered}
 use Rattle.raft_core.specs.declared.event.RaftEvent.{RaftEvent}
 use Rattle.raft_core.specs.declared.event.RaftEvent.TheVariants as due
-use Rattle.page_apply.specs.Snapshot.{snapshot_text}
+use Rattle.database_state.specs.Snapshot.{snapshot_text}
 use Rattle.store_format.specs.FilesRead.{snap_kept}
 use Rattle.store_laws.specs.Store.{Snap}
-use Rattle.node_replica.specs.Letters.{Tells}
-use Rattle.node_replica.specs.Mails.{all_posted, sent}
-use Rattle.node_state.specs.Content.{effect_of}
-use Rattle.node_state.specs.Snapshot.{NodeSnapshot, snapshot_in, offered_to, contents_in}
+use Rattle.raft_on_disk.specs.Letters.{Tells}
+use Rattle.raft_on_disk.specs.Mails.{all_posted, sent}
+use Rattle.applied_state.specs.Content.{effect_of}
+use Rattle.applied_state.specs.Snapshot.{NodeSnapshot, snapshot_in, offered_to, contents_in}
 use Rattle.node_core.specs.declared.event.Event.{Event}
 use Rattle.node_core.specs.declared.event.Event.TheVariants as events
-use Rattle.node_core.specs.declared.outs.Outs.{Outs}
+use Rattle.node_core.specs.declared.outs.StepOutputs.{StepOutputs}
 use Rattle.node_core.specs.Plain.{plain_gate}
 use Rattle.node_core.specs.Core.{Core, clients_at, looked, showing_servers, won, losing, ended, followed, are_others, replaced, entry_at, entry_done}
 use Rattle.node_core.specs.Core.{dutiful, giving, replied, with_its, taking, idle, joined_by, hearing, hanging_up, closing_heard, silent}
@@ -58,16 +58,16 @@ ChangesFrom true s t batch = batch ≡ None
 ChangesFrom false s t batch = IsBatch s.commit s.log t.log batch
 
 -- Raft's step of an event was made, its messages are posted, and the log is another one from this index on; nothing else has followed.
-pub record StepBy (event : RaftEvent) (batch : Option ℕ) (w v : Core) : Type 0 where
+pub record ExactStep (event : RaftEvent) (batch : Option ℕ) (w v : Core) : Type 0 where
   pub posted : List RaftMessage
   pub tells : Tells (step_of w event).out (snap_by w event) posted
   pub moved : ChangesFrom (nat_lt w.raft.commit (step_of w event).node.snapshot.index) w.raft (step_of w event).node batch
   pub is : v ≡ record w { raft = (step_of w event).node; snap = snap_by w event; mail = all_posted w.mail posted }
 
 -- Raft was told servers, if any.
-abbrev pub ToldBy : Option (List Server) → Core → Core → Type 0
-ToldBy None w v = v ≡ w
-ToldBy (Some servers) w v = (batch : Option ℕ) × StepBy (due.Servers servers) batch w v
+abbrev pub ExactTold : Option (List Server) → Core → Core → Type 0
+ExactTold None w v = v ≡ w
+ExactTold (Some servers) w v = (batch : Option ℕ) × ExactStep (due.Servers servers) batch w v
 
 -- ---- an event from outside
 
@@ -81,21 +81,21 @@ abbrev pub told_behind : Bool → Core → Option (List Server)
 told_behind others w = cond (others && is_follower w.raft.role) (Some (last_servers w.members)) None
 
 -- an event in which no snapshot comes
-pub record FollowsBy (event : RaftEvent) (w v : Core) : Type 0 where
+pub record ExactFollow (event : RaftEvent) (w v : Core) : Type 0 where
   pub batch : Option ℕ
   pub mid : Core
-  pub steps : StepBy event batch w mid
+  pub steps : ExactStep event batch w mid
   pub last : Core
-  pub tells : ToldBy (told_behind (are_others batch (ended mid)) (followed batch (ended mid))) (followed batch (ended mid)) last
+  pub tells : ExactTold (told_behind (are_others batch (ended mid)) (followed batch (ended mid))) (followed batch (ended mid)) last
   pub is : v ≡ looked (won last)
 
 -- an event with a snapshot that is put in the place of entries
-pub record InstallsBy (event : RaftEvent) (index : ℕ) (s : NodeSnapshot) (w v : Core) : Type 0 where
+pub record ExactInstall (event : RaftEvent) (index : ℕ) (s : NodeSnapshot) (w v : Core) : Type 0 where
   pub batch : Option ℕ
   pub mid : Core
-  pub steps : StepBy event batch w mid
+  pub steps : ExactStep event batch w mid
   pub last : Core
-  pub tells : ToldBy (told_behind true (replaced index s (losing (ended mid)))) (replaced index s (losing (ended mid))) last
+  pub tells : ExactTold (told_behind true (replaced index s (losing (ended mid)))) (replaced index s (losing (ended mid))) last
   pub is : v ≡ showing_servers last
 
 -- the event puts a snapshot past the commit index in the place of entries
@@ -119,14 +119,14 @@ index_of (Some snapshot) = snapshot.index
 
 abbrev pub OnOffered : RaftEvent → Option NodeSnapshot → Core → Core → Type 0
 OnOffered event None w v = v ≡ w
-OnOffered event (Some s) w v = InstallsBy event (index_of (offered event)) s w v
+OnOffered event (Some s) w v = ExactInstall event (index_of (offered event)) s w v
 
 abbrev pub OnPut : RaftEvent → Bool → Core → Core → Type 0
-OnPut event false w v = FollowsBy event w v
+OnPut event false w v = ExactFollow event w v
 OnPut event true w v = OnOffered event (brings w (offered event)) w v
 
-abbrev pub RaftBy : RaftEvent → Core → Core → Type 0
-RaftBy event w v = OnPut event (puts event w) w v
+abbrev pub ExactRaft : RaftEvent → Core → Core → Type 0
+ExactRaft event w v = OnPut event (puts event w) w v
 
 -- ---- what the node gives Raft
 
@@ -145,12 +145,12 @@ change_for (due.Transfer to) role = None
 change_for (due.Snapped at) role = None
 change_for (due.Servers servers) role = None
 
-pub record OwnBy (event : RaftEvent) (w v : Core) : Type 0 where
+pub record ExactOwnStep (event : RaftEvent) (w v : Core) : Type 0 where
   pub mid : Core
-  pub tells : ToldBy (change_for event w.raft.role) w mid
+  pub tells : ExactTold (change_for event w.raft.role) w mid
   pub batch : Option ℕ
   pub last : Core
-  pub steps : StepBy event batch mid last
+  pub steps : ExactStep event batch mid last
   pub is : v ≡ looked (followed batch last)
 
 -- ---- what comes of a client's request
@@ -167,7 +167,7 @@ TurnsTo conn (Affects (JoinsPeer id)) w v = Unit {0}
 TurnsTo conn (Affects (Weighs weight)) w v = v ≡ replied conn (Empty ∷ []) (record w { sessions = affected_by w.sessions (Weighs weight) })
 
 -- A request, by answers that the engine may give, all of which it uses.
-pub record AskedBy (m : Meaning) (kind : EngineKind) (conn : ℕ) (request : Request) (w v : Core) (answers : List Answer) : Type 0 where
+pub record ExactRequest (m : Meaning) (kind : EngineKind) (conn : ℕ) (request : Request) (w v : Core) (answers : List Answer) : Type 0 where
   pub gate : Gateway
   pub plain : plain_gate gate ≡ w.sessions
   pub allowed : AllowsFor m kind (handed w.view w.files gate conn request) answers
@@ -175,16 +175,16 @@ pub record AskedBy (m : Meaning) (kind : EngineKind) (conn : ℕ) (request : Req
   pub to : TurnsTo conn (on_request w.view w.files gate conn request answers) w v
 
 -- A message, by what it reads as.
-abbrev pub MessageBy : Meaning → EngineKind → ℕ → Result Request MsgFault → Core → Core → List Answer → Type 0
-MessageBy m kind conn (Ok request) w v answers = AskedBy m kind conn request w v answers
-MessageBy m kind conn (Err fault) w v answers = (v ≡ replied conn (failure (unread_cause fault) ∷ []) w) × (answers ≡ [])
+abbrev pub ExactMessage : Meaning → EngineKind → ℕ → Result Request MsgFault → Core → Core → List Answer → Type 0
+ExactMessage m kind conn (Ok request) w v answers = ExactRequest m kind conn request w v answers
+ExactMessage m kind conn (Err fault) w v answers = (v ≡ replied conn (failure (unread_cause fault) ∷ []) w) × (answers ≡ [])
 
 -- the connection waits for no query, and gets a turn behind the others
 abbrev pub resuming : ℕ → Core → Core
 resuming conn w = record w { sessions = without_later w.sessions conn; turns = w.turns ++ conn ∷ [] }
 
 -- A query that is yet to be answered is run.
-pub record LaterBy (m : Meaning) (kind : EngineKind) (conn : ℕ) (w v : Core) (answers : List Answer) : Type 0 where
+pub record ExactWaitingQuery (m : Meaning) (kind : EngineKind) (conn : ℕ) (w v : Core) (answers : List Answer) : Type 0 where
   pub gate : Gateway
   pub plain : plain_gate gate ≡ w.sessions
   pub statement : Statement
@@ -193,18 +193,18 @@ pub record LaterBy (m : Meaning) (kind : EngineKind) (conn : ℕ) (w v : Core) (
   pub exact : used_for (handed_later w.view w.files (without_later gate conn) conn statement) answers ≡ length answers
   pub to : TurnsTo conn (on_later w.view w.files (without_later gate conn) conn statement answers) (resuming conn w) v
 
-abbrev pub LaterIf : Meaning → EngineKind → Option ℕ → Core → Core → List Answer → Type 0
-LaterIf m kind None w v answers = (v ≡ w) × (answers ≡ [])
-LaterIf m kind (Some conn) w v answers = LaterBy m kind conn w v answers
+abbrev pub ExactWaitingQueries : Meaning → EngineKind → Option ℕ → Core → Core → List Answer → Type 0
+ExactWaitingQueries m kind None w v answers = (v ≡ w) × (answers ≡ [])
+ExactWaitingQueries m kind (Some conn) w v answers = ExactWaitingQuery m kind conn w v answers
 
 -- ---- an entry
 
 -- The next entry is applied; a query is run whose barrier it was; and a leader does what it owes.
-pub record EntryBy (m : Meaning) (kind : EngineKind) (w v : Core) (answers : List Answer) : Type 0 where
+pub record ExactEntry (m : Meaning) (kind : EngineKind) (w v : Core) (answers : List Answer) : Type 0 where
   pub entry : Entry
   pub is : entry_at w ≡ Some entry
   pub last : Core
-  pub runs : LaterIf m kind (first_due (entry_done (entry_seen entry).content w).sessions) (entry_done (entry_seen entry).content w) last answers
+  pub runs : ExactWaitingQueries m kind (first_due (entry_done (entry_seen entry).content w).sessions) (entry_done (entry_seen entry).content w) last answers
   pub owes : v ≡ dutiful (effect_of (entry_seen entry).content) last
 
 -- ---- an own snapshot
@@ -219,7 +219,7 @@ own_snap w = record { index = w.applied; term = term_at w.raft.log w.applied; by
 abbrev pub own_event : Core → RaftEvent
 own_event w = due.Snapped (record { index = w.applied; term = term_at w.raft.log w.applied })
 
-pub record CompactsBy (w v : Core) : Type 0 where
+pub record ExactCompaction (w v : Core) : Type 0 where
   pub posted : List RaftMessage
   pub tells : Tells (step_of w (own_event w)).out (own_snap w) posted
   pub is : v ≡ looked (record w { raft = (step_of w (own_event w)).node; snap = own_snap w; mail = all_posted w.mail posted })
@@ -227,9 +227,9 @@ pub record CompactsBy (w v : Core) : Type 0 where
 -- ---- the first of what there is
 
 -- what the node has given Raft itself, if anything is due
-abbrev pub DueIf : List RaftEvent → Core → Core → Bool → Type 0
-DueIf [] w v more = (v ≡ w) × (more ≡ false)
-DueIf (event ∷ rest) w v more = OwnBy event (record w { due = rest }) v × (more ≡ true)
+abbrev pub ExactDue : List RaftEvent → Core → Core → Bool → Type 0
+ExactDue [] w v more = (v ≡ w) × (more ≡ false)
+ExactDue (event ∷ rest) w v more = ExactOwnStep event (record w { due = rest }) v × (more ≡ true)
 
 -- the connection whose bytes came; where there is none, nothing is left
 abbrev pub OnHeard : Option ℕ → Core → Core → Bool → Type 0
@@ -238,38 +238,38 @@ OnHeard (Some conn) w v more = (v ≡ closing_heard conn w) × (more ≡ true)
 
 abbrev pub OnSnapshot : Core → Core → Bool → List Answer → Type 0
 OnSnapshot w v more answers =
-    ((MayCompact w × CompactsBy w v × (more ≡ true)) ⊎ ((MayCompact w → ⊥) × OnHeard w.heard w v more)) × (answers ≡ [])
+    ((MayCompact w × ExactCompaction w v × (more ≡ true)) ⊎ ((MayCompact w → ⊥) × OnHeard w.heard w v more)) × (answers ≡ [])
 
 abbrev pub OnOffer : Meaning → EngineKind → Option Offer → Core → Core → Bool → List Answer → Type 0
-OnOffer m kind (Some offer) w v more answers = MessageBy m kind offer.conn (request_of offer.message) (taking offer w) v answers × (more ≡ true)
+OnOffer m kind (Some offer) w v more answers = ExactMessage m kind offer.conn (request_of offer.message) (taking offer w) v answers × (more ≡ true)
 OnOffer m kind None w v more answers = OnSnapshot (idle w) v more answers
 
 abbrev pub OnQuery : Meaning → EngineKind → Option ℕ → Core → Core → Bool → List Answer → Type 0
-OnQuery m kind (Some conn) w v more answers = LaterBy m kind conn w v answers × (more ≡ true)
+OnQuery m kind (Some conn) w v more answers = ExactWaitingQuery m kind conn w v answers × (more ≡ true)
 OnQuery m kind None w v more answers = OnOffer m kind (next_offer (clients_at w)) w v more answers
 
 -- A turn where nothing is due at Raft and all that is committed is applied; and the same where no connection carries a peer's messages.
-abbrev pub AttendBy : Meaning → EngineKind → Core → Core → Bool → List Answer → Type 0
-AttendBy m kind w v more answers = OnQuery m kind (first_due w.sessions) w v more answers
+abbrev pub ExactAttend : Meaning → EngineKind → Core → Core → Bool → List Answer → Type 0
+ExactAttend m kind w v more answers = OnQuery m kind (first_due w.sessions) w v more answers
 
-abbrev pub AttendsBy : Meaning → EngineKind → Core → Core → Bool → List Answer → Type 0
-AttendsBy m kind w v more answers = w.links ≡ [] → AttendBy m kind w v more answers
+abbrev pub ExactAttends : Meaning → EngineKind → Core → Core → Bool → List Answer → Type 0
+ExactAttends m kind w v more answers = w.links ≡ [] → ExactAttend m kind w v more answers
 
 abbrev pub OnCommit : Meaning → EngineKind → Bool → Core → Core → Bool → List Answer → Type 0
-OnCommit m kind true w v more answers = EntryBy m kind w v answers × (more ≡ true)
-OnCommit m kind false w v more answers = AttendBy m kind w v more answers
+OnCommit m kind true w v more answers = ExactEntry m kind w v answers × (more ≡ true)
+OnCommit m kind false w v more answers = ExactAttend m kind w v more answers
 
 abbrev pub OnDue : Meaning → EngineKind → List RaftEvent → Core → Core → Bool → List Answer → Type 0
-OnDue m kind (event ∷ rest) w v more answers = OwnBy event (record w { due = rest }) v × (more ≡ true) × (answers ≡ [])
+OnDue m kind (event ∷ rest) w v more answers = ExactOwnStep event (record w { due = rest }) v × (more ≡ true) × (answers ≡ [])
 OnDue m kind [] w v more answers = OnCommit m kind (nat_lt w.applied w.raft.commit) w v more answers
 
 -- A turn: the first of what there is was done, by these answers of the engine; or nothing was left.
-abbrev pub TurnBy : Meaning → EngineKind → Core → Core → Bool → List Answer → Type 0
-TurnBy m kind w v more answers = OnDue m kind w.due w v more answers
+abbrev pub ExactTurn : Meaning → EngineKind → Core → Core → Bool → List Answer → Type 0
+ExactTurn m kind w v more answers = OnDue m kind w.due w v more answers
 
 -- a turn where no connection carries a peer's messages
 abbrev pub UnlinkedTurn : Meaning → EngineKind → Core → Core → Bool → List Answer → Type 0
-UnlinkedTurn m kind w v more answers = w.links ≡ [] → TurnBy m kind w v more answers
+UnlinkedTurn m kind w v more answers = w.links ≡ [] → ExactTurn m kind w v more answers
 
 -- So many turns behind which something is left, and then one behind which nothing is.
 abbrev pub RunsIn : ℕ → Meaning → EngineKind → Core → Core → List Answer → Type 0
@@ -279,36 +279,36 @@ RunsIn (suc turns) m kind w v answers =
     RunsIn turns m kind mid v rest
 
 -- Turns up to one behind which nothing is left.
-pub record RunsBy (m : Meaning) (kind : EngineKind) (w v : Core) (answers : List Answer) : Type 0 where
+pub record ExactTurns (m : Meaning) (kind : EngineKind) (w v : Core) (answers : List Answer) : Type 0 where
   pub turns : ℕ
   pub are : RunsIn turns m kind w v answers
 
 -- ---- a step
 
 -- its event is given to clients, or happens at Raft; what a reader tells is not told here
-abbrev pub BeginsBy : Event → Core → Core → List Answer → Type 0
-BeginsBy events.Timeout w v answers = RaftBy due.Timeout w v × (answers ≡ [])
-BeginsBy events.Beat w v answers = RaftBy due.Beat w v × (answers ≡ [])
-BeginsBy (events.Peer message) w v answers = RaftBy (due.Message message) w v × (answers ≡ [])
-BeginsBy (events.Connect conn) w v answers = (w.links ≡ [] → v ≡ joined_by (joining w.sessions conn) conn w) × (answers ≡ [])
-BeginsBy (events.Bytes conn bytes) w v answers = (w.links ≡ [] → v ≡ hearing conn bytes w) × (answers ≡ [])
-BeginsBy (events.Hangup conn) w v answers = (w.links ≡ [] → v ≡ hanging_up conn w) × (answers ≡ [])
-BeginsBy (events.ReadDone conn read) w v answers = Unit {0}
+abbrev pub ExactBegin : Event → Core → Core → List Answer → Type 0
+ExactBegin events.Timeout w v answers = ExactRaft due.Timeout w v × (answers ≡ [])
+ExactBegin events.Beat w v answers = ExactRaft due.Beat w v × (answers ≡ [])
+ExactBegin (events.Peer message) w v answers = ExactRaft (due.Message message) w v × (answers ≡ [])
+ExactBegin (events.Connect conn) w v answers = (w.links ≡ [] → v ≡ joined_by (joining w.sessions conn) conn w) × (answers ≡ [])
+ExactBegin (events.Bytes conn bytes) w v answers = (w.links ≡ [] → v ≡ hearing conn bytes w) × (answers ≡ [])
+ExactBegin (events.Hangup conn) w v answers = (w.links ≡ [] → v ≡ hanging_up conn w) × (answers ≡ [])
+ExactBegin (events.ReadDone conn read) w v answers = Unit {0}
 
 -- it is said what was noted, and nothing is left to say
-pub record SaysOf (last v : Core) (outs : Outs) : Type 0 where
+pub record SaysOf (last v : Core) (outs : StepOutputs) : Type 0 where
   pub replies : outs.replies.items ≡ last.replies
   pub closed : outs.closed.items ≡ last.closed
   pub messages : outs.messages.items ≡ sent last.mail
   pub is : v ≡ silent last
 
 -- A step of an event that ended well, by these answers of the engine.
-pub record StepsExactly (m : Meaning) (kind : EngineKind) (event : Event) (w v : Core) (outs : Outs) (answers : List Answer) : Type 0 where
+pub record StepsExactly (m : Meaning) (kind : EngineKind) (event : Event) (w v : Core) (outs : StepOutputs) (answers : List Answer) : Type 0 where
   pub first : List Answer
   pub rest : List Answer
   pub all : answers ≡ first ++ rest
   pub mid : Core
-  pub begins : BeginsBy event w mid first
+  pub begins : ExactBegin event w mid first
   pub last : Core
-  pub runs : RunsBy m kind mid last rest
+  pub runs : ExactTurns m kind mid last rest
   pub says : SaysOf last v outs

@@ -1,16 +1,16 @@
 -- What a node begins with, exactly: what was kept decides it.
 use Rattle.std.specs.Prelude.{◌≡◌, ℕ, suc, ◌-◌, ◌==◌, Bool, false, true, cond, List, [], length, drop, Option, Some, None}
-use Rattle.raft_rules.specs.Account.{loaded}
-use Rattle.raft_rules.specs.Node.{Server}
-use Rattle.raft_member.specs.Members.{Configurations, all_changed, first_of, last_servers}
-use Rattle.session_rules.specs.Machine.{machine_of}
-use Rattle.session_rules.specs.Sessions.{no_sessions}
-use Rattle.page_apply.specs.Restoring.{restored}
+use Rattle.raft_spec.specs.Account.{loaded}
+use Rattle.raft_spec.specs.Node.{Server}
+use Rattle.raft_membership.specs.Members.{Configurations, all_changed, first_of, last_servers}
+use Rattle.session_spec.specs.Machine.{machine_of}
+use Rattle.session_spec.specs.Sessions.{no_sessions}
+use Rattle.database_state.specs.Restoring.{restored}
 use Rattle.store_laws.specs.Store.{Snap, Kept}
-use Rattle.node_replica.specs.Mails.{no_mail}
-use Rattle.node_replica.specs.Replicas.{stored_at}
-use Rattle.node_state.specs.declared.applied.Applied.{Applied}
-use Rattle.node_state.specs.Snapshot.{NodeSnapshot, snapshot_in}
+use Rattle.raft_on_disk.specs.Mails.{no_mail}
+use Rattle.raft_on_disk.specs.Replicas.{stored_at}
+use Rattle.applied_state.specs.declared.applied.Applied.{Applied}
+use Rattle.applied_state.specs.Snapshot.{NodeSnapshot, snapshot_in}
 use Rattle.node_core.specs.Core.{Core}
 
 -- What is applied where a node starts: nothing, with the servers of the opening, or what the kept snapshot says.

@@ -2,14 +2,14 @@
 use Rattle.std.specs.Prelude.{◌≡◌, ℕ, Bool, true, false, ◌∷◌, ◌++◌, [], List, Option, Result, OnErr}
 use Rattle.sql_engine.specs.declared.kind.EngineKind.{EngineKind}
 use Rattle.sql_engine.specs.Meanings.{Meaning, Told}
-use Rattle.raft_rules.specs.Node as raft
-use Rattle.raft_vote.specs.declared.message.RaftMessage.{RaftMessage}
-use Rattle.raft_vote.specs.Messages.{message_value}
+use Rattle.raft_spec.specs.Node as raft
+use Rattle.raft_messages.specs.declared.message.RaftMessage.{RaftMessage}
+use Rattle.raft_messages.specs.Messages.{message_value}
 use Rattle.raft_core.specs.declared.event.RaftEvent.{RaftEvent}
 use Rattle.raft_core.specs.declared.event.RaftEvent.TheVariants as events
 use Rattle.raft_core.specs.Events.{input_of}
-use Rattle.raft_member.specs.Members.{Configurations}
-use Rattle.raft_world.specs.Members.{Setup}
+use Rattle.raft_membership.specs.Members.{Configurations}
+use Rattle.raft_safety.specs.Members.{Setup}
 use Rattle.disk_model.specs.Disk.{Disk, Leaves}
 use Rattle.disk_model.specs.Trait.{Text, Known}
 use Rattle.store_laws.specs.Chance.{NoChance}
@@ -18,12 +18,12 @@ use Rattle.store_laws.specs.Store.{Kept, Loaded}
 use Rattle.store_format.specs.NodeFormat.{node_format}
 use Rattle.segment_store.specs.Keeps.{folder}
 use Rattle.segment_store.specs.Loading.{kept_in, IsSeen}
-use Rattle.node_replica.specs.Replicas.{ReplicaValue, IsKept, kept_of}
-use Rattle.node_rules.specs.RaftTurns.{IsFirst, StopsAt}
+use Rattle.raft_on_disk.specs.Replicas.{ReplicaValue, IsKept, kept_of}
+use Rattle.node_spec.specs.RaftTurns.{IsFirst, StopsAt}
 use Rattle.node_core.specs.declared.fault.NodeFault.{NodeFault}
 use Rattle.node_core.specs.declared.running.Running.{Running}
 use Rattle.node_core.specs.Account.{moment_of, bytes_in, IsOwn, KnowsServers, Since}
-use Rattle.node_core.specs.Posting.{ToldOr, told_inputs, FollowsSo, InstallsSo}
+use Rattle.node_core.specs.Posting.{MaybeToldServers, told_inputs, StepsWithoutSnapshot, StepsWithSnapshot}
 use Rattle.node_core.specs.Taking.{bytes_with, came_by}
 use Rattle.node_core.specs.Carrying.{MovesLines}
 use Rattle.node_core.specs.Voters.{MayBe}
@@ -66,14 +66,14 @@ StopsBehind setup came old kept = (c : Configurations) × StopsTelling setup cam
 -- An event from outside was stopped: in Raft's step of it, or behind it, where Raft was told servers.
 pub data StopsFollowing (setup : Setup) (old : Running) (event : RaftEvent) (kept : Kept) : Type 0 where
   in_step : StopsIn setup (bytes_with event) old (input_of event) kept → StopsFollowing setup old event kept
-  behind_step : (mid : Running) (servers : List raft.Server) → FollowsSo old mid (input_of event) →
+  behind_step : (mid : Running) (servers : List raft.Server) → StepsWithoutSnapshot old mid (input_of event) →
       StopsIn setup (bytes_with event) mid (raft.Local (raft.UseServers servers)) kept → StopsFollowing setup old event kept
 
 -- A message that brings a snapshot: in Raft's step of it, or behind it.
 pub data StopsInstalling (setup : Setup) (old : Running) (event : RaftEvent) (kept : Kept) : Type 0 where
   in_install : StopsIn setup (bytes_with event) old (input_of event) kept → StopsInstalling setup old event kept
   behind_install : (message : RaftMessage) (mid : Running) (servers : List raft.Server) → event ≡ events.Message message →
-      InstallsSo setup old mid (bytes_in message.what) (message_value message) →
+      StepsWithSnapshot setup old mid (bytes_in message.what) (message_value message) →
       StopsIn setup (bytes_in message.what) mid (raft.Local (raft.UseServers servers)) kept → StopsInstalling setup old event kept
 
 -- Raft was to be told the servers of a change: nothing was kept yet, or it was stopped in that step, at which the voters may be told.
@@ -85,7 +85,7 @@ pub data StopsChanging (setup : Setup) (came : List ℕ) (old : Running) (kept :
 -- What the node gave Raft itself: before or in the step in which Raft was told servers, or in the step of the first of what is due.
 pub data StopsOwn (setup : Setup) (came : List ℕ) (old : Running) (kept : Kept) : Type 0 where
   before_own : StopsChanging setup came old kept → StopsOwn setup came old kept
-  in_own : (mid : Running) (i : raft.Input) (tells : ToldOr old mid) → IsOwn i → IsFirst (moment_of mid) i →
+  in_own : (mid : Running) (i : raft.Input) (tells : MaybeToldServers old mid) → IsOwn i → IsFirst (moment_of mid) i →
       MayBe setup old came (told_inputs tells ++ i ∷ []) → StopsIn setup came mid i kept → StopsOwn setup came old kept
 
 -- An own snapshot, where the servers of the node's configurations are those that are applied.

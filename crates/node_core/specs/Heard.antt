@@ -6,10 +6,10 @@ use Rattle.wire_msgs.specs.declared.request.Request.{Request}
 use Rattle.client_connection.specs.Connection.{Conn, HasTaken}
 use Rattle.node_core.specs.declared.event.Event.{Event}
 use Rattle.node_core.specs.declared.event.Event.TheVariants as events
-use Rattle.node_core.specs.declared.outs.Outs.{Outs}
+use Rattle.node_core.specs.declared.outs.StepOutputs.{StepOutputs}
 use Rattle.node_core.specs.declared.running.Running.{Running}
 use Rattle.node_core.specs.Account.{Happens, Brings}
-use Rattle.node_core.specs.Conns.{ConnsBy}
+use Rattle.node_core.specs.Conns.{StreamsOfStep}
 use Rattle.node_core.specs.Values.{clients_in, requests_in}
 
 -- The connection is open, and these bytes have come on it. It has asked the requests that those spell which were read, each message of
@@ -38,12 +38,12 @@ bytes_by (events.ReadDone other read) conn = []
 -- A connection that comes by a step, and is open behind it, has asked nothing.
 abbrev pub HeardBegins : Type 0
 HeardBegins =
-    (old new : Running) (conn : ℕ) (outs : Outs) (connection : Conn) → ConnsBy (events.Connect conn) old new outs → (clients_in old).streams conn ≡ None →
+    (old new : Running) (conn : ℕ) (outs : StepOutputs) (connection : Conn) → StreamsOfStep (events.Connect conn) old new outs → (clients_in old).streams conn ≡ None →
     (clients_in new).streams conn ≡ Some connection → HasHeard new conn [] []
 
 -- Behind each step in which it stays open it has asked what this brings, too.
 abbrev pub HeardOn : Type 0
 HeardOn =
-    (event : Event) (old new : Running) (conn : ℕ) (outs : Outs) (connection : Conn) (bytes : List ℕ) (asked : List Request) (asks : ℕ → List Request) →
-    HasHeard old conn bytes asked → ConnsBy event old new outs → Brings old (Happens event) asks → (clients_in new).streams conn ≡ Some connection →
+    (event : Event) (old new : Running) (conn : ℕ) (outs : StepOutputs) (connection : Conn) (bytes : List ℕ) (asked : List Request) (asks : ℕ → List Request) →
+    HasHeard old conn bytes asked → StreamsOfStep event old new outs → Brings old (Happens event) asks → (clients_in new).streams conn ≡ Some connection →
     HasHeard new conn (bytes ++ bytes_by event conn) (asked ++ asks conn)

@@ -1,14 +1,14 @@
 -- What an act for a client leaves.
 use Rattle.std.specs.Prelude.{◌≡◌, ◌⊎◌, ℕ, List, [], ◌∷◌, ◌++◌, Option, Some}
 use Rattle.wire_msgs.specs.declared.request.Request.{Request}
-use Rattle.page_apply.specs.Machines.{IsMachine}
-use Rattle.session_rules.specs.Machine.{machine_of}
-use Rattle.session_rules.specs.Sessions.{Reply}
+use Rattle.database_state.specs.Machines.{IsMachine}
+use Rattle.session_spec.specs.Machine.{machine_of}
+use Rattle.session_spec.specs.Sessions.{Reply}
 use Rattle.client_sessions.specs.declared.act.Act.{Act}
 use Rattle.client_sessions.specs.declared.act.Act.TheVariants as acts
 use Rattle.client_sessions.specs.Clients.{Clients, hung_up}
 use Rattle.node_core.specs.declared.running.Running.{Running}
-use Rattle.node_rules.specs.ClientTurns.{Stays, Connects, HangsUp, Hears, Reads}
+use Rattle.node_spec.specs.ClientTurns.{Stays, Connects, HangsUp, Hears, Reads}
 use Rattle.node_core.specs.Account.{proposals_in, moment_of, Says, BytesAsk}
 use Rattle.node_core.specs.Acts.{messages_by, proposals_by, jobs_by}
 use Rattle.node_core.specs.Values.{clients_in}
@@ -49,20 +49,20 @@ pub record Performed (old new : Running) (act : Act) : Type 0 where
 -- ---- connections that come, go, and send bytes
 
 -- a connection comes, or carries a peer's messages already
-abbrev pub ComesOr : Running → Running → ℕ → Type 0
-ComesOr old new conn = Stays (moment_of old) (moment_of new) ⊎ Connects (moment_of old) (moment_of new) conn
+abbrev pub MayConnect : Running → Running → ℕ → Type 0
+MayConnect old new conn = Stays (moment_of old) (moment_of new) ⊎ Connects (moment_of old) (moment_of new) conn
 
 -- a connection goes, or it is none that is open, or that is to be closed
-abbrev pub GoesOr : Running → Running → ℕ → Type 0
-GoesOr old new conn = Stays (moment_of old) (moment_of new) ⊎ HangsUp (moment_of old) (moment_of new) conn
+abbrev pub MayClose : Running → Running → ℕ → Type 0
+MayClose old new conn = Stays (moment_of old) (moment_of new) ⊎ HangsUp (moment_of old) (moment_of new) conn
 
 -- the connection whose bytes came goes where its stream has ended, or none does
-abbrev pub ClosesSo : Running → Running → Type 0
-ClosesSo old new = Stays (moment_of old) (moment_of new) ⊎ ((conn : ℕ) × ((old.heard ≡ Some conn) × GoesOr old new conn))
+abbrev pub ClosesIfEnded : Running → Running → Type 0
+ClosesIfEnded old new = Stays (moment_of old) (moment_of new) ⊎ ((conn : ℕ) × ((old.heard ≡ Some conn) × MayClose old new conn))
 
 -- bytes come on a connection, with these requests behind those that wait
-abbrev pub HearsSo : Running → Running → ℕ → List ℕ → Type 0
-HearsSo old new conn bytes = (asks : ℕ → List Request) × Hears (moment_of old) (moment_of new) asks × BytesAsk old conn bytes asks
+abbrev pub ReceivesBytes : Running → Running → ℕ → List ℕ → Type 0
+ReceivesBytes old new conn bytes = (asks : ℕ → List Request) × Hears (moment_of old) (moment_of new) asks × BytesAsk old conn bytes asks
 
 -- the configurations stay, and there are links where there were
 pub record StaysBeside (old new : Running) : Type 0 where
@@ -70,7 +70,7 @@ pub record StaysBeside (old new : Running) : Type 0 where
   pub links : new.has_links ≡ old.has_links
 
 -- what a reader told was told to the connection, and nothing else; or nothing has changed
-abbrev pub ReadsSo : Running → Running → ℕ → Option Reply → Type 0
-ReadsSo old new conn told =
+abbrev pub DeliversRead : Running → Running → ℕ → Option Reply → Type 0
+DeliversRead old new conn told =
     (Stays (moment_of old) (moment_of new) × SaysNothing old new)
     ⊎ ((reply : Reply) × ((told ≡ Some reply) × (Reads (moment_of old) (moment_of new) conn × Says old new [] ((conn, reply) ∷ []) [] × StaysBeside old new)))

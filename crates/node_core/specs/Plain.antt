@@ -1,9 +1,9 @@
 -- Sessions without the numbers of transactions in the replies that wait: an engine's answer has one, which no client is told.
 use Rattle.std.specs.Prelude.{Option, Some, None}
-use Rattle.sql_engine.specs.declared.answer.Ran.{Ran}
-use Rattle.session_rules.specs.Sessions.{Reply, Refusal, Single, Rows, Kind, Opening, Configuring, Writing, Committing, Querying, Flight, Session, Gateway}
+use Rattle.sql_engine.specs.declared.answer.StatementResult.{StatementResult}
+use Rattle.session_spec.specs.Sessions.{Reply, Refusal, Single, Rows, Kind, Opening, Configuring, Writing, Committing, Querying, Flight, Session, Gateway}
 
-abbrev pub plain_ran : Ran → Ran
+abbrev pub plain_ran : StatementResult → StatementResult
 plain_ran ran = record { after = record { tx = 0; pages = ran.after.pages }; affected = ran.affected; columns = ran.columns; rows = ran.rows }
 
 abbrev pub plain_reply : Reply → Reply

@@ -4,11 +4,11 @@ use Rattle.wire_words.specs.declared.message.Message.{Message}
 use Rattle.wire_words.specs.Stream.{fault_in}
 use Rattle.client_connection.specs.Connection.{Conn, HasTaken, PeerHasTaken}
 use Rattle.client_sessions.specs.Clients.{Clients}
-use Rattle.raft_vote.specs.declared.message.RaftMessage.{RaftMessage}
+use Rattle.raft_messages.specs.declared.message.RaftMessage.{RaftMessage}
 use Rattle.node_core.specs.declared.event.Event.{Event}
 use Rattle.node_core.specs.declared.event.Event.TheVariants as events
 use Rattle.node_core.specs.declared.links.Link.{Link}
-use Rattle.node_core.specs.Carrying.{Lines, begun_by, link_on, Move, MovesBy, ConnectSo, SentSo}
+use Rattle.node_core.specs.Carrying.{Lines, begun_by, link_on, Move, MovesBy, TookConnect, TookPeerMessage}
 
 -- Each connection is a client's or carries the messages of one peer.
 abbrev pub IsOnce : List Link → Type 0
@@ -40,7 +40,7 @@ pub record Carries (l : Lines) (conn peer : ℕ) (bytes : List ℕ) (taken : Lis
 -- So it is behind a CONNECT, by all bytes that came on the client's connection, of which all was read;
 abbrev pub CarryingBegins : Type 0
 CarryingBegins =
-    (old new : Lines) (conn peer : ℕ) (stream : Conn) (bytes : List ℕ) (taken : List Message) (x : ConnectSo old new conn peer) → Apart old →
+    (old new : Lines) (conn peer : ℕ) (stream : Conn) (bytes : List ℕ) (taken : List Message) (x : TookConnect old new conn peer) → Apart old →
     old.streams conn ≡ Some stream → HasTaken stream bytes taken → stream.full ≡ false → fault_in stream.end ≡ None →
     Carries new conn peer bytes (taken ++ x.message ∷ [])
 
@@ -53,11 +53,11 @@ CarryingHears =
 -- and where a message happens at Raft, it is the next one of its connection, and that connection's peer has sent it.
 abbrev pub CarryingSends : Type 0
 CarryingSends =
-    (old new : Lines) (message : RaftMessage) (conn peer : ℕ) (bytes : List ℕ) (taken : List Message) (x : SentSo old new message) → Apart old →
+    (old new : Lines) (message : RaftMessage) (conn peer : ℕ) (bytes : List ℕ) (taken : List Message) (x : TookPeerMessage old new message) → Apart old →
     Carries old conn peer bytes taken → x.first.link.conn ≡ conn →
     (message.from ≡ peer) × Carries new conn peer bytes (taken ++ x.first.message ∷ [])
 
 abbrev pub CarryingStays : Type 0
 CarryingStays =
-    (old new : Lines) (message : RaftMessage) (conn peer : ℕ) (bytes : List ℕ) (taken : List Message) (x : SentSo old new message) →
+    (old new : Lines) (message : RaftMessage) (conn peer : ℕ) (bytes : List ℕ) (taken : List Message) (x : TookPeerMessage old new message) →
     Carries old conn peer bytes taken → x.first.link.conn ≢ conn → Carries new conn peer bytes taken

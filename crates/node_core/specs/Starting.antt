@@ -7,24 +7,24 @@ use Rattle.segment_store.specs.declared.load_fault.LoadFault.TheVariants as load
 use Rattle.segment_store.specs.Open.{Open}
 use Rattle.segment_store.specs.Keeps.{folder}
 use Rattle.segment_store.specs.Loading.{kept_in, IsSeen, IsLoaded, StaysSeen, LoadLeaves}
-use Rattle.raft_rules.specs.Account.{loaded}
-use Rattle.raft_rules.specs.Log.{Entry}
-use Rattle.raft_rules.specs.Node.{Server}
-use Rattle.raft_rules.specs.NodeValues as values
-use Rattle.raft_vote.specs.Servers.{IsConfiguration}
-use Rattle.raft_world.specs.Members.{configuration}
-use Rattle.raft_member.specs.Members.{Configurations, IsOf, last_servers, read_setup}
-use Rattle.page_apply.specs.Machines.{IsMachine}
-use Rattle.session_rules.specs.Sessions.{no_sessions, View}
+use Rattle.raft_spec.specs.Account.{loaded}
+use Rattle.raft_spec.specs.Log.{Entry}
+use Rattle.raft_spec.specs.Node.{Server}
+use Rattle.raft_spec.specs.NodeValues as values
+use Rattle.raft_messages.specs.Servers.{IsConfiguration}
+use Rattle.raft_safety.specs.Members.{configuration}
+use Rattle.raft_membership.specs.Members.{Configurations, IsOf, last_servers, read_setup}
+use Rattle.database_state.specs.Machines.{IsMachine}
+use Rattle.session_spec.specs.Sessions.{no_sessions, View}
 use Rattle.client_sessions.specs.Clients.{no_clients}
-use Rattle.client_sessions.specs.Seen.{Agrees, StandOver}
+use Rattle.client_sessions.specs.Seen.{Agrees, AreValidOver}
 use Rattle.store_format.specs.Starts.{CanStart}
-use Rattle.node_replica.specs.Replicas.{ReplicaValue, stored_at}
-use Rattle.node_state.specs.declared.applied.Applied.{Applied}
-use Rattle.node_state.specs.Applied.{HasApplied, HasNoPins}
-use Rattle.node_state.specs.Snapshot.{SpellsSnapshot, snapshot_value, made_by, snapshot_in, commits_of}
-use Rattle.node_rules.specs.Nodes.{Node as RuleNode}
-use Rattle.node_rules.specs.Steps.{StartsSo}
+use Rattle.raft_on_disk.specs.Replicas.{ReplicaValue, stored_at}
+use Rattle.applied_state.specs.declared.applied.Applied.{Applied}
+use Rattle.applied_state.specs.Applied.{HasApplied, HasNoPins}
+use Rattle.applied_state.specs.Snapshot.{SpellsSnapshot, snapshot_value, made_by, snapshot_in, commits_of}
+use Rattle.node_spec.specs.Nodes.{Node as RuleNode}
+use Rattle.node_spec.specs.Steps.{CompletesStart}
 use Rattle.node_core.specs.declared.node.Node.{Node}
 use Rattle.node_core.specs.declared.running.Running.{Running}
 use Rattle.node_core.specs.declared.fault.StartFault.{StartFault}
@@ -64,7 +64,7 @@ pub record Begun (opening servers : List Server) (kept : Kept) (n : RuleNode) (a
 -- that is enough: it stands for each node that has stored what was kept, as it is loaded, and for a life that begins
 abbrev pub BegunStands : Type 0
 BegunStands = (opening servers : List Server) (kept : Kept) (n : RuleNode) (a : Applied) → Begun opening servers kept n a →
-    StartsSo (read_setup opening) kept n servers
+    CompletesStart (read_setup opening) kept n servers
 
 -- These are the parts of a node that has started: no client is there, nothing is due, and nothing is said.
 pub record HasStarted (replica : ReplicaValue) (members : Configurations) (applied : Applied) (view : View) (n : Running) : Type 0 where
@@ -73,7 +73,7 @@ pub record HasStarted (replica : ReplicaValue) (members : Configurations) (appli
   pub applied_is : n.applied ≡ applied
   pub view_is : n.view ≡ view
   pub clients : clients_in n ≡ no_clients
-  pub stand : StandOver n.clients n.applied.machine
+  pub stand : AreValidOver n.clients n.applied.machine
   pub machine : IsMachine n.applied.machine
   pub agrees : Agrees [] n.clients n.applied.machine
   pub office : n.office ≡ None

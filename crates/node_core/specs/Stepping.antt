@@ -3,24 +3,24 @@ use Rattle.std.specs.Prelude.{◌≡◌, ◌≤◌, ℕ, Bool, true, false, List
 use Rattle.sql_engine.specs.Known.{Known}
 use Rattle.disk_model.specs.Disk.{Disk}
 use Rattle.disk_model.specs.Trait.{Text}
-use Rattle.raft_rules.specs.Laws.{HasShortTerm}
-use Rattle.raft_rules.specs.Log.{Entry}
-use Rattle.raft_rules.specs.Node.{Server}
-use Rattle.raft_rules.specs.NodeValues.{node_of}
+use Rattle.raft_spec.specs.Laws.{HasShortTerm}
+use Rattle.raft_spec.specs.Log.{Entry}
+use Rattle.raft_spec.specs.Node.{Server}
+use Rattle.raft_spec.specs.NodeValues.{node_of}
 use Rattle.raft_core.specs.declared.event.RaftEvent.{RaftEvent}
 use Rattle.raft_core.specs.declared.event.RaftEvent.TheVariants as events
 use Rattle.client_sessions.specs.Seen as clients
-use Rattle.raft_member.specs.Members.{AllStand}
-use Rattle.node_replica.specs.Looking.{puts_snapshot}
-use Rattle.node_replica.specs.Replicas.{ReplicaValue, IsKept, IsWhole, HasMoved, bytes_after, stepped, snap_after}
-use Rattle.node_state.specs.declared.applied.Applied.{Applied}
-use Rattle.node_state.specs.Applied.{HasApplied, HasNoPins}
-use Rattle.node_state.specs.Snapshot.{IsRestored, SpellsSnapshot, made_by, commits_of}
+use Rattle.raft_membership.specs.Members.{AllStand}
+use Rattle.raft_on_disk.specs.Looking.{puts_snapshot}
+use Rattle.raft_on_disk.specs.Replicas.{ReplicaValue, IsKept, IsWhole, HasMoved, bytes_after, stepped, snap_after}
+use Rattle.applied_state.specs.declared.applied.Applied.{Applied}
+use Rattle.applied_state.specs.Applied.{HasApplied, HasNoPins}
+use Rattle.applied_state.specs.Snapshot.{IsRestored, SpellsSnapshot, made_by, commits_of}
 use Rattle.node_core.specs.declared.raft_turn.Offer.{Offer}
 use Rattle.node_core.specs.declared.raft_turn.Offer.TheVariants as offers
-use Rattle.raft_vote.specs.declared.message.RaftMessage.{RaftMessage}
-use Rattle.raft_vote.specs.declared.message.Snapshot.{Snapshot}
-use Rattle.raft_vote.specs.declared.message.What.TheVariants as whats
+use Rattle.raft_messages.specs.declared.message.RaftMessage.{RaftMessage}
+use Rattle.raft_messages.specs.declared.message.Snapshot.{Snapshot}
+use Rattle.raft_messages.specs.declared.message.MessageBody.TheVariants as whats
 use Rattle.node_core.specs.declared.fault.NodeFault.{NodeFault}
 use Rattle.node_core.specs.declared.fault.NodeFault.TheVariants as node
 use Rattle.node_core.specs.declared.node.Node.{Node}
@@ -93,7 +93,7 @@ pub record HasStepped (old new : Running) (event : RaftEvent) (batch : Option �
   pub commit : old.replica.raft.commit ≤ new.replica.raft.commit
   pub installed : Bool
   pub moved : HasMoved (node_of old.replica.raft) (node_of new.replica.raft) batch installed
-  pub stand : clients.StandOver new.clients new.applied.machine
+  pub stand : clients.AreValidOver new.clients new.applied.machine
   pub turns : HasTurns (clients_in new)
   pub office : InOffice new.office new.view.serving new.replica.raft
   pub rest : KeepsRest old new

@@ -2,16 +2,16 @@
 use Rattle.std.specs.Prelude.{◌≡◌, ℕ, true, false, List, [], ◌∷◌, Option, None}
 use Rattle.sql_engine.specs.declared.kind.EngineKind.{EngineKind}
 use Rattle.sql_engine.specs.Meanings.{Meaning, Told}
-use Rattle.raft_rules.specs.Node as raft
-use Rattle.raft_vote.specs.declared.message.RaftMessage.{RaftMessage}
+use Rattle.raft_spec.specs.Node as raft
+use Rattle.raft_messages.specs.declared.message.RaftMessage.{RaftMessage}
 use Rattle.raft_core.specs.declared.event.RaftEvent.{RaftEvent}
 use Rattle.raft_core.specs.declared.event.RaftEvent.TheVariants as events
 use Rattle.raft_core.specs.Events.{input_of}
-use Rattle.raft_world.specs.Members.{Setup}
-use Rattle.node_replica.specs.Replicas.{kept_of}
-use Rattle.node_rules.specs.Accounts.{SameTerm}
-use Rattle.node_rules.specs.RaftTurns.{TakesSnapshot}
-use Rattle.node_rules.specs.Steps.{Letter, AllSent}
+use Rattle.raft_safety.specs.Members.{Setup}
+use Rattle.raft_on_disk.specs.Replicas.{kept_of}
+use Rattle.node_spec.specs.Accounts.{SameTerm}
+use Rattle.node_spec.specs.RaftTurns.{TakesSnapshot}
+use Rattle.node_spec.specs.Steps.{Letter, AllSent}
 use Rattle.node_core.specs.declared.running.Running.{Running}
 use Rattle.node_core.specs.Account.{moment_of, bytes_in, Says, Brought, Turns, KnowsServers, Since, LosesMessage, Fresh}
 use Rattle.node_core.specs.Carrying.{MovesLines}
@@ -20,7 +20,7 @@ use Rattle.node_core.specs.Voters.{Beside}
 -- ---- turns
 
 -- A turn that leaves term, leadership and the kept snapshot, and in which the node is told its voters.
-pub record TurnsOn (m : Meaning) (kind : EngineKind) (setup : Setup) (bytes : List ℕ) (joins : Option ℕ) (old new : Running)
+pub record TurnsInTerm (m : Meaning) (kind : EngineKind) (setup : Setup) (bytes : List ℕ) (joins : Option ℕ) (old new : Running)
     (told_before told_now : Option Told) : Type 0 where
   pub turns : Turns m kind setup bytes joins old new told_before told_now
   pub same : SameTerm (moment_of old) (moment_of new)
@@ -44,23 +44,23 @@ IsLostBy old (events.Message message) = LosesMessage old message
 IsLostBy old event = ⊥
 
 -- Its act has begun: its input was taken in; or its message counts as lost, and nothing has changed.
-pub data BeganBy (m : Meaning) (kind : EngineKind) (setup : Setup) (old new : Running) (event : RaftEvent) (told_before told_now : Option Told) : Type 0 where
+pub data BeganStep (m : Meaning) (kind : EngineKind) (setup : Setup) (old new : Running) (event : RaftEvent) (told_before told_now : Option Told) : Type 0 where
   takes : (since : Since m kind setup (came_by event) false old new told_before told_now) → Beside setup old new (bytes_with event) since.piece.inputs →
-      BeganBy m kind setup old new event told_before told_now
-  loses : IsLostBy old event → new ≡ old → told_before ≡ told_now → BeganBy m kind setup old new event told_before told_now
+      BeganStep m kind setup old new event told_before told_now
+  loses : IsLostBy old event → new ≡ old → told_before ≡ told_now → BeganStep m kind setup old new event told_before told_now
 
 -- A message of a peer came on a connection, of a node with links, and its act has begun where only the connections' messages were others;
 -- or nothing came that the rules see.
 pub data TookLetter (m : Meaning) (kind : EngineKind) (setup : Setup) (old new : Running) (told_before told_now : Option Told) : Type 0 where
   came : (message : RaftMessage) (mid : Running) → old.has_links ≡ true → mid ≡ record old { links = mid.links } →
-      BeganBy m kind setup mid new (events.Message message) told_before told_now → MovesLines old new (message ∷ []) →
+      BeganStep m kind setup mid new (events.Message message) told_before told_now → MovesLines old new (message ∷ []) →
       TookLetter m kind setup old new told_before told_now
   none_came : Fresh old new → told_before ≡ told_now → MovesLines old new [] → TookLetter m kind setup old new told_before told_now
 
 -- ---- an own snapshot
 
 -- The snapshot of what is applied was kept, and this was said.
-pub record CompactsSo (setup : Setup) (old new : Running) : Type 0 where
+pub record KeepsSnapshot (setup : Setup) (old new : Running) : Type 0 where
   pub letters : List Letter
   pub takes : KnowsServers setup old → TakesSnapshot setup old.replica.id (moment_of old) (moment_of new) old.applied.index letters
   pub says : Says old new letters [] []

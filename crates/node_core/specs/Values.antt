@@ -7,12 +7,12 @@ use Rattle.wire_msgs.specs.Reading.{request_of}
 use Rattle.client_connection.specs.Connection.{Conn}
 use Rattle.client_sessions.specs.Clients.{Clients}
 use Rattle.client_sessions.specs.Seen.{clients_of}
-use Rattle.raft_rules.specs.Node as raft
-use Rattle.raft_rules.specs.NodeValues as values
+use Rattle.raft_spec.specs.Node as raft
+use Rattle.raft_spec.specs.NodeValues as values
 use Rattle.store_laws.specs.Store.{Kept}
-use Rattle.page_apply.specs.declared.database.Database.{Database}
-use Rattle.node_replica.specs.Replicas.{ReplicaValue, kept_of}
-use Rattle.node_rules.specs.Nodes as rules
+use Rattle.database_state.specs.declared.database.Database.{Database}
+use Rattle.raft_on_disk.specs.Replicas.{ReplicaValue, kept_of}
+use Rattle.node_spec.specs.Nodes as rules
 use Rattle.node_core.specs.declared.node.Node.{Node}
 use Rattle.node_core.specs.declared.running.Running.{Running}
 

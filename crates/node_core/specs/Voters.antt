@@ -1,11 +1,11 @@
 -- What a node is told of its voters in a part of a step, and that it has links where it had.
 use Rattle.std.specs.Prelude.{◌≡◌, ℕ, suc, ◌-◌, ◌≤◌, List, ◌++◌, length, take, drop, Option, Some, None}
-use Rattle.raft_rules.specs.Log.{Entry}
-use Rattle.raft_rules.specs.Node as raft
-use Rattle.raft_rules.specs.Node.{Server}
-use Rattle.raft_world.specs.Members.{Setup}
-use Rattle.raft_member.specs.Members.{Configurations, read_setup, IsOf}
-use Rattle.node_rules.specs.Voting.{MayTell, Tells, VotersRest}
+use Rattle.raft_spec.specs.Log.{Entry}
+use Rattle.raft_spec.specs.Node as raft
+use Rattle.raft_spec.specs.Node.{Server}
+use Rattle.raft_safety.specs.Members.{Setup}
+use Rattle.raft_membership.specs.Members.{Configurations, read_setup, IsOf}
+use Rattle.node_spec.specs.Voting.{MayTell, Tells, VotersRest}
 use Rattle.node_core.specs.declared.running.Running.{Running}
 use Rattle.node_core.specs.Values.{seen}
 

@@ -1,7 +1,7 @@
 -- Whose message waits has a turn.
 use Rattle.std.specs.Prelude.{◌≡◌, ℕ, ◌==◌, Bool, true, false, List, [], None}
 use Rattle.std.specs.List.{list_any}
-use Rattle.session_rules.specs.Sessions.{Gateway, is_due}
+use Rattle.session_spec.specs.Sessions.{Gateway, is_due}
 use Rattle.client_sessions.specs.Clients.{Clients, offered}
 
 -- a connection is among these

@@ -1,24 +1,24 @@
 -- What holds of a node between two steps, and at each moment of one.
 use Rattle.std.specs.Prelude.{◌≡◌, ◌≤◌, Bool, true, false, List, [], length, Option, Some, None}
 use Rattle.std.specs.List.{AllByRecursion}
-use Rattle.raft_rules.specs.Laws as raft
-use Rattle.raft_rules.specs.Node.{is_leader}
-use Rattle.raft_rules.specs.NodeValues as values
-use Rattle.raft_rules.specs.NodeValues.{NodeValue}
-use Rattle.raft_vote.specs.Servers.{IsConfiguration}
-use Rattle.raft_member.specs.Members.{AllStand}
+use Rattle.raft_spec.specs.Laws as raft
+use Rattle.raft_spec.specs.Node.{is_leader}
+use Rattle.raft_spec.specs.NodeValues as values
+use Rattle.raft_spec.specs.NodeValues.{NodeValue}
+use Rattle.raft_messages.specs.Servers.{IsConfiguration}
+use Rattle.raft_membership.specs.Members.{AllStand}
 use Rattle.raft_core.specs.declared.event.RaftEvent.{RaftEvent}
 use Rattle.raft_core.specs.declared.event.RaftEvent.TheVariants as events
 use Rattle.sql_engine.specs.Known.{Known}
 use Rattle.client_sessions.specs.Seen as clients
-use Rattle.client_sessions.specs.Seen.{StandOver}
-use Rattle.node_state.specs.declared.office.Office.{Office}
-use Rattle.node_state.specs.Office.{serves}
-use Rattle.node_replica.specs.Mails.{no_mail}
-use Rattle.node_replica.specs.Replicas.{IsWhole}
+use Rattle.client_sessions.specs.Seen.{AreValidOver}
+use Rattle.applied_state.specs.declared.leadership.Leadership.{Leadership}
+use Rattle.applied_state.specs.Office.{serves}
+use Rattle.raft_on_disk.specs.Mails.{no_mail}
+use Rattle.raft_on_disk.specs.Replicas.{IsWhole}
 use Rattle.node_core.specs.declared.node.Node.{Node}
-use Rattle.node_rules.specs.Accounts.{Moment}
-use Rattle.node_rules.specs.RaftTurns.{HasEnded}
+use Rattle.node_spec.specs.Accounts.{Moment}
+use Rattle.node_spec.specs.RaftTurns.{HasEnded}
 use Rattle.node_core.specs.declared.running.Running.{Running}
 use Rattle.node_core.specs.Account.{moment_of}
 use Rattle.node_core.specs.Carrying.{first_waiting}
@@ -45,7 +45,7 @@ IsOutside (events.Message message) = Unit {0}
 IsOutside event = ⊥
 
 -- Who is in an office leads in its term; who is in none doesn't serve.
-abbrev pub InOffice : Option Office → Bool → NodeValue → Type 0
+abbrev pub InOffice : Option Leadership → Bool → NodeValue → Type 0
 InOffice None serving h = serving ≡ false
 InOffice (Some office) serving h = (is_leader h.role ≡ true) × (office.term ≡ h.term)
 
@@ -54,7 +54,7 @@ InOffice (Some office) serving h = (is_leader h.role ≡ true) × (office.term �
 pub record Holds (n : Running) : Type 0 where
   pub replica : IsWhole n.replica
   pub short : raft.HasShortTerm (values.node_of n.replica.raft)
-  pub clients : StandOver n.clients n.applied.machine
+  pub clients : AreValidOver n.clients n.applied.machine
   pub turns : HasTurns (clients_in n)
   pub servers : IsConfiguration n.applied.servers
   pub members : AllStand n.members
@@ -66,17 +66,17 @@ pub record Holds (n : Running) : Type 0 where
 -- ---- the office, between two turns
 
 -- who is in no office doesn't lead
-abbrev pub LeadsInOffice : Option Office → NodeValue → Type 0
+abbrev pub LeadsInOffice : Option Leadership → NodeValue → Type 0
 LeadsInOffice None h = is_leader h.role ≡ false
 LeadsInOffice (Some office) h = Unit {0}
 
 -- who is in an office serves in its last phase only
-abbrev pub ServesLast : Option Office → Bool → Type 0
+abbrev pub ServesLast : Option Leadership → Bool → Type 0
 ServesLast None serving = Unit {0}
 ServesLast (Some office) serving = serves office.phase ≡ false → serving ≡ false
 
 -- without an office nothing is open or in flight at the sessions, and nothing is to be proposed
-abbrev pub IsFree : Option Office → Moment → Type 0
+abbrev pub IsFree : Option Leadership → Moment → Type 0
 IsFree None a = HasEnded a.node.sessions × (a.due ≡ [])
 IsFree (Some office) a = Unit {0}
 

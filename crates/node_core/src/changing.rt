@@ -1,19 +1,19 @@
 //! A leader's change of servers: whether it may be proposed now, and Raft is told its servers first.
 
 ghost use Rattle.std.specs.Prelude.{◌≡◌, ◌≢◌, ◌++◌, ◌∷◌, true, false, ℕ, List, [], Err, OnOk, IfOk};
-ghost use Rattle.page_apply.specs.Machines.{IsMachine};
-ghost use Rattle.raft_rules.specs.Laws.{HasShortTerm};
-ghost use Rattle.raft_rules.specs.Node.{Server as ServerValue, voters};
-ghost use Rattle.raft_rules.specs.NodeValues.{node_of};
-ghost use Rattle.raft_world.specs.Members.{any_change, is_change};
-ghost use Rattle.raft_member.specs.Members.{AllStand, read_setup};
-ghost use Rattle.node_replica.specs.Replicas.{IsWhole};
+ghost use Rattle.database_state.specs.Machines.{IsMachine};
+ghost use Rattle.raft_spec.specs.Laws.{HasShortTerm};
+ghost use Rattle.raft_spec.specs.Node.{Server as ServerValue, voters};
+ghost use Rattle.raft_spec.specs.NodeValues.{node_of};
+ghost use Rattle.raft_safety.specs.Members.{any_change, is_change};
+ghost use Rattle.raft_membership.specs.Members.{AllStand, read_setup};
+ghost use Rattle.raft_on_disk.specs.Replicas.{IsWhole};
 ghost use Rattle.node_core.specs.declared.fault.NodeFault.TheVariants as fault;
 ghost use Rattle.node_core.specs.Core.{core_of};
-ghost use Rattle.node_core.specs.Exact.{ToldBy, change_for};
+ghost use Rattle.node_core.specs.Exact.{ExactTold, change_for};
 ghost use Rattle.node_core.specs.Faults.{StepCause};
 ghost use Rattle.node_core.specs.Finding.{LeavesBy, StopsChanging};
-ghost use Rattle.node_core.specs.Posting.{HoldsCommit, IsUnfit, MayOrNot, MayTake, ToldChange, has_change};
+ghost use Rattle.node_core.specs.Posting.{HoldsCommit, IsUnfit, DecidesChange, MayTake, ToldChange, has_change};
 ghost use Rattle.node_core.specs.Stepping.{HasTold, StaysStored};
 ghost use Rattle.node_core.specs.Whole.{IsOwnDue};
 
@@ -22,8 +22,8 @@ use crate::fault::NodeFault;
 use crate::running::Running;
 use disk_model::Disk;
 use raft_core::RaftEvent;
-use raft_member::change_in;
-use raft_vote::{Entry, EntryKind, Server};
+use raft_membership::change_in;
+use raft_messages::{Entry, EntryKind, Server};
 use std::alloc::{AllocError, Global};
 
 /// Whether none of these entries is of the kind that changes servers.
@@ -50,7 +50,7 @@ fn is_change(entry: &Entry) -> bool
 }
 
 /// Adds the id of a server that votes.
-#[tactic(auto, unfolding(raft_rules::specs::Node::voters))]
+#[tactic(auto, unfolding(raft_spec::specs::Node::voters))]
 fn add_voter(ids: &mut Vec<u64>, server: &Server) -> Result<(), AllocError>
     ensures { OnOk result (ids.new.items ≡ ids.old.items ++ voters (server.now ∷ [])) }
 {
@@ -88,7 +88,7 @@ impl Running {
         requires members { AllStand self.old.members }
         requires own { IsOwnDue event.now }
         requires takes { MayTake event.now self.old.replica.raft }
-        ensures exact { OnOk result (ToldBy (change_for event.now self.old.replica.raft.role) (core_of self.old) (core_of self.new)) }
+        ensures exact { OnOk result (ExactTold (change_for event.now self.old.replica.raft.role) (core_of self.old) (core_of self.new)) }
         ensures told { OnOk result (HasTold self.old self.new) }
         ensures tells { OnOk result (ToldChange self.old self.new event.now) }
         ensures stored { StaysStored D.tells (D.states disk.old) (D.states disk.new) self.old.replica self.new.replica result }
@@ -119,7 +119,7 @@ impl Running {
     /// Whether a leader may propose a change to these servers now.
     fn may_change_to(&self, servers: &[Server]) -> Result<bool, AllocError>
         requires { IsWhole self.now.replica }
-        ensures { IfOk result (λ may. MayOrNot may self.now servers.now) }
+        ensures { IfOk result (λ may. DecidesChange may self.now servers.now) }
     {
         let applied = self.members.applied_index();
         if applied != self.replica.view().commit {

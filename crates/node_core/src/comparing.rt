@@ -1,11 +1,11 @@
 //! Whether servers are the same, and whether voters are nearly so.
 
 ghost use Rattle.std.specs.Prelude.{◌≡◌, ◌≢◌, ◌<◌, true, false, suc, length};
-ghost use Rattle.raft_world.specs.Members.{one_more};
-ghost use Rattle.node_rules.specs.Changes.{are_near};
+ghost use Rattle.raft_safety.specs.Members.{one_more};
+ghost use Rattle.node_spec.specs.Changes.{are_near};
 ghost use Rattle.node_core.specs.Voters.{LacksAt};
 
-use raft_vote::Server;
+use raft_messages::Server;
 
 /// Whether two servers are the same.
 fn is_same(one: &Server, other: &Server) -> bool

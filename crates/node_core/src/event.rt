@@ -1,9 +1,9 @@
 //! What a node is started with, what happens at it, and how it stands.
 
 use dq_base::Bytes;
-use gateway::{Read, StepLimits};
 use raft_core::RaftRole;
-use raft_vote::{RaftMessage, Servers};
+use raft_messages::{RaftMessage, Servers};
+use session_gateway::{Read, StepLimits};
 
 /// Who a node is, and with which servers its cluster was opened.
 #[derive(Debug, Drop)]

@@ -5,7 +5,7 @@ ghost use Rattle.node_core.specs.Sent.{BeginsApart, CarryingBegins, CarryingHear
 ghost use Rattle.node_core.specs.Starting.{BegunStands};
 
 use client_connection::peer_pieces_are_joined;
-use node_rules::starts_tell_voters;
+use node_spec::starts_tell_voters;
 
 /// A law: what a start makes of what was kept stands for each node that had stored it, as it is loaded, and for a life that
 /// begins; and it was told the voters that the whole log gives, whose configurations it has.

@@ -2,25 +2,25 @@
 
 ghost use Rattle.std.specs.Prelude.{◌≡◌, ◌≢◌, ◌<◌, ◌^◌, ◌++◌, suc, is_some, true, false, ℕ, List, [], Option, Err, OnOk, IfOk, IfErr};
 ghost use Rattle.sql_engine.specs.Known.{Known};
-ghost use Rattle.raft_vote.specs.Servers.{IsConfiguration};
+ghost use Rattle.raft_messages.specs.Servers.{IsConfiguration};
 ghost use Rattle.client_sessions.specs.declared.clients.Clients.{Clients as Held};
-ghost use Rattle.node_state.specs.declared.effect.Effect.TheVariants as effects;
+ghost use Rattle.applied_state.specs.declared.effect.AppliedEffect.TheVariants as effects;
 ghost use Rattle.sql_engine.specs.Meanings.{Stays};
-ghost use Rattle.session_rules.specs.Machine.{machine_of, done};
-ghost use Rattle.session_rules.specs.Seen.{entry_seen};
-ghost use Rattle.gateway.specs.Later.{first_due};
+ghost use Rattle.session_spec.specs.Machine.{machine_of, done};
+ghost use Rattle.session_spec.specs.Seen.{entry_seen};
+ghost use Rattle.session_gateway.specs.Later.{first_due};
 ghost use Rattle.client_sessions.specs.Calls.{landed_at, told_at};
-ghost use Rattle.client_sessions.specs.Seen.{clients_of, Agrees, StandOver};
-ghost use Rattle.node_state.specs.Applied.{with_entry};
-ghost use Rattle.node_state.specs.Content.{effect_of};
-ghost use Rattle.raft_world.specs.Members.{Setup};
-ghost use Rattle.node_core.specs.Applying.{TakesEntry, AppliesSo};
+ghost use Rattle.client_sessions.specs.Seen.{clients_of, Agrees, AreValidOver};
+ghost use Rattle.applied_state.specs.Applied.{with_entry};
+ghost use Rattle.applied_state.specs.Content.{effect_of};
+ghost use Rattle.raft_safety.specs.Members.{Setup};
+ghost use Rattle.node_core.specs.Applying.{TakesEntry, AppliesEntry};
 ghost use Rattle.node_core.specs.Conns.{KeepsConns};
 ghost use Rattle.node_core.specs.Core.{core_of, dutiful, entry_done, is_calm, is_settled, landing, serving_from};
-ghost use Rattle.node_core.specs.Duties.{DutySo, IsCalm, IsSettled, ServesFrom};
-ghost use Rattle.node_core.specs.Exact.{EntryBy, LaterIf};
-ghost use Rattle.node_core.specs.ExactParts.{Answered, TakesBy, entered_shown};
-ghost use Rattle.node_core.specs.Taking.{TurnsOn};
+ghost use Rattle.node_core.specs.Duties.{PerformsDuty, IsCalm, IsSettled, ServesFrom};
+ghost use Rattle.node_core.specs.Exact.{ExactEntry, ExactWaitingQueries};
+ghost use Rattle.node_core.specs.ExactParts.{Answered, ExactTake, entered_shown};
+ghost use Rattle.node_core.specs.Taking.{TurnsInTerm};
 ghost use Rattle.node_core.specs.Performing.{SaysNothing};
 ghost use Rattle.node_core.specs.Waiting.{NoneIsDue};
 ghost use Rattle.node_core.specs.Values.{clients_in};
@@ -31,34 +31,34 @@ ghost use Rattle.node_core.specs.Whole.{IsGoing, IsLed};
 
 use crate::fault::NodeFault;
 use crate::running::{Running, one_more};
-use node_rules::{logs_turn, stretches_join};
-use node_state::{Applied, Effect};
-use page_apply::{Database, Machine};
+use applied_state::{Applied, AppliedEffect};
+use database_state::{Database, Machine};
+use node_spec::{logs_turn, stretches_join};
 use raft_core::RaftEvent;
-use raft_vote::Entry;
+use raft_messages::Entry;
 use sql_engine::Engine;
 use std::alloc::{AllocError, Global};
 
 /// Whether an entry changed the servers.
-fn changes_servers(effect: &Effect) -> bool
+fn changes_servers(effect: &AppliedEffect) -> bool
     ensures is { result ≡ true → effect.now ≡ effects.Configured }
     ensures not { result ≡ false → effect.now ≢ effects.Configured }
 {
     match effect {
-        Effect::Configured => true,
-        Effect::Committed(..) | Effect::Other => false,
+        AppliedEffect::Configured => true,
+        AppliedEffect::Committed(..) | AppliedEffect::Other => false,
     }
 }
 
 /// Applies the next entry. Clients stand over the databases as before, and no number stands for two images where none did.
-fn apply(alloc: Global, applied: &mut Applied, entry: &Entry) -> Result<Effect, AllocError>
+fn apply(alloc: Global, applied: &mut Applied, entry: &Entry) -> Result<AppliedEffect, AllocError>
     requires room { suc applied.old.index < 2 ^ 64 }
     ensures index { OnOk result (applied.new.index ≡ suc applied.old.index) }
     ensures configured { IsConfiguration applied.old.servers → IsConfiguration applied.new.servers }
     ensures servers { IfOk result (λ effect. effect ≢ effects.Configured → applied.new.servers ≡ applied.old.servers) }
-    ensures stand { (held : Held) → StandOver held applied.old.machine → StandOver held applied.new.machine }
+    ensures stand { (held : Held) → AreValidOver held applied.old.machine → AreValidOver held applied.new.machine }
     ensures entry { OnOk result (applied.new ≡ with_entry applied.old entry.now) }
-    ensures clients { (held : Held) → StandOver held applied.old.machine → clients_of held applied.new.machine ≡ clients_of held applied.old.machine }
+    ensures clients { (held : Held) → AreValidOver held applied.old.machine → clients_of held applied.new.machine ≡ clients_of held applied.old.machine }
     ensures agrees { (known : List Known) (held : Held) → Agrees known held applied.old.machine → Agrees known held applied.new.machine }
     ensures told { IfOk result (λ effect. effect ≡ effect_of (entry_seen entry.now).content) }
     ensures files { OnOk result (machine_of applied.new.machine ≡ done (machine_of applied.old.machine) (entry_seen entry.now).content) }
@@ -100,11 +100,11 @@ impl Running {
         ensures agrees { OnOk result (Agrees (E.known engine.new) self.new.clients self.new.applied.machine) }
         ensures engine { Stays (E.kind engine.old) (E.kind engine.new) (E.refused_openings engine.old) (E.refused_openings engine.new) }
         ensures goes { (setup : Setup) (bytes : List ℕ) (joins : Option ℕ) →
-            OnOk result (TurnsOn (E.meaning (E.kind engine.old)) (E.kind engine.old) setup bytes joins self.old self.new
+            OnOk result (TurnsInTerm (E.meaning (E.kind engine.old)) (E.kind engine.old) setup bytes joins self.old self.new
             (E.told engine.old) (E.told engine.new)) }
         // What it was decides all that follows, but for the answers to a query whose barrier it was.
         ensures exact { OnOk result (Answered (E.told engine.old) (E.told engine.new)
-            (EntryBy (E.meaning (E.kind engine.old)) (E.kind engine.old) (core_of self.old) (core_of self.new))) }
+            (ExactEntry (E.meaning (E.kind engine.old)) (E.kind engine.old) (core_of self.old) (core_of self.new))) }
     {
         let effect = self.apply_one()?;
         self.run_due(engine)?;
@@ -112,7 +112,7 @@ impl Running {
     }
 
     /// Applies the next entry, and tells the client whose proposal ends with it.
-    fn apply_one(&mut self) -> Result<Effect, NodeFault>
+    fn apply_one(&mut self) -> Result<AppliedEffect, NodeFault>
         requires going { IsGoing self.old }
         requires more { self.old.applied.index < self.old.replica.raft.commit }
         ensures conns { OnOk result (KeepsConns self.old self.new) }
@@ -123,8 +123,8 @@ impl Running {
         ensures agrees { StaysAgreed self.old self.new }
         ensures due { self.new.due.items ≡ self.old.due.items }
         ensures office { self.new.office ≡ self.old.office }
-        ensures applies { OnOk result (AppliesSo self.old self.new) }
-        ensures exact { IfOk result (λ effect. TakesBy entry_done (core_of self.old) (core_of self.new) effect) }
+        ensures applies { OnOk result (AppliesEntry self.old self.new) }
+        ensures exact { IfOk result (λ effect. ExactTake entry_done (core_of self.old) (core_of self.new) effect) }
     {
         self.databases_stand();
         let effect = self.apply_entry()?;
@@ -134,7 +134,7 @@ impl Running {
     }
 
     /// Applies the next entry, and tells what it was.
-    fn apply_entry(&mut self) -> Result<Effect, NodeFault>
+    fn apply_entry(&mut self) -> Result<AppliedEffect, NodeFault>
         requires going { IsGoing self.old }
         requires more { self.old.applied.index < self.old.replica.raft.commit }
         ensures links { self.new.view.links ≡ self.old.view.links }
@@ -150,7 +150,7 @@ impl Running {
         ensures rest { self.new ≡ record self.old { applied = self.new.applied; members = self.new.members; view = self.new.view } }
         ensures serving { self.new.view.serving ≡ self.old.view.serving }
         ensures settled { OnOk result (SettlesAt self.old.members self.new.members (suc self.old.applied.index)) }
-        ensures exact { IfOk result (λ effect. TakesBy entered_shown (core_of self.old) (core_of self.new) effect) }
+        ensures exact { IfOk result (λ effect. ExactTake entered_shown (core_of self.old) (core_of self.new) effect) }
     {
         let index = one_more(self.applied.index)?;
         let entry = self.replica.entry(index).unwrap();
@@ -209,12 +209,12 @@ impl Running {
         ensures run { IfOk result (λ more. more ≡ false → NoneIsDue (clients_in self.new)) }
         ensures untold { IfOk result (λ more. more ≡ false → E.told engine.new ≡ E.told engine.old) }
         ensures goes { (setup : Setup) (bytes : List ℕ) (joins : Option ℕ) →
-            OnOk result (TurnsOn (E.meaning (E.kind engine.old)) (E.kind engine.old) setup bytes joins self.old self.new
+            OnOk result (TurnsInTerm (E.meaning (E.kind engine.old)) (E.kind engine.old) setup bytes joins self.old self.new
             (E.told engine.old) (E.told engine.new)) }
         ensures due { IfOk result (λ more. more ≡ is_some (first_due (core_of self.old).sessions)) }
         // The first of those that are due is run, and what came of it is told by the answers of the engine.
         ensures exact { OnOk result (Answered (E.told engine.old) (E.told engine.new)
-            (LaterIf (E.meaning (E.kind engine.old)) (E.kind engine.old) (first_due (core_of self.old).sessions) (core_of self.old) (core_of self.new))) }
+            (ExactWaitingQueries (E.meaning (E.kind engine.old)) (E.kind engine.old) (first_due (core_of self.old).sessions) (core_of self.old) (core_of self.new))) }
     {
         stretches_join::<E>();
         let Some(conn) = self.clients.next_due() else {
@@ -225,7 +225,7 @@ impl Running {
     }
 
     /// What a leader owes behind an entry: its Undos, or a checkpoint; and it may serve from then on.
-    fn do_duties(&mut self, effect: &Effect) -> Result<(), NodeFault>
+    fn do_duties(&mut self, effect: &AppliedEffect) -> Result<(), NodeFault>
         requires going { IsGoing self.old }
         requires led { IsLed self.old }
         ensures conns { OnOk result (KeepsConns self.old self.new) }
@@ -236,7 +236,7 @@ impl Running {
         ensures wants { IfErr result (λ f. f ≡ fault.NoMemory) }
         ensures agrees { StaysAgreed self.old self.new }
         ensures quiet { SaysNothing self.old self.new }
-        ensures duties { OnOk result (DutySo self.old self.new) }
+        ensures duties { OnOk result (PerformsDuty self.old self.new) }
         ensures exact { OnOk result (core_of self.new ≡ dutiful effect.now (core_of self.old)) }
     {
         self.databases_stand();

@@ -24,4 +24,4 @@ pub use event::{Event, NodeSpec, NodeState};
 pub use fault::{NodeFault, StartFault};
 pub use laws::{letters_are_spelled, requests_are_spelled, starts_stand};
 pub use node::Node;
-pub use outs::Outs;
+pub use outs::StepOutputs;

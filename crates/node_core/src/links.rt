@@ -1,13 +1,13 @@
 //! Connections that carry the messages of peers.
 
 ghost use Rattle.std.specs.Prelude.{◌≡◌, ◌≢◌, ◌++◌, ◌∷◌, false, [], None, IfOk, OnOk, MatchOption, is_some};
-ghost use Rattle.page_apply.specs.ByName.{FirstAt};
-ghost use Rattle.raft_vote.specs.declared.fault.PeerFault.TheVariants as faults;
+ghost use Rattle.database_state.specs.ByName.{FirstAt};
+ghost use Rattle.raft_messages.specs.declared.fault.PeerFault.TheVariants as faults;
 ghost use Rattle.node_core.specs.Carrying.{first_waiting, heard_link, is_of, link_on, link_reason, peers_message, without_link, LinkTook, TookFirst};
 ghost use Rattle.node_core.specs.declared.links.Link.{Link as LinkValue};
 
 use client_connection::{CloseReason, PeerStream};
-use raft_vote::{PeerFault, RaftMessage, read_message};
+use raft_messages::{PeerFault, RaftMessage, read_message};
 use std::alloc::{AllocError, Global};
 use wire_words::Message;
 

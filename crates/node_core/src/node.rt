@@ -3,19 +3,19 @@
 ghost use Rattle.std.specs.Prelude.{◌≡◌, List, [], Err, IfOk, OnOk, OnErr};
 ghost use Rattle.sql_engine.specs.Meanings.{Stays};
 ghost use Rattle.client_sessions.specs.Sizes.{all_held, held_for};
-ghost use Rattle.raft_vote.specs.Servers.{IsConfiguration};
-ghost use Rattle.raft_rules.specs.Node.{Server as ServerValue};
+ghost use Rattle.raft_messages.specs.Servers.{IsConfiguration};
+ghost use Rattle.raft_spec.specs.Node.{Server as ServerValue};
 ghost use Rattle.raft_core.specs.Roles.{role_value};
-ghost use Rattle.raft_rules.specs.Log.{log_end};
+ghost use Rattle.raft_spec.specs.Log.{log_end};
 ghost use Rattle.raft_core.specs.Queries.{leader_at};
 ghost use Rattle.node_core.specs.declared.fault.NodeFault.TheVariants as fault;
 ghost use Rattle.node_core.specs.Faults.{StartCause, StepCause};
-ghost use Rattle.raft_member.specs.Members.{read_setup};
-ghost use Rattle.page_apply.specs.Databases.{contents_of};
-ghost use Rattle.node_state.specs.Snapshot.{contents_in};
-ghost use Rattle.node_rules.specs.Steps.{StartsSo};
-ghost use Rattle.node_core.specs.Account.{StepsBy, StopsBy};
-ghost use Rattle.node_core.specs.Conns.{ConnsBy, StartsUnlinked};
+ghost use Rattle.raft_membership.specs.Members.{read_setup};
+ghost use Rattle.database_state.specs.Databases.{contents_of};
+ghost use Rattle.applied_state.specs.Snapshot.{contents_in};
+ghost use Rattle.node_spec.specs.Steps.{CompletesStart};
+ghost use Rattle.node_core.specs.Account.{AccountsForStep, AccountsForStop};
+ghost use Rattle.node_core.specs.Conns.{StreamsOfStep, StartsUnlinked};
 ghost use Rattle.node_core.specs.Core.{core_of};
 ghost use Rattle.node_core.specs.Exact.{StepsExactly};
 ghost use Rattle.node_core.specs.ExactParts.{Answered};
@@ -28,10 +28,10 @@ ghost use Rattle.node_core.specs.Whole.{Agrees, IsSound};
 
 use crate::event::{Event, NodeSpec, NodeState};
 use crate::fault::{NodeFault, StartFault};
-use crate::outs::Outs;
+use crate::outs::StepOutputs;
 use crate::running::Running;
+use database_state::Machine;
 use disk_model::Disk;
-use page_apply::Machine;
 use segment_store::{Kept, Store};
 use sql_engine::Engine;
 use std::alloc::{AllocError, Global};
@@ -56,7 +56,7 @@ impl Node {
     pub fn start<D: Disk>(alloc: Global, spec: NodeSpec, disk: &mut D) -> Result<Node, StartFault>
         requires opening { IsConfiguration spec.servers }
         ensures starts { StartsOver (D.states disk.old) (D.states disk.new) result }
-        ensures stands { IfOk result (λ node. StartsSo (read_setup spec.servers) (kept_by node) (node_of node) (servers_told node)) }
+        ensures stands { IfOk result (λ node. CompletesStart (read_setup spec.servers) (kept_by node) (node_of node) (servers_told node)) }
         ensures id { IfOk result (λ node. (replica_of node).raft.id ≡ spec.id) }
         ensures links { IfOk result (λ node. has_links node ≡ spec.links) }
         // No connection carries a peer's messages, so the closes of its steps are those of a node without links where it has none.
@@ -89,12 +89,12 @@ impl Node {
         event: Event,
         disk: &mut D,
         engine: &mut E,
-    ) -> Result<Outs, NodeFault>
+    ) -> Result<StepOutputs, NodeFault>
         requires sound { IsSound self.old }
         // No number stands for two images, for the engine, the transactions and the databases; and so it is afterwards.
         requires agrees { IsUp self.old → Agrees (E.known engine.old) self.old }
         // What of connections' bytes is read and taken, and which are closed.
-        ensures conns { IfOk result (λ outs. ConnsBy event self.old.running self.new.running outs) }
+        ensures conns { IfOk result (λ outs. StreamsOfStep event self.old.running self.new.running outs) }
         ensures agrees { OnOk result (Agrees (E.known engine.new) self.new) }
         ensures sound { IsSound self.new }
         // A node that is down stays so, and one that fails is down.
@@ -108,12 +108,12 @@ impl Node {
         ensures applied { OnOk result (applied_of self.new ≡ (raft_of self.new).commit) }
         // It makes the acts of the rules, whatever the servers are with which the cluster was opened, and says what they say.
         ensures acts { (opening : List ServerValue) →
-            IfOk result (λ outs. StepsBy (E.meaning (E.kind engine.old)) (E.kind engine.old) (read_setup opening) self.old.running self.new.running event outs
+            IfOk result (λ outs. AccountsForStep (E.meaning (E.kind engine.old)) (E.kind engine.old) (read_setup opening) self.old.running self.new.running event outs
             (E.told engine.old) (E.told engine.new)) }
         // Where it fails, a load finds what the acts of the rules left, if the disk kept what Raft was.
         ensures stops { (opening : List ServerValue) → IsUp self.old →
             LeavesBy D.tells (D.states disk.old) (D.states disk.new) (replica_of self.old) result
-            (StopsBy (E.meaning (E.kind engine.old)) (E.kind engine.old) (read_setup opening) self.old.running event) }
+            (AccountsForStop (E.meaning (E.kind engine.old)) (E.kind engine.old) (read_setup opening) self.old.running event) }
         ensures cause { StepCause (D.faults disk.old) (D.faults disk.new) result }
         ensures engine { Stays (E.kind engine.old) (E.kind engine.new) (E.refused_openings engine.old) (E.refused_openings engine.new) }
         // What was before it decides what it leaves and says, but for the answers that the engine told.
@@ -167,10 +167,10 @@ impl Node {
     }
 
     /// The same of one client's connection; 0 where it is none. Takes no memory.
-    pub fn held_by(&self, conn: u64) -> u64
+    pub fn held_bytes_of(&self, conn: u64) -> u64
         ensures { result ≡ held_for conn self.now.running.clients }
     {
-        self.running.clients.held_by(conn)
+        self.running.clients.held_bytes_of(conn)
     }
 
     /// What it keeps, as a load of the disk would answer it; right behind a start, what that has loaded. Entries and the snapshot

@@ -5,14 +5,14 @@ ghost use Rattle.node_core.specs.Carrying.{close_of};
 
 use client_connection::CloseReason;
 use dq_base::Items;
-use gateway::ReadJob;
-use raft_vote::RaftMessage;
+use raft_messages::RaftMessage;
+use session_gateway::ReadJob;
 use std::alloc::{AllocError, Global};
 use wire_words::WireBytes;
 
 /// What a step says. All that stands behind it is kept.
 #[derive(Drop)]
-pub struct Outs {
+pub struct StepOutputs {
     /// Messages to clients, in order, each with the number of its connection.
     pub replies: Vec<(u64, WireBytes)>,
     /// Connections that are closed behind these replies, and why.
@@ -24,15 +24,15 @@ pub struct Outs {
     pub reads: Vec<(u64, ReadJob)>,
 }
 
-impl Outs {
+impl StepOutputs {
     /// Nothing is said. Takes no memory.
-    pub(crate) fn new(alloc: Global) -> Outs
+    pub(crate) fn new(alloc: Global) -> StepOutputs
         ensures replies { result.replies.items ≡ [] }
         ensures closed { result.closed.items ≡ [] }
         ensures messages { result.messages.items ≡ [] }
         ensures reads { result.reads.items ≡ [] }
     {
-        Outs {
+        StepOutputs {
             replies: Vec::new(alloc),
             closed: Vec::new(alloc),
             messages: Vec::new(alloc),

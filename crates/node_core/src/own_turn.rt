@@ -1,19 +1,19 @@
 //! A node's turn for what it gives Raft itself: proposals, and a leadership that is handed over. Term and leadership stay.
 
 ghost use Rattle.std.specs.Prelude.{◌≡◌, ◌≢◌, ◌<◌, true, false, ℕ, List, None, Err, OnOk, IfOk};
-ghost use Rattle.page_apply.specs.Machines.{IsMachine};
-ghost use Rattle.raft_rules.specs.Laws.{HasShortTerm};
-ghost use Rattle.raft_rules.specs.Node.{Server as ServerValue};
-ghost use Rattle.raft_rules.specs.NodeValues.{node_of};
-ghost use Rattle.raft_member.specs.Members.{read_setup};
-ghost use Rattle.node_replica.specs.Replicas.{IsWhole};
+ghost use Rattle.database_state.specs.Machines.{IsMachine};
+ghost use Rattle.raft_spec.specs.Laws.{HasShortTerm};
+ghost use Rattle.raft_spec.specs.Node.{Server as ServerValue};
+ghost use Rattle.raft_spec.specs.NodeValues.{node_of};
+ghost use Rattle.raft_membership.specs.Members.{read_setup};
+ghost use Rattle.raft_on_disk.specs.Replicas.{IsWhole};
 ghost use Rattle.node_core.specs.declared.fault.NodeFault.TheVariants as fault;
 ghost use Rattle.node_core.specs.Conns.{KeepsConns};
 ghost use Rattle.node_core.specs.Core.{core_of};
-ghost use Rattle.node_core.specs.Exact.{DueIf, OwnBy};
+ghost use Rattle.node_core.specs.Exact.{ExactDue, ExactOwnStep};
 ghost use Rattle.node_core.specs.Faults.{StepCause};
 ghost use Rattle.node_core.specs.Finding.{LeavesBy, StopsOwn, StopsTelling};
-ghost use Rattle.node_core.specs.Posting.{HadNone, MayTake, OwnsSo, ToldOr, WasDue};
+ghost use Rattle.node_core.specs.Posting.{HadNoneDue, MayTake, TakesOwnStep, MaybeToldServers, TookFirstDue};
 ghost use Rattle.node_core.specs.Stepping.{HasTold, StaysAgreed, StaysStored};
 ghost use Rattle.node_core.specs.Whole.{IsGoing, IsLed, IsOwnDue};
 ghost use Rattle.node_core.specs.declared.running.Running.{Running as RunningValue};
@@ -21,8 +21,8 @@ ghost use Rattle.node_core.specs.declared.running.Running.{Running as RunningVal
 use crate::fault::NodeFault;
 use crate::running::Running;
 use disk_model::Disk;
-use node_replica::twins_keep_alike;
 use raft_core::RaftEvent;
+use raft_on_disk::twins_keep_alike;
 
 impl Running {
     /// The first of what the node has given Raft itself happens: a proposal, or a leadership that is handed over. False where
@@ -30,12 +30,12 @@ impl Running {
     pub(crate) fn take_due<D: Disk>(&mut self, disk: &mut D) -> Result<bool, NodeFault>
         requires going { IsGoing self.old }
         requires led { IsLed self.old }
-        ensures exact { IfOk result (λ more. DueIf self.old.due.items (core_of self.old) (core_of self.new) more) }
+        ensures exact { IfOk result (λ more. ExactDue self.old.due.items (core_of self.old) (core_of self.new) more) }
         ensures conns { OnOk result (KeepsConns self.old self.new) }
         ensures going { OnOk result (IsGoing self.new) }
         ensures led { OnOk result (IsLed self.new) }
-        ensures none { IfOk result (λ more. more ≡ false → HadNone self.old self.new) }
-        ensures goes { IfOk result (λ more. more ≡ true → OwnsSo self.old self.new) }
+        ensures none { IfOk result (λ more. more ≡ false → HadNoneDue self.old self.new) }
+        ensures goes { IfOk result (λ more. more ≡ true → TakesOwnStep self.old self.new) }
         ensures stored { StaysStored D.tells (D.states disk.old) (D.states disk.new) self.old.replica self.new.replica result }
         ensures stops { (opening : List ServerValue) (came : List ℕ) → LeavesBy D.tells (D.states disk.old) (D.states disk.new) self.old.replica result
             (StopsOwn (read_setup opening) came self.old) }
@@ -56,13 +56,13 @@ impl Running {
         requires takes { MayTake event self.old.replica.raft }
         requires going { IsGoing self.old }
         requires led { IsLed self.old }
-        ensures exact { OnOk result (OwnBy event (core_of self.old) (core_of self.new)) }
+        ensures exact { OnOk result (ExactOwnStep event (core_of self.old) (core_of self.new)) }
         ensures conns { OnOk result (KeepsConns self.old self.new) }
         ensures going { OnOk result (IsGoing self.new) }
         ensures led { OnOk result (IsLed self.new) }
-        ensures goes { (before : RunningValue) → WasDue event before self.old → OnOk result (OwnsSo before self.new) }
+        ensures goes { (before : RunningValue) → TookFirstDue event before self.old → OnOk result (TakesOwnStep before self.new) }
         ensures stored { StaysStored D.tells (D.states disk.old) (D.states disk.new) self.old.replica self.new.replica result }
-        ensures stops { (before : RunningValue) (opening : List ServerValue) (came : List ℕ) → WasDue event before self.old →
+        ensures stops { (before : RunningValue) (opening : List ServerValue) (came : List ℕ) → TookFirstDue event before self.old →
             LeavesBy D.tells (D.states disk.old) (D.states disk.new) self.old.replica result (StopsOwn (read_setup opening) came before) }
         ensures cause { StepCause (D.faults disk.old) (D.faults disk.new) result }
         ensures agrees { OnOk result (StaysAgreed self.old self.new) }

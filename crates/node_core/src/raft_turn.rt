@@ -3,30 +3,30 @@
 
 ghost use Rattle.std.specs.Prelude.{◌≡◌, ◌≢◌, ◌<◌, ◌==◌, ◌&&◌, suc, true, false, ℕ, List, [], drop, Some, None, Err, OnOk, IfOk, MatchOption, IfErr};
 ghost use Rattle.sql_engine.specs.Meanings.{Stays};
-ghost use Rattle.page_apply.specs.declared.database.Database.{Database};
-ghost use Rattle.page_apply.specs.Machines.{IsMachine};
-ghost use Rattle.client_sessions.specs.Seen.{Agrees, HasNoMarks, StandOver};
-ghost use Rattle.raft_rules.specs.Laws.{HasShortTerm};
-ghost use Rattle.raft_rules.specs.Node.{Candidate, Server as ServerValue, Local, UseServers, is_leader};
-ghost use Rattle.raft_rules.specs.NodeValues.{node_of};
-ghost use Rattle.raft_vote.specs.Servers.{IsConfiguration};
-ghost use Rattle.raft_member.specs.Members.{AllStand, all_changed, first_of, read_setup};
+ghost use Rattle.database_state.specs.declared.database.Database.{Database};
+ghost use Rattle.database_state.specs.Machines.{IsMachine};
+ghost use Rattle.client_sessions.specs.Seen.{Agrees, HasNoMarks, AreValidOver};
+ghost use Rattle.raft_spec.specs.Laws.{HasShortTerm};
+ghost use Rattle.raft_spec.specs.Node.{Candidate, Server as ServerValue, Local, UseServers, is_leader};
+ghost use Rattle.raft_spec.specs.NodeValues.{node_of};
+ghost use Rattle.raft_messages.specs.Servers.{IsConfiguration};
+ghost use Rattle.raft_membership.specs.Members.{AllStand, all_changed, first_of, read_setup};
 ghost use Rattle.raft_core.specs.Events.{EventFits, input_of};
-ghost use Rattle.node_replica.specs.Replicas.{IsIntake, IsWhole};
-ghost use Rattle.node_rules.specs.Voting.{FromSnapshot};
-ghost use Rattle.node_state.specs.Snapshot.{NodeSnapshot};
+ghost use Rattle.raft_on_disk.specs.Replicas.{IsIntake, IsWhole};
+ghost use Rattle.node_spec.specs.Voting.{FromSnapshot};
+ghost use Rattle.applied_state.specs.Snapshot.{NodeSnapshot};
 ghost use Rattle.node_core.specs.declared.fault.NodeFault.TheVariants as fault;
 ghost use Rattle.node_core.specs.Account.{moment_of};
 ghost use Rattle.node_core.specs.Conns.{KeepsConns};
 ghost use Rattle.node_core.specs.Core.{are_others, core_of, ended, followed, losing, won};
 ghost use Rattle.node_core.specs.Exact as exactly;
-ghost use Rattle.node_core.specs.Exact.{InstallsBy, RaftBy, StepBy, ToldBy, told_behind};
-ghost use Rattle.node_core.specs.ExactRaft.{EndsBy, FollowedBy, IsFrom, OffersBy};
+ghost use Rattle.node_core.specs.Exact.{ExactInstall, ExactRaft, ExactStep, ExactTold, told_behind};
+ghost use Rattle.node_core.specs.ExactRaft.{ExactLeadershipEnd, ExactMembersFollow, IsFrom, ExactOffers};
 ghost use Rattle.node_core.specs.Faults.{StepCause};
 ghost use Rattle.node_core.specs.Finding.{BeganStops, LeavesBy, StopsBehind, StopsFollowing, StopsIn, StopsInstalling, StopsTelling};
-ghost use Rattle.node_core.specs.Posting.{FollowsOn, InstallsOn, LeavesSo, LosesSo, OfficeSo, Posts, TellsCurrent, ToldBehind, ends_office};
+ghost use Rattle.node_core.specs.Posting.{TurnsWithoutSnapshot, TurnsWithSnapshot, KeepsAllButLog, LosesLeadership, FollowsLeadership, Posts, TellsCurrentServers, ToldServersAfter, ends_office};
 ghost use Rattle.node_core.specs.Stepping.{Brings, HasFollowed, HasMade, HasStepped, HasTold, IsOffer, KeepsRest, PutsNone, StaysAgreed, StaysStored};
-ghost use Rattle.node_core.specs.Taking.{BeganBy, bytes_with};
+ghost use Rattle.node_core.specs.Taking.{BeganStep, bytes_with};
 ghost use Rattle.node_core.specs.Values.{clients_in};
 ghost use Rattle.node_core.specs.Voters.{FollowsBy};
 ghost use Rattle.node_core.specs.Waiting.{HasTurns};
@@ -35,12 +35,12 @@ ghost use Rattle.node_core.specs.Whole.{InOffice, IsFree, IsGoing, IsLed, IsOuts
 use crate::fault::NodeFault;
 use crate::running::Running;
 use crate::view::copied;
+use applied_state::{Applied, Leadership};
 use client_sessions::clients_change_databases;
 use disk_model::Disk;
-use node_replica::{Moved, twins_keep_alike};
-use node_state::{Applied, Office};
 use raft_core::RaftEvent;
-use raft_vote::{Servers, What};
+use raft_messages::{MessageBody, Servers};
+use raft_on_disk::{RaftStep, twins_keep_alike};
 use sql_engine::Engine;
 use std::alloc::AllocError;
 
@@ -61,7 +61,7 @@ impl Running {
     fn offered(&self, event: &RaftEvent) -> Result<Offer, AllocError>
         requires going { IsGoing self.now }
         ensures offer { IfOk result (IsOffer self.now event.now) }
-        ensures exact { IfOk result (OffersBy event.now (core_of self.now)) }
+        ensures exact { IfOk result (ExactOffers event.now (core_of self.now)) }
     {
         let RaftEvent::Message(message) = event else {
             return Ok(Offer::Nothing);
@@ -69,7 +69,7 @@ impl Running {
         if !self.replica.takes_snapshot(message) {
             return Ok(Offer::Nothing);
         }
-        let What::Install { snapshot } = &message.what else {
+        let MessageBody::Install { snapshot } = &message.what else {
             return Ok(Offer::Lost);
         };
         let bytes = snapshot.bytes.as_slice();
@@ -92,14 +92,14 @@ impl Running {
         requires led { IsLed self.old }
         requires idle { self.old.due.items ≡ [] }
         requires agrees { Agrees (E.known engine.old) self.old.clients self.old.applied.machine }
-        ensures exact { OnOk result (RaftBy event (core_of self.old) (core_of self.new)) }
+        ensures exact { OnOk result (ExactRaft event (core_of self.old) (core_of self.new)) }
         ensures untold { OnOk result (E.told engine.new ≡ E.told engine.old) }
         ensures conns { OnOk result (KeepsConns self.old self.new) }
         ensures going { OnOk result (IsGoing self.new) }
         ensures led { OnOk result (IsLed self.new) }
         // An act of the rules has begun by it.
         ensures began { (opening : List ServerValue) →
-            OnOk result (BeganBy (E.meaning (E.kind engine.old)) (E.kind engine.old) (read_setup opening) self.old self.new event
+            OnOk result (BeganStep (E.meaning (E.kind engine.old)) (E.kind engine.old) (read_setup opening) self.old self.new event
             (E.told engine.old) (E.told engine.new)) }
         ensures stored { StaysStored D.tells (D.states disk.old) (D.states disk.new) self.old.replica self.new.replica result }
         ensures stops { (opening : List ServerValue) → LeavesBy D.tells (D.states disk.old) (D.states disk.new) self.old.replica result
@@ -137,7 +137,7 @@ impl Running {
         requires whole { IsWhole self.old.replica }
         requires fits { EventFits self.old.replica.raft event }
         requires intake { IsIntake event }
-        ensures exact { IfOk result (λ batch. StepBy event batch (core_of self.old) (core_of self.new)) }
+        ensures exact { IfOk result (λ batch. ExactStep event batch (core_of self.old) (core_of self.new)) }
         ensures made { IfOk result (λ batch. HasMade self.old self.new event batch) }
         ensures posts { OnOk result (Posts self.old self.new (input_of event)) }
         ensures stored { StaysStored D.tells (D.states disk.old) (D.states disk.new) self.old.replica self.new.replica result }
@@ -149,7 +149,7 @@ impl Running {
         ensures runs { result ≢ Err fault.Down }
         ensures fit { result ≢ Err fault.Unfit }
     {
-        let Moved {
+        let RaftStep {
             batch,
             messages,
             ..
@@ -167,18 +167,18 @@ impl Running {
     ) -> Result<Option<u64>, NodeFault>
         requires whole { IsWhole self.old.replica }
         requires short { HasShortTerm (node_of self.old.replica.raft) }
-        requires stand { StandOver self.old.clients self.old.applied.machine }
+        requires stand { AreValidOver self.old.clients self.old.applied.machine }
         requires turns { HasTurns (clients_in self.old) }
         requires office { InOffice self.old.office self.old.view.serving self.old.replica.raft }
         requires led { IsLed self.old }
         requires idle { self.old.due.items ≡ [] }
         requires fits { EventFits self.old.replica.raft event }
         requires intake { IsIntake event }
-        ensures exact { IfOk result (λ batch. EndsBy event batch (core_of self.old) (core_of self.new)) }
+        ensures exact { IfOk result (λ batch. ExactLeadershipEnd event batch (core_of self.old) (core_of self.new)) }
         ensures conns { OnOk result (KeepsConns self.old self.new) }
         ensures stepped { IfOk result (λ batch. HasStepped self.old self.new event batch) }
         ensures posts { OnOk result (Posts self.old self.new (input_of event)) }
-        ensures offices { OnOk result (OfficeSo self.old self.new) }
+        ensures offices { OnOk result (FollowsLeadership self.old self.new) }
         ensures serves { OnOk result (ServesLast self.new.office self.new.view.serving) }
         ensures free { OnOk result (IsFree self.new.office (moment_of self.new)) }
         ensures stored { StaysStored D.tells (D.states disk.old) (D.states disk.new) self.old.replica self.new.replica result }
@@ -201,11 +201,11 @@ impl Running {
         requires going { IsGoing self.old }
         requires led { IsLed self.old }
         requires idle { self.old.due.items ≡ [] }
-        ensures exact { OnOk result (exactly.FollowsBy event (core_of self.old) (core_of self.new)) }
+        ensures exact { OnOk result (exactly.ExactFollow event (core_of self.old) (core_of self.new)) }
         ensures conns { OnOk result (KeepsConns self.old self.new) }
         ensures going { OnOk result (IsGoing self.new) }
         ensures led { OnOk result (IsLed self.new) }
-        ensures began { OnOk result (FollowsOn self.old self.new event) }
+        ensures began { OnOk result (TurnsWithoutSnapshot self.old self.new event) }
         ensures stored { StaysStored D.tells (D.states disk.old) (D.states disk.new) self.old.replica self.new.replica result }
         ensures stops { (opening : List ServerValue) → LeavesBy D.tells (D.states disk.old) (D.states disk.new) self.old.replica result
             (StopsFollowing (read_setup opening) self.old event) }
@@ -250,9 +250,9 @@ impl Running {
         requires office { InOffice self.old.office self.old.view.serving self.old.replica.raft }
         requires past { MatchOption batch (Unit {0}) (λ first. (self.old.replica.raft.base < first) × (self.old.members.at < first)) }
         requires machine { IsMachine self.old.applied.machine }
-        ensures exact { OnOk result (FollowedBy batch (core_of self.old) (core_of self.new)) }
+        ensures exact { OnOk result (ExactMembersFollow batch (core_of self.old) (core_of self.new)) }
         ensures followed { OnOk result (HasFollowed self.old self.new) }
-        ensures tells { OnOk result (ToldBehind self.old self.new) }
+        ensures tells { OnOk result (ToldServersAfter self.old self.new) }
         ensures follows { OnOk result (FollowsBy self.old.members self.new.members (node_of self.old.replica.raft).log batch) }
         ensures stored { StaysStored D.tells (D.states disk.old) (D.states disk.new) self.old.replica self.new.replica result }
         ensures stops { (opening : List ServerValue) (came : List ℕ) → LeavesBy D.tells (D.states disk.old) (D.states disk.new) self.old.replica result
@@ -279,11 +279,11 @@ impl Running {
         requires going { IsGoing self.old }
         requires led { IsLed self.old }
         requires idle { self.old.due.items ≡ [] }
-        ensures exact { (s : NodeSnapshot) → IsFrom s applied → OnOk result (InstallsBy event applied.index s (core_of self.old) (core_of self.new)) }
+        ensures exact { (s : NodeSnapshot) → IsFrom s applied → OnOk result (ExactInstall event applied.index s (core_of self.old) (core_of self.new)) }
         ensures conns { OnOk result (KeepsConns self.old self.new) }
         ensures going { OnOk result (IsGoing self.new) }
         ensures led { OnOk result (IsLed self.new) }
-        ensures began { (opening : List ServerValue) → OnOk result (InstallsOn (read_setup opening) self.old self.new event) }
+        ensures began { (opening : List ServerValue) → OnOk result (TurnsWithSnapshot (read_setup opening) self.old self.new event) }
         ensures stored { StaysStored D.tells (D.states disk.old) (D.states disk.new) self.old.replica self.new.replica result }
         ensures stops { (opening : List ServerValue) → LeavesBy D.tells (D.states disk.old) (D.states disk.new) self.old.replica result
             (StopsInstalling (read_setup opening) self.old event) }
@@ -330,9 +330,9 @@ impl Running {
         requires stands { IsConfiguration servers }
         requires settled { self.old.replica.raft.role ≢ Candidate }
         requires machine { IsMachine self.old.applied.machine }
-        ensures exact { OnOk result (ToldBy (Some servers) (core_of self.old) (core_of self.new)) }
+        ensures exact { OnOk result (ExactTold (Some servers) (core_of self.old) (core_of self.new)) }
         ensures told { OnOk result (HasTold self.old self.new) }
-        ensures tells { OnOk result (LeavesSo self.old self.new (Local (UseServers servers))) }
+        ensures tells { OnOk result (KeepsAllButLog self.old self.new (Local (UseServers servers))) }
         ensures stored { StaysStored D.tells (D.states disk.old) (D.states disk.new) self.old.replica self.new.replica result }
         ensures stops { (opening : List ServerValue) (came : List ℕ) → LeavesBy D.tells (D.states disk.old) (D.states disk.new) self.old.replica result
             (StopsIn (read_setup opening) came self.old (Local (UseServers servers))) }
@@ -352,9 +352,9 @@ impl Running {
         requires stand { AllStand self.old.members }
         requires office { InOffice self.old.office self.old.view.serving self.old.replica.raft }
         requires machine { IsMachine self.old.applied.machine }
-        ensures exact { OnOk result (ToldBy (told_behind true (core_of self.old)) (core_of self.old) (core_of self.new)) }
+        ensures exact { OnOk result (ExactTold (told_behind true (core_of self.old)) (core_of self.old) (core_of self.new)) }
         ensures told { OnOk result (HasTold self.old self.new) }
-        ensures tells { OnOk result (TellsCurrent self.old self.new) }
+        ensures tells { OnOk result (TellsCurrentServers self.old self.new) }
         ensures office { OnOk result (InOffice self.new.office self.new.view.serving self.new.replica.raft) }
         ensures stored { StaysStored D.tells (D.states disk.old) (D.states disk.new) self.old.replica self.new.replica result }
         ensures stops { (opening : List ServerValue) (came : List ℕ) → LeavesBy D.tells (D.states disk.old) (D.states disk.new) self.old.replica result
@@ -372,15 +372,15 @@ impl Running {
     /// Leadership that was lost: transactions and proposals end, and their clients are told.
     fn note_loss(&mut self) -> Result<(), NodeFault>
         requires unserved { self.old.office ≡ None → self.old.view.serving ≡ false }
-        requires stand { StandOver self.old.clients self.old.applied.machine }
+        requires stand { AreValidOver self.old.clients self.old.applied.machine }
         requires turns { HasTurns (clients_in self.old) }
         ensures exact { OnOk result (core_of self.new ≡ ended (core_of self.old)) }
         ensures conns { OnOk result (KeepsConns self.old self.new) }
-        ensures stand { OnOk result (StandOver self.new.clients self.new.applied.machine) }
+        ensures stand { OnOk result (AreValidOver self.new.clients self.new.applied.machine) }
         ensures turns { OnOk result (HasTurns (clients_in self.new)) }
         ensures office { OnOk result (InOffice self.new.office self.new.view.serving self.new.replica.raft) }
         ensures stays { ends_office self.old.office self.old.replica.raft ≡ false → self.new ≡ self.old }
-        ensures loses { ends_office self.old.office self.old.replica.raft ≡ true → OnOk result (LosesSo self.old self.new) }
+        ensures loses { ends_office self.old.office self.old.replica.raft ≡ true → OnOk result (LosesLeadership self.old self.new) }
         ensures leaves { ends_office self.old.office self.old.replica.raft ≡ true → (self.new.office ≡ None) × (self.new.view.serving ≡ false) }
         ensures replica { self.new.replica ≡ self.old.replica }
         ensures mail { self.new.mail ≡ self.old.mail }
@@ -416,7 +416,7 @@ impl Running {
     }
 
     /// Whether an office is the one of its term, in which it leads.
-    fn is_in(&self, office: Office) -> bool
+    fn is_in(&self, office: Leadership) -> bool
         ensures { result ≡ (is_leader self.now.replica.raft.role && (office.term == self.now.replica.raft.term)) }
     {
         let raft = self.replica.view();
@@ -425,11 +425,11 @@ impl Running {
 
     /// Transactions and proposals end, where there are any, and no image of a database is read any more.
     fn lose(&mut self) -> Result<(), NodeFault>
-        requires stand { StandOver self.old.clients self.old.applied.machine }
+        requires stand { AreValidOver self.old.clients self.old.applied.machine }
         requires turns { HasTurns (clients_in self.old) }
         ensures exact { OnOk result (core_of self.new ≡ losing (core_of self.old)) }
         ensures conns { OnOk result (KeepsConns self.old self.new) }
-        ensures stand { OnOk result (StandOver self.new.clients self.new.applied.machine) }
+        ensures stand { OnOk result (AreValidOver self.new.clients self.new.applied.machine) }
         ensures turns { OnOk result (HasTurns (clients_in self.new)) }
         ensures unmarked { OnOk result (HasNoMarks self.new.applied.machine) }
         // No number stands for two images over any databases then, where no engine knows one.
@@ -437,7 +437,7 @@ impl Running {
         ensures office { (self.new.office ≡ self.old.office) × (self.new.view.serving ≡ self.old.view.serving) }
         ensures replica { self.new.replica ≡ self.old.replica }
         ensures mail { self.new.mail ≡ self.old.mail }
-        ensures loses { OnOk result (LosesSo self.old self.new) }
+        ensures loses { OnOk result (LosesLeadership self.old self.new) }
         ensures rest { KeepsRest self.old self.new }
         ensures wants { IfErr result (λ f. f ≡ fault.NoMemory) }
         ensures agrees { StaysAgreed self.old self.new }
@@ -464,7 +464,7 @@ impl Running {
         }
         let raft = self.replica.view();
         if raft.role.leads() {
-            self.office = Some(Office::won(raft.term, raft.last.index));
+            self.office = Some(Leadership::won(raft.term, raft.last.index));
         }
     }
 }

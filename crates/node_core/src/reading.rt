@@ -1,16 +1,16 @@
 //! Queries that readers answer beside a node, and queries that are yet to be answered.
 
 ghost use Rattle.std.specs.Prelude.{◌≡◌, ◌<◌, ◌++◌, ◌∷◌, ℕ, List, [], Option, length, OnOk, IfErr, MatchOption};
-ghost use Rattle.raft_world.specs.Members.{Setup};
+ghost use Rattle.raft_safety.specs.Members.{Setup};
 ghost use Rattle.node_core.specs.declared.event.Event.TheVariants as happens;
 ghost use Rattle.node_core.specs.Account.{SoFar, Happens};
 ghost use Rattle.node_core.specs.Conns.{KeepsConns};
 ghost use Rattle.node_core.specs.Core.{core_of};
-ghost use Rattle.node_core.specs.ExactParts.{Answered, ResumesBy};
-ghost use Rattle.node_core.specs.Taking.{TurnsOn};
-ghost use Rattle.node_core.specs.Performing.{ReadsSo};
+ghost use Rattle.node_core.specs.ExactParts.{Answered, ExactResume};
+ghost use Rattle.node_core.specs.Taking.{TurnsInTerm};
+ghost use Rattle.node_core.specs.Performing.{DeliversRead};
 ghost use Rattle.sql_engine.specs.Meanings.{Stays};
-ghost use Rattle.session_decisions.specs.Reading.{read_named};
+ghost use Rattle.session_outcomes.specs.Reading.{read_named};
 ghost use Rattle.client_sessions.specs.Seen.{Agrees};
 ghost use Rattle.node_core.specs.declared.fault.NodeFault.TheVariants as fault;
 ghost use Rattle.node_core.specs.Stepping.{StaysAgreed};
@@ -18,8 +18,8 @@ ghost use Rattle.node_core.specs.Whole.{IsGoing, IsLed};
 
 use crate::fault::NodeFault;
 use crate::running::Running;
-use gateway::{Read, ReadJob};
-use node_rules::{clients_turn, stretches_join};
+use node_spec::{clients_turn, stretches_join};
+use session_gateway::{Read, ReadJob};
 use sql_engine::Engine;
 
 /// How many queries may be at readers at one time. Each may hold an older version of a database.
@@ -138,7 +138,7 @@ impl Running {
         ensures index { self.new.applied.index ≡ self.old.applied.index }
         ensures wants { IfErr result (λ f. f ≡ fault.NoMemory) }
         ensures agrees { StaysAgreed self.old self.new }
-        ensures reads { OnOk result (ReadsSo self.old self.new conn (read_named read)) }
+        ensures reads { OnOk result (DeliversRead self.old self.new conn (read_named read)) }
     {
         self.databases_stand();
         match self.clients.on_read_done(conn, read)? {
@@ -170,10 +170,10 @@ impl Running {
         ensures agrees { OnOk result (Agrees (E.known engine.new) self.new.clients self.new.applied.machine) }
         ensures engine { Stays (E.kind engine.old) (E.kind engine.new) (E.refused_openings engine.old) (E.refused_openings engine.new) }
         ensures goes { (setup : Setup) (bytes : List ℕ) (joins : Option ℕ) →
-            OnOk result (TurnsOn (E.meaning (E.kind engine.old)) (E.kind engine.old) setup bytes joins self.old self.new
+            OnOk result (TurnsInTerm (E.meaning (E.kind engine.old)) (E.kind engine.old) setup bytes joins self.old self.new
             (E.told engine.old) (E.told engine.new)) }
         ensures exact { OnOk result (Answered (E.told engine.old) (E.told engine.new)
-            (ResumesBy (E.meaning (E.kind engine.old)) (E.kind engine.old) conn (core_of self.old) (core_of self.new))) }
+            (ExactResume (E.meaning (E.kind engine.old)) (E.kind engine.old) conn (core_of self.old) (core_of self.new))) }
     {
         clients_turn::<E>();
         stretches_join::<E>();

@@ -1,18 +1,18 @@
 //! What runs of a node.
 
 ghost use Rattle.std.specs.Prelude.{◌≡◌, suc, IfOk};
-ghost use Rattle.node_replica.specs.Replicas.{kept_of};
+ghost use Rattle.raft_on_disk.specs.Replicas.{kept_of};
 ghost use Rattle.node_core.specs.Whole.{Rests};
 
 use crate::links::Links;
-use crate::outs::Outs;
+use crate::outs::StepOutputs;
+use applied_state::{Applied, Leadership};
 use client_sessions::Clients;
-use gateway::View;
-use node_replica::{Mail, Replica};
-use node_state::{Applied, Office};
 use raft_core::RaftEvent;
-use raft_member::Members;
+use raft_membership::Members;
+use raft_on_disk::{Outgoing, Replica};
 use segment_store::Kept;
+use session_gateway::View;
 use std::alloc::{AllocError, Global};
 use std::collections::VecDeque;
 
@@ -34,14 +34,14 @@ pub(crate) struct Running {
     /// What it is for its sessions.
     pub(crate) view: View,
     /// Its office while it leads.
-    pub(crate) office: Option<Office>,
+    pub(crate) office: Option<Leadership>,
     /// Events of Raft that are due, in order: the event of a step, and what the node itself gives Raft.
     pub(crate) due: VecDeque<RaftEvent>,
     /// The connection on which the bytes of this step came, until it was looked at whether it has to be closed.
     pub(crate) heard: Option<u64>,
     /// What the step that is under way says to clients, and to other nodes.
-    pub(crate) outs: Outs,
-    pub(crate) mail: Mail,
+    pub(crate) outs: StepOutputs,
+    pub(crate) mail: Outgoing,
 }
 
 /// The index behind this one. There is no memory for so many entries that there is none.

@@ -1,27 +1,27 @@
 //! A node's turn in which the message of a client or of a peer is handled, and connections that come and go.
 
 ghost use Rattle.std.specs.Prelude.{◌≡◌, ◌≢◌, ◌++◌, ◌∷◌, ℕ, List, Option, [], map, is_some, false, None, Err, OnOk, IfOk, IfErr, true};
-ghost use Rattle.page_apply.specs.Machines.{IsMachine};
-ghost use Rattle.session_rules.specs.Machine.{machine_of};
-ghost use Rattle.raft_member.specs.Members.{read_setup};
-ghost use Rattle.raft_rules.specs.Node.{Server as ServerValue};
-ghost use Rattle.raft_world.specs.Members.{Setup};
+ghost use Rattle.database_state.specs.Machines.{IsMachine};
+ghost use Rattle.session_spec.specs.Machine.{machine_of};
+ghost use Rattle.raft_membership.specs.Members.{read_setup};
+ghost use Rattle.raft_spec.specs.Node.{Server as ServerValue};
+ghost use Rattle.raft_safety.specs.Members.{Setup};
 ghost use Rattle.client_sessions.specs.Clients.{hung_up, joining, next_offer};
 ghost use Rattle.node_core.specs.declared.event.Event.TheVariants as happens;
 ghost use Rattle.node_core.specs.Account.{moment_of};
-ghost use Rattle.node_core.specs.Conns.{ClosesConn, ConnsBegin, ConnsBehind, ConnsOn, KeepsConns, link_for};
+ghost use Rattle.node_core.specs.Conns.{ClosesConn, ConnsBegin, StreamsAfterMessage, StreamsClose, KeepsConns, link_for};
 ghost use Rattle.node_core.specs.Core.{clients_at, core_of, giving, hanging_up, hearing, joined_by};
 ghost use Rattle.node_core.specs.Exact.{OnHeard};
-ghost use Rattle.node_core.specs.ExactParts.{Answered, ClosesBy, OfferIf, PerformsBy};
+ghost use Rattle.node_core.specs.ExactParts.{Answered, ExactClose, ExactOffer, ExactPerform};
 ghost use Rattle.node_core.specs.Carrying.{MovesLines, first_waiting};
-ghost use Rattle.node_core.specs.Performing.{ClosesSo, ComesOr, GoesOr, HearsSo, Performed, SaysNothing};
+ghost use Rattle.node_core.specs.Performing.{ClosesIfEnded, MayConnect, MayClose, ReceivesBytes, Performed, SaysNothing};
 ghost use Rattle.sql_engine.specs.Meanings.{Stays};
 ghost use Rattle.client_sessions.specs.Seen.{Agrees};
 ghost use Rattle.node_core.specs.declared.fault.NodeFault.TheVariants as fault;
 ghost use Rattle.node_core.specs.Faults.{StepCause};
 ghost use Rattle.node_core.specs.Stepping.{StaysAgreed, StaysStored};
 ghost use Rattle.node_core.specs.Finding.{LeavesBy, StopsLetter};
-ghost use Rattle.node_core.specs.Taking.{TookLetter, TurnsOn};
+ghost use Rattle.node_core.specs.Taking.{TookLetter, TurnsInTerm};
 ghost use Rattle.node_core.specs.Values.{clients_in};
 ghost use Rattle.node_core.specs.Whole.{IsGoing, IsLed, IsOwnDue};
 
@@ -29,10 +29,10 @@ use crate::fault::NodeFault;
 use crate::links::Letter;
 use crate::running::Running;
 use client_connection::CloseReason;
-use client_sessions::{Act, Joining};
+use client_sessions::{Act, ConnectResult};
 use disk_model::Disk;
 use dq_base::Items;
-use node_rules::{clients_turn, stretches_join};
+use node_spec::{clients_turn, stretches_join};
 use raft_core::RaftEvent;
 use sql_engine::Engine;
 use wire_words::WireBytes;
@@ -66,7 +66,7 @@ impl Running {
         ensures index { self.new.applied.index ≡ self.old.applied.index }
         ensures wants { IfErr result (λ f. f ≡ fault.NoMemory) }
         ensures agrees { StaysAgreed self.old self.new }
-        ensures goes { OnOk result (ComesOr self.old self.new conn) }
+        ensures goes { OnOk result (MayConnect self.old self.new conn) }
         ensures quiet { OnOk result (SaysNothing self.old self.new) }
         ensures exact { OnOk result ((core_of self.old).links ≡ [] →
             core_of self.new ≡ joined_by (joining (core_of self.old).sessions conn) conn (core_of self.old)) }
@@ -76,8 +76,8 @@ impl Running {
             return Ok(());
         }
         match self.clients.connect(conn)? {
-            Joining::Joined | Joining::Taken => {}
-            Joining::Full => self.outs.closed.push((conn, CloseReason::Limit))?,
+            ConnectResult::Joined | ConnectResult::Taken => {}
+            ConnectResult::Full => self.outs.closed.push((conn, CloseReason::Limit))?,
         }
         Ok(())
     }
@@ -93,7 +93,7 @@ impl Running {
         ensures index { self.new.applied.index ≡ self.old.applied.index }
         ensures wants { IfErr result (λ f. f ≡ fault.NoMemory) }
         ensures agrees { StaysAgreed self.old self.new }
-        ensures goes { OnOk result (HearsSo self.old self.new conn bytes.now) }
+        ensures goes { OnOk result (ReceivesBytes self.old self.new conn bytes.now) }
         ensures quiet { SaysNothing self.old self.new }
         ensures exact { OnOk result ((core_of self.old).links ≡ [] → core_of self.new ≡ hearing conn bytes.now (core_of self.old)) }
     {
@@ -116,7 +116,7 @@ impl Running {
         ensures replica { self.new.replica ≡ self.old.replica }
         ensures index { self.new.applied.index ≡ self.old.applied.index }
         ensures agrees { StaysAgreed self.old self.new }
-        ensures goes { GoesOr self.old self.new conn }
+        ensures goes { MayClose self.old self.new conn }
         ensures quiet { SaysNothing self.old self.new }
         ensures exact { (core_of self.old).links ≡ [] → core_of self.new ≡ hanging_up conn (core_of self.old) }
     {
@@ -136,7 +136,7 @@ impl Running {
         requires led { IsLed self.old }
         requires idle { self.old.due.items ≡ [] }
         requires agrees { Agrees (E.known engine.old) self.old.clients self.old.applied.machine }
-        ensures conns { OnOk result (ConnsOn self.old self.new) }
+        ensures conns { OnOk result (StreamsClose self.old self.new) }
         ensures going { OnOk result (IsGoing self.new) }
         ensures led { OnOk result (IsLed self.new) }
         ensures stored { StaysStored D.tells (D.states disk.old) (D.states disk.new) self.old.replica self.new.replica result }
@@ -179,7 +179,7 @@ impl Running {
         requires led { IsLed self.old }
         requires idle { self.old.due.items ≡ [] }
         requires agrees { Agrees (E.known engine.old) self.old.clients self.old.applied.machine }
-        ensures conns { OnOk result (ConnsOn self.old self.new) }
+        ensures conns { OnOk result (StreamsClose self.old self.new) }
         ensures going { OnOk result (IsGoing self.new) }
         ensures led { OnOk result (IsLed self.new) }
         ensures replica { self.new.replica ≡ self.old.replica }
@@ -190,13 +190,13 @@ impl Running {
         ensures none { IfOk result (λ more. more ≡ false → self.new.due.items ≡ self.old.due.items) }
         ensures turns { IfOk result (λ more. more ≡ false → (clients_in self.new).turns ≡ []) }
         ensures goes { (setup : Setup) (bytes : List ℕ) (joins : Option ℕ) →
-            OnOk result (TurnsOn (E.meaning (E.kind engine.old)) (E.kind engine.old) setup bytes joins self.old self.new
+            OnOk result (TurnsInTerm (E.meaning (E.kind engine.old)) (E.kind engine.old) setup bytes joins self.old self.new
             (E.told engine.old) (E.told engine.new)) }
         ensures sessions { IfOk result (λ more. more ≡ false → (clients_in self.new).sessions ≡ (clients_in self.old).sessions) }
         ensures offers { IfOk result (λ more. more ≡ is_some (next_offer (clients_at (core_of self.old)))) }
         // Whose turn it is, and what came of the message is told by the answers of the engine.
         ensures exact { OnOk result (Answered (E.told engine.old) (E.told engine.new)
-            (OfferIf (E.meaning (E.kind engine.old)) (E.kind engine.old) (next_offer (clients_at (core_of self.old))) (core_of self.old) (core_of self.new))) }
+            (ExactOffer (E.meaning (E.kind engine.old)) (E.kind engine.old) (next_offer (clients_at (core_of self.old))) (core_of self.old) (core_of self.new))) }
         ensures moves { OnOk result (MovesLines self.old self.new []) }
     {
         clients_turn::<E>();
@@ -230,14 +230,14 @@ impl Running {
     /// Does what came of a message; what it gives Raft is due then.
     pub(crate) fn perform(&mut self, act: Act) -> Result<(), NodeFault>
         requires going { IsGoing self.old }
-        ensures conns { OnOk result (ConnsBehind act self.old self.new) }
+        ensures conns { OnOk result (StreamsAfterMessage act self.old self.new) }
         ensures going { OnOk result (IsGoing self.new) }
         ensures replica { self.new.replica ≡ self.old.replica }
         ensures index { self.new.applied.index ≡ self.old.applied.index }
         ensures wants { IfErr result (λ f. f ≡ fault.NoMemory) }
         ensures agrees { StaysAgreed self.old self.new }
         ensures performed { OnOk result (Performed self.old self.new act) }
-        ensures exact { OnOk result (PerformsBy act (core_of self.old) (core_of self.new)) }
+        ensures exact { OnOk result (ExactPerform act (core_of self.old) (core_of self.new)) }
     {
         self.databases_stand();
         match act {
@@ -304,7 +304,7 @@ impl Running {
     /// Closes the connection whose bytes came, where its stream has ended. False where that was looked at before.
     pub(crate) fn close_heard(&mut self) -> Result<bool, NodeFault>
         requires going { IsGoing self.old }
-        ensures conns { OnOk result (ConnsOn self.old self.new) }
+        ensures conns { OnOk result (StreamsClose self.old self.new) }
         ensures going { OnOk result (IsGoing self.new) }
         ensures office { self.new.office ≡ self.old.office }
         ensures replica { self.new.replica ≡ self.old.replica }
@@ -313,7 +313,7 @@ impl Running {
         ensures agrees { StaysAgreed self.old self.new }
         ensures none { IfOk result (λ more. more ≡ false → (self.new ≡ self.old) × (self.new.heard ≡ None)) }
         ensures moves { OnOk result (MovesLines self.old self.new []) }
-        ensures goes { OnOk result (ClosesSo self.old self.new) }
+        ensures goes { OnOk result (ClosesIfEnded self.old self.new) }
         ensures quiet { SaysNothing self.old self.new }
         ensures exact { IfOk result (λ more. (core_of self.old).links ≡ [] → OnHeard (core_of self.old).heard (core_of self.old) (core_of self.new) more) }
     {
@@ -338,9 +338,9 @@ impl Running {
         ensures index { self.new.applied.index ≡ self.old.applied.index }
         ensures heard { self.new.heard ≡ self.old.heard }
         ensures agrees { StaysAgreed self.old self.new }
-        ensures goes { GoesOr self.old self.new conn }
+        ensures goes { MayClose self.old self.new conn }
         ensures quiet { SaysNothing self.old self.new }
-        ensures exact { (core_of self.old).links ≡ [] → ClosesBy conn result (core_of self.old) (core_of self.new) }
+        ensures exact { (core_of self.old).links ≡ [] → ExactClose conn result (core_of self.old) (core_of self.new) }
     {
         self.databases_stand();
         if !self.links.has(conn) {

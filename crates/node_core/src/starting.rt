@@ -4,16 +4,16 @@ ghost use Rattle.std.specs.Prelude.{◌≡◌, ◌<◌, ◌≤◌, ◌+◌, ◌-
 ghost use Rattle.std.specs.Prelude.{IfErr, IfOk, length, drop};
 ghost use Rattle.segment_store.specs.Open.{Open};
 ghost use Rattle.store_format.specs.FilesRead.{snap_kept, HasIndex};
-ghost use Rattle.raft_rules.specs.Log.{Entry as EntryValue};
-ghost use Rattle.raft_rules.specs.Node.{Server as ServerValue};
-ghost use Rattle.raft_vote.specs.Servers.{IsConfiguration};
-ghost use Rattle.raft_world.specs.Members.{configuration};
-ghost use Rattle.raft_member.specs.Members.{AllStand, IsOf, all_changed, first_of, read_setup};
+ghost use Rattle.raft_spec.specs.Log.{Entry as EntryValue};
+ghost use Rattle.raft_spec.specs.Node.{Server as ServerValue};
+ghost use Rattle.raft_messages.specs.Servers.{IsConfiguration};
+ghost use Rattle.raft_safety.specs.Members.{configuration};
+ghost use Rattle.raft_membership.specs.Members.{AllStand, IsOf, all_changed, first_of, read_setup};
 ghost use Rattle.store_format.specs.Starts.{CanStart};
-ghost use Rattle.node_replica.specs.Replicas.{kept_of};
-ghost use Rattle.node_state.specs.Applied.{HasNoPins};
-ghost use Rattle.node_state.specs.Snapshot.{IsRestored, snapshot_in, snapshot_value};
-ghost use Rattle.node_rules.specs.Steps.{StartsSo};
+ghost use Rattle.raft_on_disk.specs.Replicas.{kept_of};
+ghost use Rattle.applied_state.specs.Applied.{HasNoPins};
+ghost use Rattle.applied_state.specs.Snapshot.{IsRestored, snapshot_in, snapshot_value};
+ghost use Rattle.node_spec.specs.Steps.{CompletesStart};
 ghost use Rattle.node_core.specs.Conns.{HasNoPeers};
 ghost use Rattle.node_core.specs.Core.{core_of};
 ghost use Rattle.node_core.specs.ExactStart.{AppliesExactly, StartsExactly, kept_members};
@@ -26,16 +26,16 @@ use crate::event::NodeSpec;
 use crate::fault::StartFault;
 use crate::laws::starts_stand;
 use crate::links::Links;
-use crate::outs::Outs;
+use crate::outs::StepOutputs;
 use crate::running::{Running, one_more};
 use crate::view::{copied, starting_view};
+use applied_state::Applied;
 use client_sessions::Clients;
-use gateway::View;
-use node_replica::{Mail, Replica};
-use node_state::Applied;
-use raft_member::Members;
-use raft_vote::{Entry, Servers, Snapshot};
+use raft_membership::Members;
+use raft_messages::{Entry, Servers, Snapshot};
+use raft_on_disk::{Outgoing, Replica};
 use segment_store::{Kept, Store};
+use session_gateway::View;
 use std::alloc::{AllocError, Global};
 use std::collections::VecDeque;
 
@@ -127,7 +127,7 @@ impl Running {
     ) -> Result<Running, StartFault>
         requires opening { IsConfiguration spec.servers }
         requires log { CanStart kept }
-        ensures stands { IfOk result (λ node. StartsSo (read_setup spec.servers) kept (seen node) node.replica.raft.servers) }
+        ensures stands { IfOk result (λ node. CompletesStart (read_setup spec.servers) kept (seen node) node.replica.raft.servers) }
         ensures kept { IfOk result (λ node. kept_of node.replica ≡ kept) }
         ensures store { IfOk result (λ node. node.replica.store ≡ store) }
         ensures id { IfOk result (λ node. node.replica.raft.id ≡ spec.id) }
@@ -185,8 +185,8 @@ impl Running {
             office: None,
             due,
             heard: None,
-            outs: Outs::new(alloc),
-            mail: Mail::new(alloc),
+            outs: StepOutputs::new(alloc),
+            mail: Outgoing::new(alloc),
         })
     }
 }

@@ -1,21 +1,21 @@
 //! One step of a node.
 
-ghost use Rattle.raft_member.specs.Members.{read_setup};
-ghost use Rattle.raft_rules.specs.Node.{Server as ServerValue};
-ghost use Rattle.node_rules.specs.Accounts.{MayEnd};
+ghost use Rattle.raft_membership.specs.Members.{read_setup};
+ghost use Rattle.raft_spec.specs.Node.{Server as ServerValue};
+ghost use Rattle.node_spec.specs.Accounts.{MayEnd};
 ghost use Rattle.node_core.specs.declared.event.Event.{Event as EventValue};
 ghost use Rattle.node_core.specs.declared.running.Running.{Running as RunningValue};
-ghost use Rattle.node_core.specs.Account.{AtRest, SoFar, Stopped, Happens, StepsBy, StopsBy, Underway, moment_of};
+ghost use Rattle.node_core.specs.Account.{AtRest, SoFar, Stopped, Happens, AccountsForStep, AccountsForStop, Underway, moment_of};
 ghost use Rattle.node_core.specs.Carrying.{first_waiting};
-ghost use Rattle.node_core.specs.Conns.{ConnsBegin, ConnsBy, ConnsOn, KeepsConns};
+ghost use Rattle.node_core.specs.Conns.{ConnsBegin, StreamsOfStep, StreamsClose, KeepsConns};
 ghost use Rattle.node_core.specs.Core.{core_of};
-ghost use Rattle.node_core.specs.Exact.{AttendsBy, BeginsBy, RunsBy, StepsExactly, UnlinkedTurn};
-ghost use Rattle.node_core.specs.ExactParts.{Answered, CompactsIf};
-ghost use Rattle.node_core.specs.Taking.{CompactsSo};
+ghost use Rattle.node_core.specs.Exact.{ExactAttends, ExactBegin, ExactTurns, StepsExactly, UnlinkedTurn};
+ghost use Rattle.node_core.specs.ExactParts.{Answered, ExactCompactionIfDue};
+ghost use Rattle.node_core.specs.Taking.{KeepsSnapshot};
 ghost use Rattle.std.specs.Prelude.{◌≡◌, ◌≢◌, ℕ, List, Option, [], true, false, Err, IfOk, OnOk, IfErr};
 ghost use Rattle.sql_engine.specs.Meanings.{Stays, Told};
 ghost use Rattle.client_sessions.specs.Seen.{Agrees};
-ghost use Rattle.node_replica.specs.Mails.{sent};
+ghost use Rattle.raft_on_disk.specs.Mails.{sent};
 ghost use Rattle.node_core.specs.declared.fault.NodeFault.TheVariants as fault;
 ghost use Rattle.node_core.specs.Faults.{StepCause};
 ghost use Rattle.node_core.specs.Finding.{LeavesBy, StopsCompacting};
@@ -26,13 +26,13 @@ ghost use Rattle.node_core.specs.Whole.{IsGoing, IsIdle, IsLed, IsQuiet, Rests};
 use crate::comparing::are_same;
 use crate::event::Event;
 use crate::fault::NodeFault;
-use crate::outs::Outs;
+use crate::outs::StepOutputs;
 use crate::running::Running;
 use disk_model::Disk;
-use node_replica::Mail;
-use node_rules::{raft_steps_are_kept, raft_turns};
+use node_spec::{raft_steps_are_kept, raft_turns};
 use raft_core::RaftEvent;
-use raft_vote::SharedBytes;
+use raft_messages::SharedBytes;
+use raft_on_disk::Outgoing;
 use sql_engine::Engine;
 use std::mem;
 
@@ -43,11 +43,11 @@ impl Running {
         event: Event,
         disk: &mut D,
         engine: &mut E,
-    ) -> Result<Outs, NodeFault>
+    ) -> Result<StepOutputs, NodeFault>
         requires rests { Rests self.old }
         requires agrees { Agrees (E.known engine.old) self.old.clients self.old.applied.machine }
         // What of connections' bytes is read and taken, and which are closed.
-        ensures conns { IfOk result (λ outs. ConnsBy event self.old self.new outs) }
+        ensures conns { IfOk result (λ outs. StreamsOfStep event self.old self.new outs) }
         ensures rests { OnOk result (Rests self.new) }
         ensures agrees { OnOk result (Agrees (E.known engine.new) self.new.clients self.new.applied.machine) }
         ensures stored { StaysStored D.tells (D.states disk.old) (D.states disk.new) self.old.replica self.new.replica result }
@@ -57,10 +57,10 @@ impl Running {
         // Where it fails, a load finds what the acts of the rules left, if the disk kept what Raft was.
         ensures stops { (opening : List ServerValue) →
             LeavesBy D.tells (D.states disk.old) (D.states disk.new) self.old.replica result
-            (StopsBy (E.meaning (E.kind engine.old)) (E.kind engine.old) (read_setup opening) self.old event) }
+            (AccountsForStop (E.meaning (E.kind engine.old)) (E.kind engine.old) (read_setup opening) self.old event) }
         // It makes the acts of the rules, and says what they say.
         ensures acts { (opening : List ServerValue) →
-            IfOk result (λ outs. StepsBy (E.meaning (E.kind engine.old)) (E.kind engine.old) (read_setup opening) self.old self.new event outs
+            IfOk result (λ outs. AccountsForStep (E.meaning (E.kind engine.old)) (E.kind engine.old) (read_setup opening) self.old self.new event outs
             (E.told engine.old) (E.told engine.new)) }
         // What was before it decides what it leaves and says, but for the answers that the engine told.
         ensures exact { IfOk result (λ outs. Answered (E.told engine.old) (E.told engine.new)
@@ -98,7 +98,7 @@ impl Running {
             LeavesBy D.tells (D.states disk.old) (D.states disk.new) self.old.replica result
             (Stopped (E.meaning (E.kind engine.old)) (E.kind engine.old) (read_setup opening) self.old (Happens event)) }
         ensures runs { result ≢ Err fault.Down }
-        ensures exact { OnOk result (Answered (E.told engine.old) (E.told engine.new) (BeginsBy event (core_of self.old) (core_of self.new))) }
+        ensures exact { OnOk result (Answered (E.told engine.old) (E.told engine.new) (ExactBegin event (core_of self.old) (core_of self.new))) }
     {
         self.databases_stand();
         raft_steps_are_kept();
@@ -119,7 +119,7 @@ impl Running {
         requires going { IsGoing self.old }
         requires led { IsLed self.old }
         requires agrees { Agrees (E.known engine.old) self.old.clients self.old.applied.machine }
-        ensures conns { OnOk result (ConnsOn self.old self.new) }
+        ensures conns { OnOk result (StreamsClose self.old self.new) }
         ensures going { OnOk result (IsGoing self.new) }
         ensures stored { StaysStored D.tells (D.states disk.old) (D.states disk.new) self.old.replica self.new.replica result }
         ensures cause { StepCause (D.faults disk.old) (D.faults disk.new) result }
@@ -140,10 +140,10 @@ impl Running {
         ensures stops { (opening : List ServerValue) (start : RunningValue) (event : EventValue) (told : Option Told) →
             Underway (E.meaning (E.kind engine.old)) (E.kind engine.old) (read_setup opening) start self.old event told (E.told engine.old) →
             LeavesBy D.tells (D.states disk.old) (D.states disk.new) self.old.replica result
-            (StopsBy (E.meaning (E.kind engine.old)) (E.kind engine.old) (read_setup opening) start event) }
+            (AccountsForStop (E.meaning (E.kind engine.old)) (E.kind engine.old) (read_setup opening) start event) }
         ensures runs { result ≢ Err fault.Down }
         ensures exact { OnOk result (Answered (E.told engine.old) (E.told engine.new)
-            (RunsBy (E.meaning (E.kind engine.old)) (E.kind engine.old) (core_of self.old) (core_of self.new))) }
+            (ExactTurns (E.meaning (E.kind engine.old)) (E.kind engine.old) (core_of self.old) (core_of self.new))) }
     {
         raft_steps_are_kept();
         for _ in 0..u64::MAX {
@@ -162,7 +162,7 @@ impl Running {
         requires going { IsGoing self.old }
         requires led { IsLed self.old }
         requires agrees { Agrees (E.known engine.old) self.old.clients self.old.applied.machine }
-        ensures conns { OnOk result (ConnsOn self.old self.new) }
+        ensures conns { OnOk result (StreamsClose self.old self.new) }
         ensures going { OnOk result (IsGoing self.new) }
         ensures stored { StaysStored D.tells (D.states disk.old) (D.states disk.new) self.old.replica self.new.replica result }
         ensures cause { StepCause (D.faults disk.old) (D.faults disk.new) result }
@@ -180,7 +180,7 @@ impl Running {
         ensures stops { (opening : List ServerValue) (start : RunningValue) (event : EventValue) (told : Option Told) →
             Underway (E.meaning (E.kind engine.old)) (E.kind engine.old) (read_setup opening) start self.old event told (E.told engine.old) →
             LeavesBy D.tells (D.states disk.old) (D.states disk.new) self.old.replica result
-            (StopsBy (E.meaning (E.kind engine.old)) (E.kind engine.old) (read_setup opening) start event) }
+            (AccountsForStop (E.meaning (E.kind engine.old)) (E.kind engine.old) (read_setup opening) start event) }
         ensures runs { result ≢ Err fault.Down }
         ensures exact { IfOk result (λ more. Answered (E.told engine.old) (E.told engine.new)
             (UnlinkedTurn (E.meaning (E.kind engine.old)) (E.kind engine.old) (core_of self.old) (core_of self.new) more)) }
@@ -207,7 +207,7 @@ impl Running {
         requires led { IsLed self.old }
         requires due { self.old.due.items ≡ [] }
         requires applied { self.old.applied.index ≡ self.old.replica.raft.commit }
-        ensures conns { OnOk result (ConnsOn self.old self.new) }
+        ensures conns { OnOk result (StreamsClose self.old self.new) }
         ensures going { OnOk result (IsGoing self.new) }
         ensures stored { StaysStored D.tells (D.states disk.old) (D.states disk.new) self.old.replica self.new.replica result }
         ensures cause { StepCause (D.faults disk.old) (D.faults disk.new) result }
@@ -224,10 +224,10 @@ impl Running {
         ensures stops { (opening : List ServerValue) (start : RunningValue) (event : EventValue) (told : Option Told) →
             Underway (E.meaning (E.kind engine.old)) (E.kind engine.old) (read_setup opening) start self.old event told (E.told engine.old) →
             LeavesBy D.tells (D.states disk.old) (D.states disk.new) self.old.replica result
-            (StopsBy (E.meaning (E.kind engine.old)) (E.kind engine.old) (read_setup opening) start event) }
+            (AccountsForStop (E.meaning (E.kind engine.old)) (E.kind engine.old) (read_setup opening) start event) }
         ensures runs { result ≢ Err fault.Down }
         ensures exact { IfOk result (λ more. Answered (E.told engine.old) (E.told engine.new)
-            (AttendsBy (E.meaning (E.kind engine.old)) (E.kind engine.old) (core_of self.old) (core_of self.new) more)) }
+            (ExactAttends (E.meaning (E.kind engine.old)) (E.kind engine.old) (core_of self.old) (core_of self.new) more)) }
     {
         raft_turns::<E>();
         raft_steps_are_kept();
@@ -260,11 +260,11 @@ impl Running {
         ensures cause { StepCause (D.faults disk.old) (D.faults disk.new) result }
         ensures led { OnOk result (IsLed self.new) }
         ensures none { IfOk result (λ more. more ≡ false → self.new ≡ self.old) }
-        ensures takes { (opening : List ServerValue) → IfOk result (λ more. more ≡ true → CompactsSo (read_setup opening) self.old self.new) }
+        ensures takes { (opening : List ServerValue) → IfOk result (λ more. more ≡ true → KeepsSnapshot (read_setup opening) self.old self.new) }
         ensures agrees { StaysAgreed self.old self.new }
         ensures runs { result ≢ Err fault.Down }
         // One is taken where one may be, and only there.
-        ensures exact { IfOk result (λ more. CompactsIf (core_of self.old) (core_of self.new) more) }
+        ensures exact { IfOk result (λ more. ExactCompactionIfDue (core_of self.old) (core_of self.new) more) }
     {
         let index = self.applied.index;
         if !self.replica.is_due(index) {
@@ -283,7 +283,7 @@ impl Running {
     }
 
     /// What the step says, taken from it.
-    fn take_outs(&mut self) -> Result<Outs, NodeFault>
+    fn take_outs(&mut self) -> Result<StepOutputs, NodeFault>
         ensures said { IfOk result (λ outs. (outs.replies.items ≡ self.old.outs.replies.items) × (outs.closed.items ≡ self.old.outs.closed.items)) }
         ensures messages { IfOk result (λ outs. outs.messages.items ≡ sent self.old.mail) }
         ensures reads { IfOk result (λ outs. outs.reads.items ≡ self.old.outs.reads.items) }
@@ -291,8 +291,8 @@ impl Running {
         ensures quiet { IsQuiet self.new }
         ensures wants { IfErr result (λ f. f ≡ fault.NoMemory) }
     {
-        let mut outs = mem::replace(&mut self.outs, Outs::new(self.alloc));
-        let mail = mem::replace(&mut self.mail, Mail::new(self.alloc));
+        let mut outs = mem::replace(&mut self.outs, StepOutputs::new(self.alloc));
+        let mail = mem::replace(&mut self.mail, Outgoing::new(self.alloc));
         outs.messages = mail.into_messages()?;
         Ok(outs)
     }

@@ -1,17 +1,17 @@
 //! What a node is for its sessions.
 
 ghost use Rattle.std.specs.Prelude.{◌≡◌, ◌≢◌, ◌++◌, [], ◌∷◌, None, true, false, IfOk, OnOk};
-ghost use Rattle.raft_rules.specs.Node.{Follower};
-ghost use Rattle.raft_rules.specs.NodeValues.{node_of};
+ghost use Rattle.raft_spec.specs.Node.{Follower};
+ghost use Rattle.raft_spec.specs.NodeValues.{node_of};
 ghost use Rattle.node_core.specs.Core.{core_of, evens, looked, showing_servers};
 ghost use Rattle.node_core.specs.Whole.{Holds, InOffice, IsGoing};
 
 use crate::running::Running;
 use dq_base::Items;
-use gateway::{StepLimits, View};
-use node_replica::Replica;
 use raft_core::{RaftRole, RaftView};
-use raft_vote::{Server, Servers};
+use raft_messages::{Server, Servers};
+use raft_on_disk::Replica;
+use session_gateway::{StepLimits, View};
 use std::alloc::{AllocError, Global};
 use std::mem;
 
@@ -72,7 +72,7 @@ pub(crate) fn starting_view(
 fn add_even(even: &mut Vec<u64>, replica: &Replica, server: &Server) -> Result<(), AllocError>
     ensures { OnOk result (even.new.items ≡ even.old.items ++ evens (node_of replica.now.raft) (server.now ∷ [])) }
 {
-    if replica.even(server.id) {
+    if replica.is_caught_up(server.id) {
         even.push(server.id)?;
     }
     Ok(())
@@ -91,7 +91,7 @@ fn refill(even: &mut Vec<u64>, replica: &Replica, servers: &[Server]) -> Result<
 
 impl Running {
     /// What it is for its sessions, after a step of Raft. Refills what it has.
-    #[tactic(auto, unfolding(raft_rules::specs::Log::log_end))]
+    #[tactic(auto, unfolding(raft_spec::specs::Log::log_end))]
     pub(crate) fn look(&mut self) -> Result<(), AllocError>
         requires holds { Holds self.old }
         requires office { InOffice self.old.office self.old.view.serving self.old.replica.raft }

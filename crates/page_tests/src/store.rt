@@ -1,7 +1,7 @@
-ghost use Rattle.checkpoint_core.specs.Store.{IsLive};
+ghost use Rattle.page_store.specs.Store.{IsLive};
 
-use checkpoint_core::*;
 use dq_base::{Bytes, Image, Items, NumberedPage, PageSet, page_at};
+use page_store::*;
 use std::alloc::{AllocError, Global};
 use std::test::Fail;
 

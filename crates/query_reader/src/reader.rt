@@ -1,9 +1,9 @@
 ghost use Rattle.std.specs.Prelude.{◌≡◌, MatchResult};
 ghost use Rattle.sql_engine.specs.Meanings.{Stays};
-ghost use Rattle.session_decisions.specs.declared.job.Read.TheVariants as reads;
+ghost use Rattle.session_outcomes.specs.declared.job.Read.TheVariants as reads;
 ghost use Rattle.query_reader.specs.Answering.{TellsOrBack};
 
-use session_decisions::{Read, ReadJob, run_job};
+use session_outcomes::{Read, ReadJob, run_job};
 use sql_engine::Engine;
 use std::alloc::{AllocError, Global};
 

@@ -3,11 +3,11 @@ use Rattle.std.proofs.Common.{◌≡◌, ℕ, ◌+◌, ◌-◌, ◌≤◌, List,
 use Rattle.std.specs.Prelude.{true, false, ◌&&◌, nat_lt, nat_le, max, min}
 use Rattle.std.proofs.lemmas.Bool.{cond-true, cond-false}
 use Rattle.std.proofs.lemmas.List.{length-drop}
-use Rattle.raft_rules.specs.Log.{Entry, LogEnd, accept, accept_above, first_replaced, first_replaced_above}
-use Rattle.raft_rules.specs.Node.{Follower, Ack, Node, is_leader}
-use Rattle.raft_rules.specs.Outcomes.{says, answer, as_follower, with_log}
-use Rattle.raft_rules.specs.Replication.{agrees, take_entries, replaces_committed, on_append}
-use Rattle.raft_rules.specs.NodeValues.{NodeValue, node_of}
+use Rattle.raft_spec.specs.Log.{Entry, LogEnd, accept, accept_above, first_replaced, first_replaced_above}
+use Rattle.raft_spec.specs.Node.{Follower, Ack, Node, is_leader}
+use Rattle.raft_spec.specs.Outcomes.{says, answer, as_follower, with_log}
+use Rattle.raft_spec.specs.Replication.{agrees, take_entries, replaces_committed, on_append}
+use Rattle.raft_spec.specs.NodeValues.{NodeValue, node_of}
 use Rattle.raft_core.specs.declared.effects.Say.TheVariants as say
 use Rattle.raft_core.specs.declared.effects.Recipients.TheVariants as sent
 use Rattle.raft_core.specs.declared.effects.LogChange.{LogChange}

@@ -3,18 +3,18 @@ use Rattle.std.proofs.Common.{◌≡◌, ℕ, suc, ◌-◌, ◌<◌, ◌≤◌, 
 use Rattle.std.specs.Prelude.{Bool, true, false, ◌&&◌, ◌||◌, ◌==◌, not, nat_lt, nat_le, max, min, if◌then◌else◌, Option, Some, None}
 use Rattle.std.proofs.lemmas.Bool.{cond-true, cond-false, cases_lt, and_parts, leb-true, leb-false, eqb-true, le-leb}
 use Rattle.std.proofs.lemmas.List.{length-drop}
-use Rattle.raft_rules.specs.Log.{Entry, LogEnd, term_at, matches}
-use Rattle.raft_rules.specs.Node.{Node}
-use Rattle.raft_rules.specs.Snapshots.{needs_snapshot}
-use Rattle.raft_rules.specs.Compaction.{CutLog, whole_log}
-use Rattle.raft_rules.specs.NodeValues.{NodeValue, node_of}
-use Rattle.raft_rules.proofs.NodeValues.{whole_length}
+use Rattle.raft_spec.specs.Log.{Entry, LogEnd, term_at, matches}
+use Rattle.raft_spec.specs.Node.{Node}
+use Rattle.raft_spec.specs.Snapshots.{needs_snapshot}
+use Rattle.raft_spec.specs.Compaction.{CutLog, whole_log}
+use Rattle.raft_spec.specs.NodeValues.{NodeValue, node_of}
+use Rattle.raft_spec.proofs.NodeValues.{whole_length}
 use Rattle.raft_log.specs.Places.{known_term, place_at, cut_at}
 use Rattle.raft_log.proofs.Places.{whole_count}
 use Rattle.raft_snapshot.specs.declared.InstallPlan.{InstallPlan}
 use Rattle.raft_snapshot.specs.declared.InstallPlan.TheVariants as plans
 use Rattle.raft_snapshot.specs.Compacting.{needs, has_that_term, plan_for}
-use Rattle.raft_world.proofs.Alikes.{same_term}
+use Rattle.raft_safety.proofs.Alikes.{same_term}
 use Rattle.raft_core.specs.Nodes.{IsLog}
 use Rattle.raft_core.specs.Steps.{PlansFor}
 use Rattle.raft_core.proofs.WholeLogs.{log_with, log_same}

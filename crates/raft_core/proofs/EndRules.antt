@@ -3,18 +3,18 @@ use Rattle.std.proofs.Common.{◌≡◌, ℕ, ◌-◌, ◌<◌, ◌≤◌, List,
 use Rattle.std.specs.Prelude.{true, false, ◌&&◌, nat_lt, nat_le, max, map}
 use Rattle.std.proofs.lemmas.Bool.{cond-true, cond-false}
 use Rattle.std.proofs.lemmas.List.{drop_all}
-use Rattle.raft_rules.specs.Log.{Entry, LogEnd, term_at, matches}
-use Rattle.raft_rules.specs.Node.{Follower, What, AskVote, Vote, Append, Ack, Install, TimeoutNow, Message, Node, Outcome, voters, is_leader}
-use Rattle.raft_rules.specs.Outcomes.{quiet, says, answer, as_follower}
-use Rattle.raft_rules.specs.Snapshots.{installed, on_install, on_snapped}
-use Rattle.raft_rules.specs.Steps.{finish}
-use Rattle.raft_rules.specs.Compaction.{compacted, compact, compact_what, compact_message, with_whole_log}
-use Rattle.raft_rules.specs.NodeValues.{NodeValue, node_of}
-use Rattle.raft_rules.proofs.NodeValues.{compacted_length, compact_node}
-use Rattle.raft_world.specs.Cuts.{Same, AlikeWhat, AlikeMessage, AlikeAll}
-use Rattle.raft_world.proofs.AlikeRules.{Shape, Alike, always}
-use Rattle.raft_world.proofs.AlikeSteps.{finish_alike}
-use Rattle.raft_world.proofs.Cuts.{forget_same}
+use Rattle.raft_spec.specs.Log.{Entry, LogEnd, term_at, matches}
+use Rattle.raft_spec.specs.Node.{Follower, What, AskVote, Vote, Append, Ack, Install, TimeoutNow, Message, Node, Outcome, voters, is_leader}
+use Rattle.raft_spec.specs.Outcomes.{quiet, says, answer, as_follower}
+use Rattle.raft_spec.specs.Snapshots.{installed, on_install, on_snapped}
+use Rattle.raft_spec.specs.Steps.{finish}
+use Rattle.raft_spec.specs.Compaction.{compacted, compact, compact_what, compact_message, with_whole_log}
+use Rattle.raft_spec.specs.NodeValues.{NodeValue, node_of}
+use Rattle.raft_spec.proofs.NodeValues.{compacted_length, compact_node}
+use Rattle.raft_safety.specs.Cuts.{Same, AlikeWhat, AlikeMessage, AlikeAll}
+use Rattle.raft_safety.proofs.AlikeRules.{Shape, Alike, always}
+use Rattle.raft_safety.proofs.AlikeSteps.{finish_alike}
+use Rattle.raft_safety.proofs.Cuts.{forget_same}
 use Rattle.raft_core.specs.declared.effects.Say.TheVariants as say
 use Rattle.raft_core.specs.declared.effects.Recipients.TheVariants as sent
 use Rattle.raft_core.specs.declared.effects.LogChange.TheVariants as changes

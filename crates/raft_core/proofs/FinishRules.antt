@@ -3,28 +3,28 @@ use Rattle.std.proofs.Common.{◌≡◌, ℕ, ◌+◌, ◌-◌, ◌<◌, ◌≤�
 use Rattle.std.specs.Prelude.{slice_index_or, Bool, true, false, cond, ◌&&◌, ◌==◌, nat_lt, nat_le, if◌then◌else◌, Some, None, map}
 use Rattle.std.proofs.lemmas.Bool.{cond-true, cond-false, and_cases, leb-false, cases_lt}
 use Rattle.std.proofs.lemmas.List.{map-append, take_more}
-use Rattle.raft_rules.specs.Log.{Entry, LogEnd, term_at}
-use Rattle.raft_rules.specs.Node.{AskVote, Append, Install, Message, Outcome, Recipients, Everyone, others, voters, is_leader}
-use Rattle.raft_rules.specs.Commitment.{commit_index, commit_below, commit_up_to}
-use Rattle.raft_rules.specs.Snapshots.{needs_snapshot}
-use Rattle.raft_rules.specs.Steps.{message_to, receivers, sends, finish}
-use Rattle.raft_rules.specs.Progress.{LeaderProgress, next_in, match_in, commit_of}
-use Rattle.raft_rules.specs.Compaction.{CutLog, compacted, whole_log, compact, compact_what, compact_message}
-use Rattle.raft_rules.specs.NodeValues.{NodeValue, node_of}
-use Rattle.raft_rules.proofs.NodeValues.{compact_node, whole_length}
+use Rattle.raft_spec.specs.Log.{Entry, LogEnd, term_at}
+use Rattle.raft_spec.specs.Node.{AskVote, Append, Install, Message, Outcome, Recipients, Everyone, others, voters, is_leader}
+use Rattle.raft_spec.specs.Commitment.{commit_index, commit_below, commit_up_to}
+use Rattle.raft_spec.specs.Snapshots.{needs_snapshot}
+use Rattle.raft_spec.specs.Steps.{message_to, receivers, sends, finish}
+use Rattle.raft_spec.specs.Progress.{LeaderProgress, next_in, match_in, commit_of}
+use Rattle.raft_spec.specs.Compaction.{CutLog, compacted, whole_log, compact, compact_what, compact_message}
+use Rattle.raft_spec.specs.NodeValues.{NodeValue, node_of}
+use Rattle.raft_spec.proofs.NodeValues.{compact_node, whole_length}
 use Rattle.raft_log.specs.Places.{known_term}
 use Rattle.raft_log.proofs.PeerTables.{others_append}
-use Rattle.raft_world.specs.Cuts.{Same}
-use Rattle.raft_world.proofs.Logs.{term_at-zero, term_at-past}
-use Rattle.raft_world.proofs.Alikes.{same_at}
-use Rattle.raft_world.proofs.AlikeSteps.{index_alike, bounds}
+use Rattle.raft_safety.specs.Cuts.{Same}
+use Rattle.raft_safety.proofs.Logs.{term_at-zero, term_at-past}
+use Rattle.raft_safety.proofs.Alikes.{same_at}
+use Rattle.raft_safety.proofs.AlikeSteps.{index_alike, bounds}
 use Rattle.raft_core.specs.declared.effects.Say.{Say}
 use Rattle.raft_core.specs.declared.effects.Say.TheVariants as say
 use Rattle.raft_core.specs.declared.effects.Recipients.{Recipients as SentTo}
 use Rattle.raft_core.specs.declared.effects.LogChange.TheVariants as changes
 use Rattle.raft_core.specs.declared.effects.Effects.{Effects}
 use Rattle.raft_core.specs.Effects.{message_in, said_in, said, recipients_value, outcome_of}
-use Rattle.raft_core.specs.declared.sending.Sending.{Sending}
+use Rattle.raft_core.specs.declared.sending.Outgoing.{Outgoing}
 use Rattle.raft_core.specs.Messages.{sents_value}
 use Rattle.raft_core.specs.Nodes.{IsLog, told}
 use Rattle.raft_core.specs.Steps.{compact_outcome}
@@ -165,7 +165,7 @@ leader_out h now e first out moved to l is begin m t o =
     ∙ ap (λ (d : Outcome). map compact_message d.out) (sym (ends_sending h e l))
 
 -- so of what the code sends
-pub leader_sends : (h now : NodeValue) (e : Effects) (olds news : List Sending) (moved : Bool) (to : Recipients) → is_leader h.role ≡ true → now ≡ advanced h → sents_value h.id olds ≡ said h e.say → moved ≡ nat_lt h.commit now.commit → to ≡ cond moved Everyone (recipients_value e.recipients) → sents_value now.id news ≡ sents_value now.id olds ++ map (λ p. compact_message (message_to now.id (node_of now) p)) (receivers now.id (node_of now) to) → sents_value h.id news ≡ (compact_outcome (finish (told h) h.id (outcome_of h e))).out
+pub leader_sends : (h now : NodeValue) (e : Effects) (olds news : List Outgoing) (moved : Bool) (to : Recipients) → is_leader h.role ≡ true → now ≡ advanced h → sents_value h.id olds ≡ said h e.say → moved ≡ nat_lt h.commit now.commit → to ≡ cond moved Everyone (recipients_value e.recipients) → sents_value now.id news ≡ sents_value now.id olds ++ map (λ p. compact_message (message_to now.id (node_of now) p)) (receivers now.id (node_of now) to) → sents_value h.id news ≡ (compact_outcome (finish (told h) h.id (outcome_of h e))).out
 leader_sends h now e olds news moved to l is begin m t o =
     let same : now.id ≡ h.id = ap (λ (n : NodeValue). n.id) is in
     ap (λ n. sents_value n news) (sym same) ∙ leader_out h now e (sents_value now.id olds) (sents_value now.id news) moved to l is (ap (λ n. sents_value n olds) same ∙ begin) m t o

@@ -3,14 +3,14 @@ use Rattle.std.proofs.Common.{◌≡◌, ℕ, suc, ◌-◌, ◌<◌, List, [], �
 use Rattle.std.specs.Prelude.{Bool, true, false, cond, not, ◌&&◌, ◌==◌, nat_lt, nat_le, max, min}
 use Rattle.std.proofs.lemmas.Bool.{cond-true, cond-false, eq-eqb, eqb-true, eqb-false}
 use Rattle.std.proofs.lemmas.List.{length-map}
-use Rattle.raft_rules.specs.Log.{Entry}
-use Rattle.raft_rules.specs.Node.{Node, Nobody, Everyone, Only, among, peers, is_leader}
-use Rattle.raft_rules.specs.Outcomes.{sends_to, with_log, with_progress, updated, with_term}
-use Rattle.raft_rules.specs.Replication.{on_ack, on_propose, on_beat, on_transfer}
-use Rattle.raft_rules.specs.Progress.{PeerProgress, next_in, match_in, ids_in, ProgressTable, progress_of, after_ack}
-use Rattle.raft_rules.specs.NodeValues.{NodeValue, node_of}
-use Rattle.raft_rules.specs.Compaction.{compacted}
-use Rattle.raft_rules.proofs.NodeValues.{whole_length}
+use Rattle.raft_spec.specs.Log.{Entry}
+use Rattle.raft_spec.specs.Node.{Node, Nobody, Everyone, Only, among, peers, is_leader}
+use Rattle.raft_spec.specs.Outcomes.{sends_to, with_log, with_progress, updated, with_term}
+use Rattle.raft_spec.specs.Replication.{on_ack, on_propose, on_beat, on_transfer}
+use Rattle.raft_spec.specs.Progress.{PeerProgress, next_in, match_in, ids_in, ProgressTable, progress_of, after_ack}
+use Rattle.raft_spec.specs.NodeValues.{NodeValue, node_of}
+use Rattle.raft_spec.specs.Compaction.{compacted}
+use Rattle.raft_spec.proofs.NodeValues.{whole_length}
 use Rattle.raft_core.specs.declared.effects.Say.TheVariants as say
 use Rattle.raft_core.specs.declared.effects.Recipients.{Recipients as SentTo}
 use Rattle.raft_core.specs.declared.effects.Recipients.TheVariants as sent

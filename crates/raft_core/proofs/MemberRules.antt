@@ -5,16 +5,16 @@ use Rattle.std.specs.List.{filter}
 use Rattle.std.proofs.lemmas.Bool.{cond-true, cond-false}
 use Rattle.std.proofs.lemmas.List.{map-append, take_more}
 use Rattle.std.proofs.lemmas.List.Elements.{filter-append}
-use Rattle.raft_rules.specs.Node.{Server, Node, Outcome, Only, among, others, voters, peers, is_leader}
-use Rattle.raft_rules.specs.Outcomes.{quiet, sends_to}
-use Rattle.raft_rules.specs.Membership.{gained, next_among, match_among, with_servers, on_servers}
-use Rattle.raft_rules.specs.Steps.{message_to, sends, serve}
-use Rattle.raft_rules.specs.Progress.{LeaderProgress, next_in, match_in, ids_in, rows_for}
-use Rattle.raft_rules.specs.Compaction.{compact, compact_message}
-use Rattle.raft_rules.specs.NodeValues.{NodeValue, node_of}
-use Rattle.raft_rules.proofs.NodeValues.{compact_node}
-use Rattle.raft_rules.proofs.ProgressPeers.{next_rows_for, match_rows_for, match_none}
-use Rattle.raft_core.specs.declared.sending.Sending.{Sending}
+use Rattle.raft_spec.specs.Node.{Server, Node, Outcome, Only, among, others, voters, peers, is_leader}
+use Rattle.raft_spec.specs.Outcomes.{quiet, sends_to}
+use Rattle.raft_spec.specs.Membership.{gained, next_among, match_among, with_servers, on_servers}
+use Rattle.raft_spec.specs.Steps.{message_to, sends, serve}
+use Rattle.raft_spec.specs.Progress.{LeaderProgress, next_in, match_in, ids_in, rows_for}
+use Rattle.raft_spec.specs.Compaction.{compact, compact_message}
+use Rattle.raft_spec.specs.NodeValues.{NodeValue, node_of}
+use Rattle.raft_spec.proofs.NodeValues.{compact_node}
+use Rattle.raft_spec.proofs.ProgressPeers.{next_rows_for, match_rows_for, match_none}
+use Rattle.raft_core.specs.declared.sending.Outgoing.{Outgoing}
 use Rattle.raft_core.specs.Messages.{sents_value}
 use Rattle.raft_core.specs.Steps.{compact_outcome}
 use Rattle.raft_core.proofs.PeerLists.{peers_again}
@@ -100,7 +100,7 @@ serve_out_quiet h servers l = ap (λ (d : Outcome). map compact_message d.out) (
 pub serve_node_leads : (h now : NodeValue) (servers : List Server) → is_leader h.role ≡ true → ids_in h.rows ≡ peers h.servers h.id → now ≡ holds_servers h servers → node_of now ≡ (compact_outcome (serve h.id (on_servers h.id (node_of h) servers))).node
 serve_node_leads h now servers l ids is = node_told h now servers ids is ∙ ap (λ (d : Outcome). compact d.node) (sym (served_sends h.id (node_of h) servers l))
 
-pub serve_out_leads : (h now : NodeValue) (servers : List Server) (olds news : List Sending) (to : List ℕ) → is_leader h.role ≡ true → ids_in h.rows ≡ peers h.servers h.id → now ≡ holds_servers h servers → olds ≡ [] → to ≡ gained (peers h.servers h.id) (peers servers h.id) → sents_value now.id news ≡ sents_value now.id olds ++ map (λ p. compact_message (message_to now.id (node_of now) p)) to → sents_value h.id news ≡ (compact_outcome (serve h.id (on_servers h.id (node_of h) servers))).out
+pub serve_out_leads : (h now : NodeValue) (servers : List Server) (olds news : List Outgoing) (to : List ℕ) → is_leader h.role ≡ true → ids_in h.rows ≡ peers h.servers h.id → now ≡ holds_servers h servers → olds ≡ [] → to ≡ gained (peers h.servers h.id) (peers servers h.id) → sents_value now.id news ≡ sents_value now.id olds ++ map (λ p. compact_message (message_to now.id (node_of now) p)) to → sents_value h.id news ≡ (compact_outcome (serve h.id (on_servers h.id (node_of h) servers))).out
 serve_out_leads h now servers olds news to l ids is none who o =
     let same : now.id ≡ h.id = ap (λ (n : NodeValue). n.id) is in
     let ps = gained (peers h.servers h.id) (peers servers h.id) in

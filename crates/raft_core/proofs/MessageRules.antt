@@ -2,9 +2,9 @@
 use Rattle.std.proofs.Common.{◌≡◌, ℕ, ◌<◌, [], refl, sym, ap, subst, ◌∙◌}
 use Rattle.std.specs.Prelude.{Bool, true, false, cond, ◌&&◌, nat_lt}
 use Rattle.std.proofs.lemmas.Bool.{cond-true, cond-false, and_parts, lt-ltb}
-use Rattle.raft_rules.specs.Node.{Message, Outcome, Follower}
-use Rattle.raft_rules.specs.Receiving.{fits_the_wire, what_in_range, in_range, on_older_term, on_own_term, on_message}
-use Rattle.raft_rules.specs.NodeValues.{NodeValue, node_of}
+use Rattle.raft_spec.specs.Node.{Message, Outcome, Follower}
+use Rattle.raft_spec.specs.Receiving.{fits_the_wire, what_in_range, in_range, on_older_term, on_own_term, on_message}
+use Rattle.raft_spec.specs.NodeValues.{NodeValue, node_of}
 use Rattle.raft_core.specs.declared.effects.Say.TheVariants as say
 use Rattle.raft_core.specs.declared.effects.Effects.{Effects}
 use Rattle.raft_core.specs.Effects.{Does}

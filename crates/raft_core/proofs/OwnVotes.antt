@@ -2,10 +2,10 @@
 use Rattle.std.proofs.Common.{◌≡◌, ℕ, ◌<◌, refl, ap, ◌∙◌, arith}
 use Rattle.std.specs.Prelude.{Bool, true, false, cond, not, ◌&&◌, nat_lt, []}
 use Rattle.std.proofs.lemmas.Bool.{cond-false, ltb-true}
-use Rattle.raft_rules.specs.Log.{LogEnd}
-use Rattle.raft_rules.specs.Elections.{may_grant}
-use Rattle.raft_rules.specs.Votes.{Votes, after_term, grants_request, after_request}
-use Rattle.raft_rules.specs.NodeValues.{NodeValue}
+use Rattle.raft_spec.specs.Log.{LogEnd}
+use Rattle.raft_spec.specs.Elections.{may_grant}
+use Rattle.raft_spec.specs.Votes.{Votes, after_term, grants_request, after_request}
+use Rattle.raft_spec.specs.NodeValues.{NodeValue}
 
 not_below : (t : ℕ) → nat_lt t t ≡ false
 not_below t = at (nat_lt t t) (λ e. let lt : t < t = ltb-true t t e in omega arith)

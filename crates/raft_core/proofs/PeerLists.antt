@@ -4,8 +4,8 @@ use Rattle.std.specs.Prelude.{Bool, true, false, cond, not, ◌==◌, map, nat_l
 use Rattle.std.specs.List.{filter}
 use Rattle.std.proofs.lemmas.List.{length-map}
 use Rattle.std.proofs.lemmas.List.Sums.{length-filter, count_by-le-length}
-use Rattle.raft_rules.specs.Node.{Server, others, voters, peers}
-use Rattle.raft_rules.specs.Progress.{LeaderProgress, rows_for}
+use Rattle.raft_spec.specs.Node.{Server, others, voters, peers}
+use Rattle.raft_spec.specs.Progress.{LeaderProgress, rows_for}
 use Rattle.raft_log.proofs.PeerTables.{rows_none}
 
 filtered : (f : ℕ → Bool) (xs : List ℕ) → filter f (filter f xs) ≡ filter f xs

@@ -2,9 +2,9 @@
 use Rattle.std.proofs.Common.{◌≡◌, ◌⊎◌, inl, inr, ℕ, length, refl, sym, ap, ◌∙◌, ⊎_elim}
 use Rattle.std.specs.Prelude.{Bool, true, false, not, ◌&&◌, ◌==◌, nat_le, if◌then◌else◌, Some, None}
 use Rattle.std.proofs.lemmas.Bool.{and_cases, not-false, leb-true, eqb-true, eqb-false}
-use Rattle.raft_rules.specs.Log.{LogEnd, term_at}
-use Rattle.raft_rules.specs.Compaction.{whole_log}
-use Rattle.raft_rules.specs.NodeValues.{NodeValue, node_of}
+use Rattle.raft_spec.specs.Log.{LogEnd, term_at}
+use Rattle.raft_spec.specs.Compaction.{whole_log}
+use Rattle.raft_spec.specs.NodeValues.{NodeValue, node_of}
 use Rattle.raft_log.specs.Places.{known_term}
 use Rattle.raft_core.specs.Nodes.{IsLog}
 use Rattle.raft_core.specs.Queries.{forgets_at, known_at}

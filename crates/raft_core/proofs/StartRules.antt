@@ -1,16 +1,16 @@
 -- A node that starts.
 use Rattle.std.proofs.Common.{◌≡◌, ℕ, suc, ◌+◌, ◌-◌, ◌<◌, ◌≤◌, List, [], length, refl, sym, ap, subst, ◌∙◌, arith}
 use Rattle.std.specs.Prelude.{Bool, true, false, cond}
-use Rattle.raft_rules.specs.Log.{Entry, LogEnd}
-use Rattle.raft_rules.specs.Node.{Server, Follower, among, others, voters, peers}
-use Rattle.raft_rules.specs.Account.{loaded}
-use Rattle.raft_rules.specs.Compaction.{CutLog}
-use Rattle.raft_rules.specs.Progress.{LeaderProgress, next_in, match_in, ids_in, rows_for}
-use Rattle.raft_rules.specs.NodeValues.{NodeValue, node_of}
-use Rattle.raft_rules.proofs.ProgressPeers.{ids_rows_for, next_rows_for, match_rows_for}
+use Rattle.raft_spec.specs.Log.{Entry, LogEnd}
+use Rattle.raft_spec.specs.Node.{Server, Follower, among, others, voters, peers}
+use Rattle.raft_spec.specs.Account.{loaded}
+use Rattle.raft_spec.specs.Compaction.{CutLog}
+use Rattle.raft_spec.specs.Progress.{LeaderProgress, next_in, match_in, ids_in, rows_for}
+use Rattle.raft_spec.specs.NodeValues.{NodeValue, node_of}
+use Rattle.raft_spec.proofs.ProgressPeers.{ids_rows_for, next_rows_for, match_rows_for}
 use Rattle.raft_log.proofs.PeerTables.{rows_none}
-use Rattle.raft_vote.specs.Servers.{IsConfiguration}
-use Rattle.raft_core.specs.declared.event.Kept2.{Kept2}
+use Rattle.raft_messages.specs.Servers.{IsConfiguration}
+use Rattle.raft_core.specs.declared.event.StoredRaft.{StoredRaft}
 use Rattle.raft_core.specs.Nodes.{IsLog, IsMembership}
 use Rattle.raft_core.specs.Starting.{snapshot_in, stored_in}
 use Rattle.raft_core.proofs.PeerLists.{peers_again}
@@ -40,7 +40,7 @@ starts_members servers copies id voting sent p same config v s is =
     })
 
 -- its value
-abbrev pub started : ℕ → List Server → Kept2 → List ℕ → NodeValue
+abbrev pub started : ℕ → List Server → StoredRaft → List ℕ → NodeValue
 started id servers kept sent = record {
   id = id;
   term = kept.term;
@@ -57,7 +57,7 @@ started id servers kept sent = record {
 }
 
 -- is that of the rules' node that has loaded as much
-pub starts_node : (id : ℕ) (servers : List Server) (kept : Kept2) (sent : List ℕ) → node_of (started id servers kept sent) ≡ loaded true servers (stored_in kept)
+pub starts_node : (id : ℕ) (servers : List Server) (kept : StoredRaft) (sent : List ℕ) → node_of (started id servers kept sent) ≡ loaded true servers (stored_in kept)
 starts_node id servers kept sent = λ k. record (loaded true servers (stored_in kept)) { next_of = λ p. next_is p k; match_of = λ p. match_is p k }
   where
     same : (b : Bool) (z : ℕ) → cond b z z ≡ z

@@ -2,30 +2,30 @@
 use Rattle.std.proofs.Common.{◌≡◌, ◌⊎◌, inl, inr, ℕ, ◌<◌, ◌≤◌, List, [], ◌∷◌, length, refl, sym, ap, subst, ◌∙◌, ⊎_elim, arith}
 use Rattle.std.specs.Prelude.{Option, Some, None, option_map, map}
 use Rattle.std.specs.List.{AllByRecursion}
-use Rattle.raft_rules.specs.Log.{LogEnd}
-use Rattle.raft_rules.specs.Node as rules
-use Rattle.raft_rules.specs.Elections.{start_election}
-use Rattle.raft_rules.specs.Replication.{on_propose, on_beat, on_transfer}
-use Rattle.raft_rules.specs.Receiving.{on_message}
-use Rattle.raft_rules.specs.Steps.{raft_step, finish, serve}
-use Rattle.raft_rules.specs.Membership.{on_servers}
-use Rattle.raft_rules.specs.Compaction.{compacted_step, compact_what, compact_message}
-use Rattle.raft_rules.specs.Laws.{BringsSnapshot}
-use Rattle.raft_rules.specs.Todo.{IsLogWrite}
-use Rattle.raft_rules.specs.NodeValues.{NodeValue, node_of}
-use Rattle.raft_rules.proofs.NodeValues.{compacted_length}
-use Rattle.raft_rules.proofs.SnapshotEnds.{message_snapshot, stands_snapshot, proposes_snapshot, beats_snapshot, hands_snapshot, ends_snapshot}
-use Rattle.raft_vote.specs.declared.message.Snapshot.{Snapshot}
-use Rattle.raft_vote.specs.declared.message.What.{What}
-use Rattle.raft_vote.specs.declared.message.What.TheVariants as whats
-use Rattle.raft_vote.specs.Messages.{snapshot_end, what_value, message_value}
+use Rattle.raft_spec.specs.Log.{LogEnd}
+use Rattle.raft_spec.specs.Node as rules
+use Rattle.raft_spec.specs.Elections.{start_election}
+use Rattle.raft_spec.specs.Replication.{on_propose, on_beat, on_transfer}
+use Rattle.raft_spec.specs.Receiving.{on_message}
+use Rattle.raft_spec.specs.Steps.{raft_step, finish, serve}
+use Rattle.raft_spec.specs.Membership.{on_servers}
+use Rattle.raft_spec.specs.Compaction.{compacted_step, compact_what, compact_message}
+use Rattle.raft_spec.specs.Laws.{BringsSnapshot}
+use Rattle.raft_spec.specs.Todo.{IsLogWrite}
+use Rattle.raft_spec.specs.NodeValues.{NodeValue, node_of}
+use Rattle.raft_spec.proofs.NodeValues.{compacted_length}
+use Rattle.raft_spec.proofs.SnapshotEnds.{message_snapshot, stands_snapshot, proposes_snapshot, beats_snapshot, hands_snapshot, ends_snapshot}
+use Rattle.raft_messages.specs.declared.message.Snapshot.{Snapshot}
+use Rattle.raft_messages.specs.declared.message.MessageBody.{MessageBody}
+use Rattle.raft_messages.specs.declared.message.MessageBody.TheVariants as whats
+use Rattle.raft_messages.specs.Messages.{snapshot_end, what_value, message_value}
 use Rattle.raft_core.specs.declared.event.RaftEvent.{RaftEvent}
 use Rattle.raft_core.specs.declared.event.RaftEvent.TheVariants as events
 use Rattle.raft_core.specs.declared.effects.Effects.{Effects}
 use Rattle.raft_core.specs.declared.effects.LogChange.{LogChange}
 use Rattle.raft_core.specs.declared.effects.LogChange.TheVariants as changes
-use Rattle.raft_core.specs.declared.sending.Sending.{Sending}
-use Rattle.raft_core.specs.declared.sending.Sending.TheVariants as sendings
+use Rattle.raft_core.specs.declared.sending.Outgoing.{Outgoing}
+use Rattle.raft_core.specs.declared.sending.Outgoing.TheVariants as sendings
 use Rattle.raft_core.specs.Effects.{outcome_of, ChangesLog}
 use Rattle.raft_core.specs.Events.{input_of, IsRuled, rule_at, ChangesAt, brought, offered, first_at, kept_at, IsOffered, WritesLog}
 use Rattle.raft_core.specs.Messages.{IsBare, IsBareWhat, sent_what, sent_value, sents_value, sending_value, sendings_value}
@@ -55,7 +55,7 @@ ended h now event e r x = (λ k. compact_outcome (finish (λ log. rules.voters (
 pub step_node : (h now : NodeValue) (event : RaftEvent) (e : Effects) (node : rules.Node) → IsRuled event → Ends h (rule_at h event) now e → node ≡ (compact_outcome (finish (told now) now.id (outcome_of now e))).node → node ≡ (compacted_step h.id (node_of h) (input_of event)).node
 step_node h now event e node r x is = is ∙ ap (λ (d : rules.Outcome). d.node) (ended h now event e r x)
 
-pub step_sends : (h now : NodeValue) (event : RaftEvent) (e : Effects) (sends : List Sending) → IsRuled event → Ends h (rule_at h event) now e → sents_value now.id sends ≡ (compact_outcome (finish (told now) now.id (outcome_of now e))).out → sents_value h.id sends ≡ (compacted_step h.id (node_of h) (input_of event)).out
+pub step_sends : (h now : NodeValue) (event : RaftEvent) (e : Effects) (sends : List Outgoing) → IsRuled event → Ends h (rule_at h event) now e → sents_value now.id sends ≡ (compact_outcome (finish (told now) now.id (outcome_of now e))).out → sents_value h.id sends ≡ (compacted_step h.id (node_of h) (input_of event)).out
 step_sends h now event e sends r x is = ap (λ n. sents_value n sends) (sym x.id) ∙ is ∙ ap (λ (d : rules.Outcome). d.out) (ended h now event e r x)
 
 -- ---- what is to be kept
@@ -70,7 +70,7 @@ stays : (h now : NodeValue) (d : rules.Outcome) (e : Effects) → Ends h d now e
 stays h now d e y = sym (ends_snapshot (told h) h.id (outcome_of now e)) ∙ ap (λ (o : rules.Outcome). o.node.snapshot) (sym y.same) ∙ ends_snapshot (told h) h.id d
 
 -- a message brings the snapshot with this end
-brings : (w : What) (end : LogEnd) → BringsSnapshot (what_value w) end → option_map snapshot_end (brought w) ≡ Some end
+brings : (w : MessageBody) (end : LogEnd) → BringsSnapshot (what_value w) end → option_map snapshot_end (brought w) ≡ Some end
 brings (whats.Install snapshot) end b = ap (λ l. Some l) (sym b)
 brings (whats.AskVote l) end b = absurd b
 brings (whats.Vote granted) end b = absurd b
@@ -168,7 +168,7 @@ same_size (rules.Append prev commit entries) = refl
 same_size (rules.Ack good index) = refl
 same_size rules.TimeoutNow = refl
 
-bare_what : (w : What) (v : rules.What) → sent_what w ≡ compact_what v → IsBareWhat w × (what_value w ≡ compact_what v)
+bare_what : (w : MessageBody) (v : rules.What) → sent_what w ≡ compact_what v → IsBareWhat w × (what_value w ≡ compact_what v)
 bare_what (whats.Install snapshot) v e = absurd (let a = ap front_size e in let b = ap end_size e in let c = same_size v in omega arith)
 bare_what (whats.AskVote last) v e = (tt, e)
 bare_what (whats.Vote granted) v e = (tt, e)
@@ -176,7 +176,7 @@ bare_what (whats.Append prev commit entries) v e = (tt, e)
 bare_what (whats.Ack good index) v e = (tt, e)
 bare_what whats.TimeoutNow v e = (tt, e)
 
-bare_one : (me : ℕ) (s : Sending) (m : rules.Message) → sent_value me s ≡ compact_message m → IsBare s × (sending_value me s ≡ compact_message m)
+bare_one : (me : ℕ) (s : Outgoing) (m : rules.Message) → sent_value me s ≡ compact_message m → IsBare s × (sending_value me s ≡ compact_message m)
 bare_one me (sendings.Message message) m e =
     let w = bare_what message.what m.what (ap (λ (x : rules.Message). x.what) e) in
     (w.0, λ k. record { from = (e k).from; to = (e k).to; term = (e k).term; what = w.1 k })
@@ -190,7 +190,7 @@ tail_of : List rules.Message → List rules.Message
 tail_of [] = []
 tail_of (x ∷ xs) = xs
 
-all_bare : (me : ℕ) (sends : List Sending) (ms : List rules.Message) → sents_value me sends ≡ map compact_message ms → AllByRecursion IsBare sends × (sendings_value me sends ≡ map compact_message ms)
+all_bare : (me : ℕ) (sends : List Outgoing) (ms : List rules.Message) → sents_value me sends ≡ map compact_message ms → AllByRecursion IsBare sends × (sendings_value me sends ≡ map compact_message ms)
 unfolding head_or tail_of
 all_bare me [] [] e = (tt, refl)
 all_bare me [] (m ∷ ms) e = absurd cc
@@ -201,6 +201,6 @@ all_bare me (s ∷ sends) (m ∷ ms) e =
     ((one.0, rest.0), λ k. one.1 k ∷ rest.1 k)
 
 -- so of a whole step
-pub step_bare : (h : NodeValue) (event : RaftEvent) (sends : List Sending) → sents_value h.id sends ≡ (compacted_step h.id (node_of h) (input_of event)).out → AllByRecursion IsBare sends × (sendings_value h.id sends ≡ (compacted_step h.id (node_of h) (input_of event)).out)
+pub step_bare : (h : NodeValue) (event : RaftEvent) (sends : List Outgoing) → sents_value h.id sends ≡ (compacted_step h.id (node_of h) (input_of event)).out → AllByRecursion IsBare sends × (sendings_value h.id sends ≡ (compacted_step h.id (node_of h) (input_of event)).out)
 unfolding compacted_step
 step_bare h event sends e = all_bare h.id sends (raft_step (λ log. rules.voters h.servers) h.id (node_of h) (input_of event)).out e

@@ -4,21 +4,21 @@ use Rattle.std.specs.Prelude.{Bool, true, false, cond, ◌&&◌, ◌||◌, ◌==
 use Rattle.std.proofs.lemmas.Bool.{cond-false, cases_lt, and_cases, ltb-false, leb-true, leb-false, le-leb, ne_eqb}
 use Rattle.std.proofs.lemmas.List.{take_all, length-take-le}
 use Rattle.std.proofs.Math.Seq.{take-append-add, drop-append-add}
-use Rattle.raft_rules.specs.Log.{Entry, LogEnd, nth_term, term_at, matches, conflict_place, first_replaced}
-use Rattle.raft_rules.specs.Todo.{Begins}
-use Rattle.raft_rules.specs.Node.{Node}
-use Rattle.raft_rules.specs.Outcomes.{with_log}
-use Rattle.raft_rules.specs.Replication.{agrees}
-use Rattle.raft_rules.specs.Compaction.{CutLog, compacted, whole_log, meets}
-use Rattle.raft_rules.specs.NodeValues.{NodeValue, node_of}
-use Rattle.raft_rules.proofs.AcceptPlaces.{accept_past_cut, starts, nth_dropped, nth_next}
-use Rattle.raft_rules.proofs.NodeValues.{compacted_length, whole_length}
+use Rattle.raft_spec.specs.Log.{Entry, LogEnd, nth_term, term_at, matches, conflict_place, first_replaced}
+use Rattle.raft_spec.specs.Todo.{Begins}
+use Rattle.raft_spec.specs.Node.{Node}
+use Rattle.raft_spec.specs.Outcomes.{with_log}
+use Rattle.raft_spec.specs.Replication.{agrees}
+use Rattle.raft_spec.specs.Compaction.{CutLog, compacted, whole_log, meets}
+use Rattle.raft_spec.specs.NodeValues.{NodeValue, node_of}
+use Rattle.raft_spec.proofs.AcceptPlaces.{accept_past_cut, starts, nth_dropped, nth_next}
+use Rattle.raft_spec.proofs.NodeValues.{compacted_length, whole_length}
 use Rattle.raft_log.specs.Agreeing.{agreeing_front, TakesIn, TakesAfter}
 use Rattle.raft_log.proofs.Agreeing.{front_short, front_stops, front_conflict}
 use Rattle.raft_log.proofs.Taking.{entries_taken}
-use Rattle.raft_world.proofs.Alikes.{same_term, same_drop}
-use Rattle.raft_vote.proofs.Grants.{or_cases}
-use Rattle.raft_world.proofs.AlikeRules.{Shape}
+use Rattle.raft_safety.proofs.Alikes.{same_term, same_drop}
+use Rattle.raft_messages.proofs.Grants.{or_cases}
+use Rattle.raft_safety.proofs.AlikeRules.{Shape}
 use Rattle.raft_core.specs.Effects.{ChangesLog, Takes, change_from}
 use Rattle.raft_core.specs.Nodes.{IsLog}
 use Rattle.raft_core.proofs.WholeLogs.{log_with, log_same}

@@ -2,15 +2,15 @@
 use Rattle.std.proofs.Common.{◌≡◌, ℕ, suc, ◌<◌, List, [], ◌∷◌, ◌++◌, length, refl, sym, ap, subst, ◌∙◌, arith, append_assoc}
 use Rattle.std.specs.Prelude.{Bool, true, false, cond, not, ◌&&◌, ◌||◌, map, Result, Ok, Err, IfOk}
 use Rattle.std.proofs.lemmas.Bool.{cond-true, cond-false, eq-eqb, and_parts, ltb-true}
-use Rattle.raft_rules.specs.Log.{Entry, LogEnd, log_end}
-use Rattle.raft_rules.specs.Node.{Role, Leader, Candidate, Follower, AskVote, Vote, Message, Outcome, Everyone, among, majority, others, voters, peers, is_candidate}
-use Rattle.raft_rules.specs.Outcomes.{quiet, says, answer, with_log, with_vote, barrier}
-use Rattle.raft_rules.specs.Elections.{as_leader, may_start_election, start_election, grants_vote, on_grants, on_ask_vote, grants_with, on_vote}
-use Rattle.raft_rules.specs.Progress.{rows_for, next_in, match_in}
-use Rattle.raft_rules.specs.NodeValues.{NodeValue, node_of}
-use Rattle.raft_rules.specs.Compaction.{compacted}
-use Rattle.raft_rules.proofs.NodeValues.{whole_length}
-use Rattle.raft_rules.proofs.ProgressPeers.{next_rows_for, match_rows_for}
+use Rattle.raft_spec.specs.Log.{Entry, LogEnd, log_end}
+use Rattle.raft_spec.specs.Node.{Role, Leader, Candidate, Follower, AskVote, Vote, Message, Outcome, Everyone, among, majority, others, voters, peers, is_candidate}
+use Rattle.raft_spec.specs.Outcomes.{quiet, says, answer, with_log, with_vote, barrier}
+use Rattle.raft_spec.specs.Elections.{as_leader, may_start_election, start_election, grants_vote, on_grants, on_ask_vote, grants_with, on_vote}
+use Rattle.raft_spec.specs.Progress.{rows_for, next_in, match_in}
+use Rattle.raft_spec.specs.NodeValues.{NodeValue, node_of}
+use Rattle.raft_spec.specs.Compaction.{compacted}
+use Rattle.raft_spec.proofs.NodeValues.{whole_length}
+use Rattle.raft_spec.proofs.ProgressPeers.{next_rows_for, match_rows_for}
 use Rattle.raft_core.specs.declared.effects.Say.{Say}
 use Rattle.raft_core.specs.declared.effects.Say.TheVariants as say
 use Rattle.raft_core.specs.declared.effects.Recipients.TheVariants as sent

@@ -2,15 +2,15 @@
 use Rattle.std.proofs.Common.{◌≡◌, ℕ, suc, ◌+◌, ◌-◌, ◌<◌, ◌≤◌, List, length, drop, sym, ap, ◌∙◌, ⊎_elim, arith}
 use Rattle.std.proofs.lemmas.List.{drop_at}
 use Rattle.std.proofs.lemmas.Bool.{cases_lt}
-use Rattle.raft_rules.specs.Log.{Entry, LogEnd, nth_term, term_at, log_end}
-use Rattle.raft_rules.specs.Compaction.{CutLog, compacted, whole_log}
-use Rattle.raft_rules.specs.NodeValues.{NodeValue, node_of}
-use Rattle.raft_rules.proofs.NodeValues.{compacted_length, whole_length, whole_term_cut}
+use Rattle.raft_spec.specs.Log.{Entry, LogEnd, nth_term, term_at, log_end}
+use Rattle.raft_spec.specs.Compaction.{CutLog, compacted, whole_log}
+use Rattle.raft_spec.specs.NodeValues.{NodeValue, node_of}
+use Rattle.raft_spec.proofs.NodeValues.{compacted_length, whole_length, whole_term_cut}
 use Rattle.raft_log.proofs.Places.{whole_count, term_cut}
-use Rattle.raft_world.specs.Cuts.{Same}
-use Rattle.raft_world.proofs.Logs.{nth_at, term_at-zero}
-use Rattle.raft_world.proofs.Alikes.{same_end}
-use Rattle.raft_world.proofs.AlikeRules.{Shape}
+use Rattle.raft_safety.specs.Cuts.{Same}
+use Rattle.raft_safety.proofs.Logs.{nth_at, term_at-zero}
+use Rattle.raft_safety.proofs.Alikes.{same_end}
+use Rattle.raft_safety.proofs.AlikeRules.{Shape}
 use Rattle.raft_core.specs.Nodes.{IsLog}
 
 -- the log of a node's entries, cut off at this place

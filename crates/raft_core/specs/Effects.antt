@@ -1,10 +1,10 @@
 -- What a rule has made beside the node after it: what is said, to whom the log is sent, where the log has changed.
 use Rattle.std.specs.Prelude.{◌≡◌, ℕ, ◌<◌, max, Option, Some, None, List, [], ◌∷◌, map}
-use Rattle.raft_rules.specs.Log.{Entry, accept}
-use Rattle.raft_rules.specs.Node as rules
-use Rattle.raft_rules.specs.NodeValues.{NodeValue, node_of}
-use Rattle.raft_rules.specs.Outcomes.{with_log}
-use Rattle.raft_rules.specs.Todo.{Begins}
+use Rattle.raft_spec.specs.Log.{Entry, accept}
+use Rattle.raft_spec.specs.Node as rules
+use Rattle.raft_spec.specs.NodeValues.{NodeValue, node_of}
+use Rattle.raft_spec.specs.Outcomes.{with_log}
+use Rattle.raft_spec.specs.Todo.{Begins}
 use Rattle.raft_core.specs.declared.effects.Say.{Say}
 use Rattle.raft_core.specs.declared.effects.Say.TheVariants as says
 use Rattle.raft_core.specs.declared.effects.Recipients.{Recipients}

@@ -1,18 +1,18 @@
 -- Events, and what a step hands to the node's owner.
 use Rattle.std.specs.Prelude.{◌≡◌, ◌≢◌, ◌⊎◌, ℕ, Option, Some, None, option_map}
-use Rattle.raft_rules.specs.Node as rules
-use Rattle.raft_rules.specs.Outcomes.{quiet}
-use Rattle.raft_rules.specs.Elections.{start_election}
-use Rattle.raft_rules.specs.Replication.{on_propose, on_beat, on_transfer}
-use Rattle.raft_rules.specs.Snapshots.{on_snapped}
-use Rattle.raft_rules.specs.Receiving.{on_message}
-use Rattle.raft_rules.specs.NodeValues.{NodeValue, node_of}
-use Rattle.raft_rules.specs.Todo.{IsLogWrite}
-use Rattle.raft_vote.specs.declared.message.Snapshot.{Snapshot}
-use Rattle.raft_vote.specs.declared.message.What.{What}
-use Rattle.raft_vote.specs.declared.message.What.TheVariants as whats
-use Rattle.raft_vote.specs.Messages.{snapshot_end, message_value}
-use Rattle.raft_vote.specs.Servers.{IsConfiguration}
+use Rattle.raft_spec.specs.Node as rules
+use Rattle.raft_spec.specs.Outcomes.{quiet}
+use Rattle.raft_spec.specs.Elections.{start_election}
+use Rattle.raft_spec.specs.Replication.{on_propose, on_beat, on_transfer}
+use Rattle.raft_spec.specs.Snapshots.{on_snapped}
+use Rattle.raft_spec.specs.Receiving.{on_message}
+use Rattle.raft_spec.specs.NodeValues.{NodeValue, node_of}
+use Rattle.raft_spec.specs.Todo.{IsLogWrite}
+use Rattle.raft_messages.specs.declared.message.Snapshot.{Snapshot}
+use Rattle.raft_messages.specs.declared.message.MessageBody.{MessageBody}
+use Rattle.raft_messages.specs.declared.message.MessageBody.TheVariants as whats
+use Rattle.raft_messages.specs.Messages.{snapshot_end, message_value}
+use Rattle.raft_messages.specs.Servers.{IsConfiguration}
 use Rattle.raft_core.specs.declared.event.RaftEvent.{RaftEvent}
 use Rattle.raft_core.specs.declared.event.RaftEvent.TheVariants as events
 use Rattle.raft_core.specs.declared.effects.LogChange.{LogChange}
@@ -69,7 +69,7 @@ first_at (changes.From k) = Some k
 first_at (changes.Installed last) = None
 
 -- the snapshot that a message brings
-abbrev pub brought : What → Option Snapshot
+abbrev pub brought : MessageBody → Option Snapshot
 brought (whats.Install snapshot) = Some snapshot
 brought (whats.AskVote last) = None
 brought (whats.Vote granted) = None

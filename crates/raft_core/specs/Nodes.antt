@@ -1,12 +1,12 @@
 -- What holds of the parts of every node.
 use Rattle.std.specs.Prelude.{◌≡◌, ℕ, ◌+◌, ◌≤◌, List, length}
-use Rattle.raft_rules.specs.Log.{Entry, LogEnd}
-use Rattle.raft_rules.specs.Node as rules
-use Rattle.raft_rules.specs.Compaction.{CutLog}
-use Rattle.raft_rules.specs.Progress.{LeaderProgress, ids_in}
-use Rattle.raft_rules.specs.NodeValues.{NodeValue}
-use Rattle.raft_vote.specs.Grants.{AreAmong}
-use Rattle.raft_vote.specs.Servers.{IsConfiguration}
+use Rattle.raft_spec.specs.Log.{Entry, LogEnd}
+use Rattle.raft_spec.specs.Node as rules
+use Rattle.raft_spec.specs.Compaction.{CutLog}
+use Rattle.raft_spec.specs.Progress.{LeaderProgress, ids_in}
+use Rattle.raft_spec.specs.NodeValues.{NodeValue}
+use Rattle.raft_messages.specs.Grants.{AreAmong}
+use Rattle.raft_messages.specs.Servers.{IsConfiguration}
 
 -- the voters that a node was told, whatever its log
 abbrev pub told : NodeValue → List Entry → List ℕ

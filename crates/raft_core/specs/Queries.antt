@@ -1,7 +1,7 @@
 -- What a node tells of itself.
 use Rattle.std.specs.Prelude.{ℕ, Bool, not, ◌&&◌, ◌==◌, nat_le, if◌then◌else◌, Option, Some, None, length}
-use Rattle.raft_rules.specs.Log.{term_at}
-use Rattle.raft_rules.specs.NodeValues.{NodeValue, node_of}
+use Rattle.raft_spec.specs.Log.{term_at}
+use Rattle.raft_spec.specs.NodeValues.{NodeValue, node_of}
 
 -- the leader of the term, if it is known
 abbrev pub leader_at : ℕ → Option ℕ

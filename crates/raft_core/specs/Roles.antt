@@ -1,5 +1,5 @@
 -- The rules' role of a node's role.
-use Rattle.raft_rules.specs.Node as rules
+use Rattle.raft_spec.specs.Node as rules
 use Rattle.raft_core.specs.declared.role.RaftRole.{RaftRole}
 use Rattle.raft_core.specs.declared.role.RaftRole.TheVariants as roles
 

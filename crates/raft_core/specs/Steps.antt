@@ -1,10 +1,10 @@
 -- Steps of the code's node.
 use Rattle.std.specs.Prelude.{◌≡◌, ℕ, ◌-◌, nat_le, true, false, max, map, drop}
-use Rattle.raft_rules.specs.Log.{LogEnd, term_at, matches}
-use Rattle.raft_rules.specs.Node.{Node, Outcome}
-use Rattle.raft_rules.specs.Steps.{finish}
-use Rattle.raft_rules.specs.Compaction.{compact, compact_message}
-use Rattle.raft_rules.specs.NodeValues.{NodeValue, node_of}
+use Rattle.raft_spec.specs.Log.{LogEnd, term_at, matches}
+use Rattle.raft_spec.specs.Node.{Node, Outcome}
+use Rattle.raft_spec.specs.Steps.{finish}
+use Rattle.raft_spec.specs.Compaction.{compact, compact_message}
+use Rattle.raft_spec.specs.NodeValues.{NodeValue, node_of}
 use Rattle.raft_snapshot.specs.declared.InstallPlan.{InstallPlan}
 use Rattle.raft_snapshot.specs.declared.InstallPlan.TheVariants as plans
 use Rattle.raft_core.specs.declared.effects.Effects.{Effects}

@@ -1,18 +1,18 @@
 //! Log compaction: snapshots that a node's owner has taken, and those that a leader sends.
 ghost use Rattle.std.specs.Prelude.{◌≡◌, ◌<◌, ◌≤◌, ◌-◌, [], true, false, nat_le, drop};
-ghost use Rattle.raft_rules.specs.Compaction.{compacted};
-ghost use Rattle.raft_rules.specs.Log.{matches};
-ghost use Rattle.raft_rules.specs.Node.{is_leader};
-ghost use Rattle.raft_rules.specs.NodeValues.{node_of};
-ghost use Rattle.raft_rules.specs.Snapshots.{on_install, on_snapped};
+ghost use Rattle.raft_spec.specs.Compaction.{compacted};
+ghost use Rattle.raft_spec.specs.Log.{matches};
+ghost use Rattle.raft_spec.specs.Node.{is_leader};
+ghost use Rattle.raft_spec.specs.NodeValues.{node_of};
+ghost use Rattle.raft_spec.specs.Snapshots.{on_install, on_snapped};
 ghost use Rattle.raft_core.specs.Effects.{ChangesLog};
 ghost use Rattle.raft_core.specs.Steps.{Ends, PlansFor, compacted_at};
 
 use crate::effects::{Effects, LogChange, Say};
 use crate::node::RaftNode;
 use raft_log::Log;
+use raft_messages::LogEnd;
 use raft_snapshot::{Compact, InstallPlan};
-use raft_vote::LogEnd;
 use std::alloc::Global;
 
 // The answer to a snapshot that ends there.

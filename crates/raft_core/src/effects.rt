@@ -1,7 +1,7 @@
 //! What a rule has made beside the node after it.
 ghost use Rattle.std.specs.Prelude.{◌≡◌};
 
-use raft_vote::LogEnd;
+use raft_messages::LogEnd;
 
 /// What a node says by itself, beside what a leader sends to its peers.
 #[derive(Clone, Copy)]

@@ -1,23 +1,23 @@
 //! Elections: standing, granting votes, and winning.
 ghost use Rattle.std.specs.Prelude.{◌≡◌, suc, IfOk, [], ◌∷◌, length};
-ghost use Rattle.raft_rules.specs.Elections.{may_start_election, start_election, on_grants, on_ask_vote, on_vote};
-ghost use Rattle.raft_rules.specs.Node.{among, majority, voters};
-ghost use Rattle.raft_rules.specs.NodeValues.{node_of};
-ghost use Rattle.raft_rules.specs.Outcomes.{barrier};
+ghost use Rattle.raft_spec.specs.Elections.{may_start_election, start_election, on_grants, on_ask_vote, on_vote};
+ghost use Rattle.raft_spec.specs.Node.{among, majority, voters};
+ghost use Rattle.raft_spec.specs.NodeValues.{node_of};
+ghost use Rattle.raft_spec.specs.Outcomes.{barrier};
 ghost use Rattle.raft_core.specs.Effects.{said, Does};
 ghost use Rattle.raft_core.specs.Nodes.{told};
 
 use crate::effects::{Effects, LogChange, Recipients, Say};
 use crate::node::RaftNode;
-use raft_vote::{Entry, EntryKind, LogEnd, SharedBytes};
+use raft_messages::{Entry, EntryKind, LogEnd, SharedBytes};
 use std::alloc::{AllocError, Global};
 use wire_words::WireBytes;
 
 /// At the last term no node stands for election.
-const LAST_TERM: u64 = 4_294_967_295;
+const MAX_TERM: u64 = 4_294_967_295;
 
 /// From so many entries on a node doesn't stand for election.
-const MOST_ENTRIES: u64 = 4_294_900_000;
+const MAX_INDEX: u64 = 4_294_900_000;
 
 // The entry that a new leader appends first.
 fn barrier_of(alloc: Global, term: u64) -> Result<Entry, AllocError>
@@ -33,15 +33,15 @@ fn barrier_of(alloc: Global, term: u64) -> Result<Entry, AllocError>
 
 impl RaftNode {
     // Whether the node may stand for election.
-    #[tactic(auto, unfolding(raft_rules::specs::Elections::may_start_election))]
+    #[tactic(auto, unfolding(raft_spec::specs::Elections::may_start_election))]
     fn may_stand(&self) -> bool
         ensures { result ≡ may_start_election (told self.now) self.now.id (node_of self.now) }
     {
         self.is_voter()
             && 0 < self.id()
             && !self.leads()
-            && self.term() < LAST_TERM
-            && self.last_index() < MOST_ENTRIES
+            && self.term() < MAX_TERM
+            && self.last_index() < MAX_INDEX
     }
 
     // A candidate has counted its votes: with those of a majority it leads, and appends a barrier.

@@ -1,15 +1,15 @@
 //! How the log of a node changes.
 ghost use Rattle.std.specs.Prelude.{◌≡◌, ◌≤◌, ◌+◌, ◌++◌, ◌&&◌, false, nat_lt, nat_le, suc, max, IfOk, length};
-ghost use Rattle.raft_rules.specs.Log.{first_replaced, term_at};
-ghost use Rattle.raft_rules.specs.Node.{peers};
-ghost use Rattle.raft_rules.specs.NodeValues.{node_of};
-ghost use Rattle.raft_rules.specs.Outcomes.{with_term};
-ghost use Rattle.raft_rules.specs.Progress.{match_in, ids_in, progress_of, after_ack};
+ghost use Rattle.raft_spec.specs.Log.{first_replaced, term_at};
+ghost use Rattle.raft_spec.specs.Node.{peers};
+ghost use Rattle.raft_spec.specs.NodeValues.{node_of};
+ghost use Rattle.raft_spec.specs.Outcomes.{with_term};
+ghost use Rattle.raft_spec.specs.Progress.{match_in, ids_in, progress_of, after_ack};
 ghost use Rattle.raft_core.specs.Effects.{Takes, change_from};
 
 use crate::effects::LogChange;
 use crate::node::RaftNode;
-use raft_vote::{Entries, Entry};
+use raft_messages::{Entries, Entry};
 use std::alloc::AllocError;
 
 // Where a log has changed that has taken entries.

@@ -1,8 +1,8 @@
 //! What a node takes in, what it tells, and what a step of it leaves to its owner.
 
 use crate::role::RaftRole;
-use crate::sending::Sendings;
-use raft_vote::{Entries, LogEnd, RaftMessage, Servers, Snapshot};
+use crate::sending::OutgoingList;
+use raft_messages::{Entries, LogEnd, RaftMessage, Servers, Snapshot};
 
 /// What a node takes in, one at a time.
 #[derive(Debug, Drop)]
@@ -25,7 +25,7 @@ pub enum RaftEvent {
 
 /// What a node's owner has kept, and starts the node with.
 #[derive(Debug, Drop)]
-pub struct Kept2 {
+pub struct StoredRaft {
     /// The term.
     pub term: u64,
     /// To whom the node gave its vote in this term; 0 for nobody.
@@ -65,7 +65,7 @@ pub struct Todo {
     /// The snapshot that came, where it is to be kept in place of all entries up to its end.
     pub install: Option<Snapshot>,
     /// What is to be sent, in order.
-    pub sends: Sendings,
+    pub sends: OutgoingList,
     /// Up to which index entries are committed.
     pub commit: u64,
 }

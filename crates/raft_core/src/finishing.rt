@@ -1,13 +1,13 @@
 //! The end of a step: a leader moves its commit index, and sends.
 ghost use Rattle.std.specs.Prelude.{◌≡◌, ◌++◌, ◌-◌, ◌∷◌, [], false, nat_lt, cond, suc, IfOk, map, take, drop};
-ghost use Rattle.raft_rules.specs.Commitment.{commit_index};
-ghost use Rattle.raft_rules.specs.Compaction.{compact_message};
-ghost use Rattle.raft_rules.specs.Log.{term_at};
-ghost use Rattle.raft_rules.specs.Node.{others, voters};
-ghost use Rattle.raft_rules.specs.Node as rules;
-ghost use Rattle.raft_rules.specs.NodeValues.{node_of};
-ghost use Rattle.raft_rules.specs.Snapshots.{needs_snapshot};
-ghost use Rattle.raft_rules.specs.Steps.{message_to, receivers, finish};
+ghost use Rattle.raft_spec.specs.Commitment.{commit_index};
+ghost use Rattle.raft_spec.specs.Compaction.{compact_message};
+ghost use Rattle.raft_spec.specs.Log.{term_at};
+ghost use Rattle.raft_spec.specs.Node.{others, voters};
+ghost use Rattle.raft_spec.specs.Node as rules;
+ghost use Rattle.raft_spec.specs.NodeValues.{node_of};
+ghost use Rattle.raft_spec.specs.Snapshots.{needs_snapshot};
+ghost use Rattle.raft_spec.specs.Steps.{message_to, receivers, finish};
 ghost use Rattle.raft_core.specs.Effects.{said, message_in, recipients_value, outcome_of};
 ghost use Rattle.raft_core.specs.Messages.{sent_message, sent_value, sent_what, sents_value};
 ghost use Rattle.raft_core.specs.Nodes.{told};
@@ -15,13 +15,13 @@ ghost use Rattle.raft_core.specs.Steps.{compact_outcome};
 
 use crate::effects::{LogChange, Recipients, Say};
 use crate::node::RaftNode;
-use crate::sending::Sending;
+use crate::sending::Outgoing;
+use raft_messages::{LogEnd, MessageBody, RaftMessage};
 use raft_snapshot::Compact;
-use raft_vote::{LogEnd, RaftMessage, What};
 use std::alloc::{AllocError, Global};
 
 /// The most entries that are sent at once.
-const MOST_ENTRIES: usize = 16;
+const MAX_ENTRIES: usize = 16;
 
 // To whom the log is sent: to all where the commit index moved.
 fn recipients_where(moved: bool, recipients: Recipients) -> Recipients
@@ -47,10 +47,10 @@ impl RaftNode {
     }
 
     // A message of the node.
-    fn message(&self, to: u64, what: What) -> Sending
+    fn message(&self, to: u64, what: MessageBody) -> Outgoing
         ensures { sent_value self.now.id result ≡ message_in self.now.id self.now.term to (sent_what what) }
     {
-        Sending::Message(RaftMessage {
+        Outgoing::Message(RaftMessage {
             from: self.id(),
             to,
             term: self.term(),
@@ -59,19 +59,19 @@ impl RaftNode {
     }
 
     // Asks a voter for its vote, if it is another one.
-    #[tactic(auto, unfolding(raft_rules::specs::Node::others))]
-    fn ask_voter(&self, out: &mut Vec<Sending>, voter: u64, last: LogEnd) -> Result<(), AllocError>
+    #[tactic(auto, unfolding(raft_spec::specs::Node::others))]
+    fn ask_voter(&self, out: &mut Vec<Outgoing>, voter: u64, last: LogEnd) -> Result<(), AllocError>
         ensures { IfOk result (λ done. sents_value self.now.id out.new.items ≡ sents_value self.now.id out.old.items ++ map (λ to. message_in self.now.id self.now.term to (rules.AskVote last)) (others (voter ∷ []) self.now.id)) }
     {
         if voter == self.id() {
             return Ok(());
         }
-        out.push(self.message(voter, What::AskVote { last }))?;
+        out.push(self.message(voter, MessageBody::AskVote { last }))?;
         Ok(())
     }
 
     // Asks every other voter for its vote.
-    fn ask_voters(&self, out: &mut Vec<Sending>, last: LogEnd) -> Result<(), AllocError>
+    fn ask_voters(&self, out: &mut Vec<Outgoing>, last: LogEnd) -> Result<(), AllocError>
         ensures { IfOk result (λ done. sents_value self.now.id out.new.items ≡ sents_value self.now.id out.old.items ++ map (λ to. message_in self.now.id self.now.term to (rules.AskVote last)) (others (voters self.now.servers) self.now.id)) }
     {
         let voters = self.voters();
@@ -82,16 +82,19 @@ impl RaftNode {
     }
 
     // What the node says by itself.
-    fn said(&self, alloc: Global, say: Say) -> Result<Vec<Sending>, AllocError>
+    fn said(&self, alloc: Global, say: Say) -> Result<Vec<Outgoing>, AllocError>
         ensures { IfOk result (λ out. sents_value self.now.id out.items ≡ said self.now say) }
     {
         let mut out = Vec::new(alloc);
         match say {
             Say::Nothing => {}
             Say::AskVotes { last } => self.ask_voters(&mut out, last)?,
-            Say::Vote { to, granted } => out.push(self.message(to, What::Vote { granted }))?,
-            Say::Ack { to, good, index } => out.push(self.message(to, What::Ack { good, index }))?,
-            Say::TimeoutNow { to } => out.push(self.message(to, What::TimeoutNow))?,
+            Say::Vote { to, granted } => out.push(self.message(to, MessageBody::Vote { granted }))?,
+            Say::Ack { to, good, index } => out.push(self.message(
+                to,
+                MessageBody::Ack { good, index },
+            ))?,
+            Say::TimeoutNow { to } => out.push(self.message(to, MessageBody::TimeoutNow))?,
         }
         Ok(out)
     }
@@ -110,12 +113,12 @@ impl RaftNode {
         ensures { IfOk result (λ message. sent_message message ≡ message_in self.now.id self.now.term peer (rules.Append (record { index = next - 1; term = term_at (node_of self.now).log (next - 1) }) self.now.commit (take 16 (drop (next - 1) (node_of self.now).log)))) }
     {
         let index = next.saturating_sub(1);
-        let entries = self.log.copied(alloc, index, MOST_ENTRIES)?;
+        let entries = self.log.copied(alloc, index, MAX_ENTRIES)?;
         Ok(RaftMessage {
             from: self.id(),
             to: peer,
             term: self.term(),
-            what: What::Append {
+            what: MessageBody::Append {
                 prev: LogEnd {
                     index,
                     term: self.log_term(index),
@@ -127,26 +130,26 @@ impl RaftNode {
     }
 
     // The one message for a peer: the snapshot where it needs that, else entries.
-    fn message_to(&self, alloc: Global, peer: u64) -> Result<Sending, AllocError>
+    fn message_to(&self, alloc: Global, peer: u64) -> Result<Outgoing, AllocError>
         ensures { IfOk result (λ sending. sent_value self.now.id sending ≡ compact_message (message_to self.now.id (node_of self.now) peer)) }
     {
         let next = self.next_of(peer);
         let first = self.first_index()?;
         if self.needs_snapshot(next, first) {
-            return Ok(Sending::Install {
+            return Ok(Outgoing::Install {
                 to: peer,
                 term: self.term(),
                 last: self.snapshot(),
             });
         }
-        Ok(Sending::Message(self.append_for(alloc, peer, next)?))
+        Ok(Outgoing::Message(self.append_for(alloc, peer, next)?))
     }
 
     /// Sends the log to these peers.
     pub(crate) fn send(
         &self,
         alloc: Global,
-        out: &mut Vec<Sending>,
+        out: &mut Vec<Outgoing>,
         peers: &[u64],
     ) -> Result<(), AllocError>
         ensures { IfOk result (λ done. sents_value self.now.id out.new.items ≡ sents_value self.now.id out.old.items ++ map (λ peer. compact_message (message_to self.now.id (node_of self.now) peer)) peers.now) }
@@ -161,7 +164,7 @@ impl RaftNode {
     fn send_to(
         &self,
         alloc: Global,
-        out: &mut Vec<Sending>,
+        out: &mut Vec<Outgoing>,
         recipients: Recipients,
     ) -> Result<(), AllocError>
         ensures { IfOk result (λ done. sents_value self.now.id out.new.items ≡ sents_value self.now.id out.old.items ++ map (λ peer. compact_message (message_to self.now.id (node_of self.now) peer)) (receivers self.now.id (node_of self.now) (recipients_value recipients))) }
@@ -179,7 +182,7 @@ impl RaftNode {
         alloc: Global,
         say: Say,
         recipients: Recipients,
-    ) -> Result<Vec<Sending>, AllocError>
+    ) -> Result<Vec<Outgoing>, AllocError>
         ensures node { IfOk result (λ out. node_of self.new ≡ (compact_outcome (finish (told self.old) self.old.id (outcome_of self.old (record { say = say; recipients = recipients; change = LogChange.Nothing })))).node) }
         ensures sends { IfOk result (λ out. sents_value self.old.id out.items ≡ (compact_outcome (finish (told self.old) self.old.id (outcome_of self.old (record { say = say; recipients = recipients; change = LogChange.Nothing })))).out) }
         ensures rest { self.new ≡ record self.old { commit = self.new.commit } }

@@ -18,7 +18,7 @@ mod starting;
 mod state;
 mod step;
 
-pub use event::{Kept2, RaftEvent, RaftView, Todo};
+pub use event::{RaftEvent, RaftView, StoredRaft, Todo};
 pub use node::RaftNode;
 pub use role::RaftRole;
-pub use sending::{Sending, Sendings};
+pub use sending::{Outgoing, OutgoingList};

@@ -1,21 +1,21 @@
 //! Other servers: what a node does when it is told them.
 ghost use Rattle.std.specs.Prelude.{◌≡◌, ◌++◌, ◌∷◌, [], suc, IfOk, length};
-ghost use Rattle.raft_rules.specs.Membership.{gained, on_servers};
-ghost use Rattle.raft_rules.specs.Node.{Candidate, voters, peers};
-ghost use Rattle.raft_rules.specs.NodeValues.{node_of};
-ghost use Rattle.raft_rules.specs.Progress.{ids_in, rows_for};
-ghost use Rattle.raft_rules.specs.Steps.{serve};
-ghost use Rattle.raft_vote.specs.Servers.{IsConfiguration};
+ghost use Rattle.raft_spec.specs.Membership.{gained, on_servers};
+ghost use Rattle.raft_spec.specs.Node.{Candidate, voters, peers};
+ghost use Rattle.raft_spec.specs.NodeValues.{node_of};
+ghost use Rattle.raft_spec.specs.Progress.{ids_in, rows_for};
+ghost use Rattle.raft_spec.specs.Steps.{serve};
+ghost use Rattle.raft_messages.specs.Servers.{IsConfiguration};
 ghost use Rattle.raft_core.specs.Messages.{sents_value};
 ghost use Rattle.raft_core.specs.Steps.{compact_outcome};
 
 use crate::node::{RaftNode, contains};
-use crate::sending::Sending;
-use raft_vote::{Server, Servers};
+use crate::sending::Outgoing;
+use raft_messages::{Server, Servers};
 use std::alloc::{AllocError, Global};
 
 // Adds the id of a server that votes.
-#[tactic(auto, unfolding(raft_rules::specs::Node::voters))]
+#[tactic(auto, unfolding(raft_spec::specs::Node::voters))]
 fn add_voter(ids: &mut Vec<u64>, server: &Server) -> Result<(), AllocError>
     ensures { IfOk result (λ done. ids.new.items ≡ ids.old.items ++ voters (server.now ∷ [])) }
 {
@@ -37,7 +37,7 @@ pub(crate) fn voter_ids(alloc: Global, servers: &[Server]) -> Result<Vec<u64>, A
 }
 
 // Adds the id of a server that gets the log, but not the own one.
-#[tactic(auto, unfolding(raft_rules::specs::Node::peers, raft_rules::specs::Node::others))]
+#[tactic(auto, unfolding(raft_spec::specs::Node::peers, raft_spec::specs::Node::others))]
 fn add_peer(ids: &mut Vec<u64>, server: &Server, own: u64) -> Result<(), AllocError>
     ensures { IfOk result (λ done. ids.new.items ≡ ids.old.items ++ peers (server.now ∷ []) own) }
 {
@@ -117,7 +117,7 @@ impl RaftNode {
         &mut self,
         alloc: Global,
         servers: &[Server],
-    ) -> Result<Vec<Sending>, AllocError>
+    ) -> Result<Vec<Outgoing>, AllocError>
         requires config { IsConfiguration servers.now }
         requires same { self.old.role ≡ Candidate → voters servers.now ≡ voters self.old.servers }
         ensures node { IfOk result (λ out. node_of self.new ≡ (compact_outcome (serve self.old.id (on_servers self.old.id (node_of self.old) servers.now))).node) }

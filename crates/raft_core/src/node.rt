@@ -1,14 +1,14 @@
 //! One node of Raft: its parts, what holds of them, and how single parts are read.
 ghost use Rattle.std.specs.Prelude.{◌≡◌, ◌⊎◌, ◌<◌, ◌≤◌, suc, IfOk, length};
-ghost use Rattle.raft_rules.specs.Log.{log_end, term_at};
-ghost use Rattle.raft_rules.specs.Node.{among, is_leader, is_candidate, voters, peers};
-ghost use Rattle.raft_rules.specs.NodeValues.{IsCoherent, node_of};
-ghost use Rattle.raft_rules.specs.Progress.{next_in};
+ghost use Rattle.raft_spec.specs.Log.{log_end, term_at};
+ghost use Rattle.raft_spec.specs.Node.{among, is_leader, is_candidate, voters, peers};
+ghost use Rattle.raft_spec.specs.NodeValues.{IsCoherent, node_of};
+ghost use Rattle.raft_spec.specs.Progress.{next_in};
 ghost use Rattle.raft_core.specs.Roles.{role_value};
 
 use crate::role::RaftRole;
 use raft_log::{Log, Progress};
-use raft_vote::{LogEnd, Servers, VoteCore};
+use raft_messages::{LogEnd, Servers, VoteCore};
 use std::alloc::AllocError;
 use std::marker::Model;
 
@@ -32,7 +32,7 @@ pub struct RaftNode {
 }
 
 impl Model for RaftNode {
-    ghost use Rattle.raft_rules.specs.NodeValues.{NodeValue};
+    ghost use Rattle.raft_spec.specs.NodeValues.{NodeValue};
 
     ghost Value = { NodeValue };
 
@@ -124,7 +124,7 @@ impl RaftNode {
     }
 
     /// The last index of its log.
-    #[tactic(auto, using(raft_log::proofs::Places::whole_count, raft_rules::proofs::NodeValues::whole_length))]
+    #[tactic(auto, using(raft_log::proofs::Places::whole_count, raft_spec::proofs::NodeValues::whole_length))]
     pub(crate) fn last_index(&self) -> u64
         ensures { result ≡ length (node_of self.now).log }
     {
@@ -146,7 +146,7 @@ impl RaftNode {
     }
 
     /// The index after the last one. One that is too great is want of memory.
-    #[tactic(auto, using(raft_rules::proofs::NodeValues::whole_length))]
+    #[tactic(auto, using(raft_spec::proofs::NodeValues::whole_length))]
     pub(crate) fn next_index(&self) -> Result<u64, AllocError>
         ensures next { IfOk result (λ next. next ≡ suc (length (node_of self.now).log)) }
         ensures past { IfOk result (λ next. self.now.commit < next) }

@@ -1,17 +1,17 @@
 //! What a node tells of itself. No call takes memory.
 ghost use Rattle.std.specs.Prelude.{◌≡◌, ◌<◌, ◌≤◌, ◌-◌, ◌&&◌, ◌==◌, ◌↔◌, IsSome, IfSome, drop, length, max, slice_index_or, suc};
-ghost use Rattle.raft_rules.specs.Log.{log_end};
-ghost use Rattle.raft_rules.specs.Node.{is_leader};
-ghost use Rattle.raft_rules.specs.NodeValues.{node_of};
-ghost use Rattle.raft_rules.specs.Progress.{match_in};
+ghost use Rattle.raft_spec.specs.Log.{log_end};
+ghost use Rattle.raft_spec.specs.Node.{is_leader};
+ghost use Rattle.raft_spec.specs.NodeValues.{node_of};
+ghost use Rattle.raft_spec.specs.Progress.{match_in};
 ghost use Rattle.raft_core.specs.Queries.{forgets_at, known_at, leader_at};
 ghost use Rattle.raft_core.specs.Roles.{role_value};
 ghost use Rattle.raft_snapshot.specs.Compacting.{is_due};
 
 use crate::event::RaftView;
 use crate::node::RaftNode;
+use raft_messages::Entry;
 use raft_snapshot::Compact;
-use raft_vote::Entry;
 
 // A node, if it is one.
 fn known(leader: u64) -> Option<u64>
@@ -113,7 +113,7 @@ impl RaftNode {
     }
 
     /// Whether the node leads, and the peer's log is known to agree with all of its own.
-    pub fn even(&self, peer: u64) -> bool
+    pub fn is_caught_up(&self, peer: u64) -> bool
         ensures { result ≡ (is_leader self.now.role && (match_in self.now.rows peer == length (node_of self.now).log)) }
     {
         self.leads() && self.match_of(peer) == self.last_index()

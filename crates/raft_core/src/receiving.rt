@@ -1,16 +1,16 @@
 //! What a node does with a message, by its term.
 ghost use Rattle.std.specs.Prelude.{◌≡◌, nat_lt, cond, true, IfOk, []};
-ghost use Rattle.raft_rules.specs.Node.{Follower};
-ghost use Rattle.raft_rules.specs.NodeValues.{node_of};
-ghost use Rattle.raft_rules.specs.Receiving.{in_range, what_in_range, on_older_term, on_own_term, on_message};
-ghost use Rattle.raft_vote.specs.Messages.{message_value, what_value};
+ghost use Rattle.raft_spec.specs.Node.{Follower};
+ghost use Rattle.raft_spec.specs.NodeValues.{node_of};
+ghost use Rattle.raft_spec.specs.Receiving.{in_range, what_in_range, on_older_term, on_own_term, on_message};
+ghost use Rattle.raft_messages.specs.Messages.{message_value, what_value};
 ghost use Rattle.raft_core.specs.Effects.{Does, ChangesLog};
 ghost use Rattle.raft_core.specs.Nodes.{told};
 ghost use Rattle.raft_core.specs.Steps.{Ends};
 
 use crate::effects::{Effects, Say};
 use crate::node::RaftNode;
-use raft_vote::{LogEnd, RaftMessage, What};
+use raft_messages::{LogEnd, MessageBody, RaftMessage};
 use std::alloc::{AllocError, Global};
 
 // Whether a node looks at a message: it has a term and a sender, and its numbers are in range.
@@ -37,39 +37,45 @@ impl RaftNode {
     }
 
     // A message of a smaller term.
-    fn on_older_term(&self, from: u64, what: &What) -> Effects
+    fn on_older_term(&self, from: u64, what: &MessageBody) -> Effects
         ensures { Does self.now (on_older_term self.now.id (node_of self.now) from (what_value what.now)) self.now result }
     {
         match what {
-            What::AskVote { .. } => Effects::says(Say::Vote {
+            MessageBody::AskVote { .. } => Effects::says(Say::Vote {
                 to: from,
                 granted: false,
             }),
-            What::Append { .. } | What::Install { .. } => Effects::says(Say::Ack {
+            MessageBody::Append { .. } | MessageBody::Install { .. } => Effects::says(Say::Ack {
                 to: from,
                 good: false,
                 index: self.last_index(),
             }),
-            What::Vote { .. } | What::Ack { .. } | What::TimeoutNow => Effects::says(Say::Nothing),
+            MessageBody::Vote { .. } | MessageBody::Ack { .. } | MessageBody::TimeoutNow =>
+                Effects::says(Say::Nothing),
         }
     }
 
     // A message of the own term.
-    fn on_own_term(&mut self, alloc: Global, from: u64, what: What) -> Result<Effects, AllocError>
+    fn on_own_term(
+        &mut self,
+        alloc: Global,
+        from: u64,
+        what: MessageBody,
+    ) -> Result<Effects, AllocError>
         requires { what_in_range (what_value what) ≡ true }
         ensures outcome { IfOk result (λ effects. Ends self.old (on_own_term (told self.old) self.old.id (node_of self.old) from (what_value what)) self.new effects) }
         ensures log { IfOk result (λ effects. ChangesLog (node_of self.old) (node_of self.new) effects.change) }
     {
         match what {
-            What::AskVote { last } => Ok(self.on_ask_vote(from, last)),
-            What::Vote { granted } => self.on_vote(alloc, from, granted),
-            What::Append {
+            MessageBody::AskVote { last } => Ok(self.on_ask_vote(from, last)),
+            MessageBody::Vote { granted } => self.on_vote(alloc, from, granted),
+            MessageBody::Append {
                 prev,
                 commit,
                 entries,
             } => self.on_append(from, prev, commit, entries.into_vec()),
-            What::Ack { good, index } => Ok(self.on_ack(from, good, index)),
-            What::Install { snapshot } => Ok(self.on_install(
+            MessageBody::Ack { good, index } => Ok(self.on_ack(from, good, index)),
+            MessageBody::Install { snapshot } => Ok(self.on_install(
                 alloc,
                 from,
                 LogEnd {
@@ -77,7 +83,7 @@ impl RaftNode {
                     term: snapshot.term,
                 },
             )),
-            What::TimeoutNow => self.start_election(alloc),
+            MessageBody::TimeoutNow => self.start_election(alloc),
         }
     }
 

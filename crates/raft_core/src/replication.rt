@@ -1,14 +1,14 @@
 //! Log replication: what an Append does at a follower, what its Ack does at the leader, and what a leader appends.
 ghost use Rattle.std.specs.Prelude.{◌≡◌, ◌<◌, ◌≤◌, ◌+◌, ◌-◌, ◌&&◌, nat_lt, nat_le, max, min, true, IfOk, length, drop};
-ghost use Rattle.raft_rules.specs.Log.{first_replaced};
-ghost use Rattle.raft_rules.specs.Node.{among, peers, is_leader};
-ghost use Rattle.raft_rules.specs.NodeValues.{node_of};
-ghost use Rattle.raft_rules.specs.Replication.{agrees, on_append, on_ack, on_propose, on_beat, on_transfer};
+ghost use Rattle.raft_spec.specs.Log.{first_replaced};
+ghost use Rattle.raft_spec.specs.Node.{among, peers, is_leader};
+ghost use Rattle.raft_spec.specs.NodeValues.{node_of};
+ghost use Rattle.raft_spec.specs.Replication.{agrees, on_append, on_ack, on_propose, on_beat, on_transfer};
 ghost use Rattle.raft_core.specs.Effects.{Does};
 
 use crate::effects::{Effects, LogChange, Recipients, Say};
 use crate::node::{RaftNode, contains};
-use raft_vote::{Entries, Entry, LogEnd};
+use raft_messages::{Entries, Entry, LogEnd};
 use std::alloc::AllocError;
 
 // The entries of an Append that stand past an index: those up to there go.
@@ -177,7 +177,7 @@ impl RaftNode {
     }
 
     /// A leader's heartbeat.
-    pub(crate) fn beat(&self) -> Effects
+    pub(crate) fn heartbeat(&self) -> Effects
         ensures { Does self.now (on_beat (node_of self.now)) self.now result }
     {
         if self.leads() {

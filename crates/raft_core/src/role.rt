@@ -1,6 +1,6 @@
 //! What a node is in its term.
 ghost use Rattle.std.specs.Prelude.{◌≡◌};
-ghost use Rattle.raft_rules.specs.Node.{is_leader, is_candidate};
+ghost use Rattle.raft_spec.specs.Node.{is_leader, is_candidate};
 ghost use Rattle.raft_core.specs.Roles.{role_value};
 
 /// What a node is in its term.

@@ -1,10 +1,10 @@
 //! What a node sends.
 use dq_base::Items;
-use raft_vote::{LogEnd, RaftMessage};
+use raft_messages::{LogEnd, RaftMessage};
 
 /// One thing that a node sends to another.
 #[derive(Debug, Drop)]
-pub enum Sending {
+pub enum Outgoing {
     /// A message.
     Message(RaftMessage),
     /// The node's kept snapshot, whose bytes its owner fills in.
@@ -19,4 +19,4 @@ pub enum Sending {
 }
 
 /// What a node sends in one step, in order.
-pub type Sendings = Items<Sending>;
+pub type OutgoingList = Items<Outgoing>;

@@ -1,19 +1,19 @@
 //! A node that starts with what its owner has kept.
 ghost use Rattle.std.specs.Prelude.{◌≡◌, ◌<◌, ◌≤◌, ◌+◌, ◌-◌, [], true, suc, IfOk, length};
-ghost use Rattle.raft_rules.specs.Account.{loaded};
-ghost use Rattle.raft_rules.specs.Node.{others};
-ghost use Rattle.raft_rules.specs.NodeValues.{IsCoherent, node_of};
-ghost use Rattle.raft_rules.specs.Laws.{HasShortTerm};
-ghost use Rattle.raft_rules.specs.Progress.{rows_for};
-ghost use Rattle.raft_vote.specs.Servers.{IsConfiguration};
+ghost use Rattle.raft_spec.specs.Account.{loaded};
+ghost use Rattle.raft_spec.specs.Node.{others};
+ghost use Rattle.raft_spec.specs.NodeValues.{IsCoherent, node_of};
+ghost use Rattle.raft_spec.specs.Laws.{HasShortTerm};
+ghost use Rattle.raft_spec.specs.Progress.{rows_for};
+ghost use Rattle.raft_messages.specs.Servers.{IsConfiguration};
 ghost use Rattle.raft_core.specs.Starting.{snapshot_in, stored_in};
 
-use crate::event::Kept2;
+use crate::event::StoredRaft;
 use crate::membership::{copied, peer_ids, voter_ids};
 use crate::node::RaftNode;
 use crate::role::RaftRole;
 use raft_log::{Log, Progress};
-use raft_vote::{Entry, LogEnd, Server, Servers, VoteCore};
+use raft_messages::{Entry, LogEnd, Server, Servers, VoteCore};
 use std::alloc::{AllocError, Global};
 
 // The end of a snapshot, if there is one; else 0 and 0.
@@ -67,7 +67,7 @@ impl RaftNode {
         alloc: Global,
         id: u64,
         servers: &[Server],
-        kept: Kept2,
+        kept: StoredRaft,
     ) -> Result<RaftNode, AllocError>
         requires config { IsConfiguration servers.now }
         requires first { 0 < kept.first }

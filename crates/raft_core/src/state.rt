@@ -1,14 +1,14 @@
 //! How single parts of a node change.
 ghost use Rattle.std.specs.Prelude.{◌≡◌, ◌<◌, ◌≤◌, suc, IfOk, [], ◌∷◌, ◌++◌, true, false, cond, length};
-ghost use Rattle.raft_rules.specs.Elections.{grants_vote, grants_with};
-ghost use Rattle.raft_rules.specs.Node.{among, majority, voters, peers, Leader, Candidate, Follower};
-ghost use Rattle.raft_rules.specs.NodeValues.{node_of};
-ghost use Rattle.raft_rules.specs.Progress.{rows_for};
+ghost use Rattle.raft_spec.specs.Elections.{grants_vote, grants_with};
+ghost use Rattle.raft_spec.specs.Node.{among, majority, voters, peers, Leader, Candidate, Follower};
+ghost use Rattle.raft_spec.specs.NodeValues.{node_of};
+ghost use Rattle.raft_spec.specs.Progress.{rows_for};
 
 use crate::node::RaftNode;
 use crate::role::RaftRole;
 use raft_log::Progress;
-use raft_vote::{Entry, LogEnd};
+use raft_messages::{Entry, LogEnd};
 use std::alloc::AllocError;
 
 impl RaftNode {

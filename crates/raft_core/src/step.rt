@@ -1,10 +1,10 @@
 //! One step of a node, and what it leaves to the node's owner.
 ghost use Rattle.std.specs.Prelude.{◌≡◌, MatchOption, IfOk};
 ghost use Rattle.std.specs.List.{AllByRecursion};
-ghost use Rattle.raft_rules.specs.Compaction.{compacted_step};
-ghost use Rattle.raft_rules.specs.Laws.{HasShortTerm};
-ghost use Rattle.raft_rules.specs.NodeValues.{IsCoherent, node_of};
-ghost use Rattle.raft_rules.specs.Steps.{finish};
+ghost use Rattle.raft_spec.specs.Compaction.{compacted_step};
+ghost use Rattle.raft_spec.specs.Laws.{HasShortTerm};
+ghost use Rattle.raft_spec.specs.NodeValues.{IsCoherent, node_of};
+ghost use Rattle.raft_spec.specs.Steps.{finish};
 ghost use Rattle.raft_core.specs.Effects.{outcome_of};
 ghost use Rattle.raft_core.specs.Events.{input_of, EventFits, rule_at, IsRuled, ChangesAt, IsMeta, IsOffered, WritesLog, brought, first_at, kept_at, offered};
 ghost use Rattle.raft_core.specs.Messages.{IsBare, sendings_value, sents_value};
@@ -14,8 +14,8 @@ ghost use Rattle.raft_core.specs.Steps.{compact_outcome, Ends};
 use crate::effects::{Effects, LogChange, Recipients, Say};
 use crate::event::{RaftEvent, Todo};
 use crate::node::RaftNode;
-use crate::sending::{Sending, Sendings};
-use raft_vote::{Servers, Snapshot, What};
+use crate::sending::{Outgoing, OutgoingList};
+use raft_messages::{MessageBody, Servers, Snapshot};
 use std::alloc::{AllocError, Global};
 
 // The servers that an event tells.
@@ -34,16 +34,16 @@ fn told_servers(event: &RaftEvent) -> Option<&Servers>
 }
 
 // The snapshot that a message brings, for one more owner.
-fn brought(what: &What) -> Result<Option<Snapshot>, AllocError>
+fn brought(what: &MessageBody) -> Result<Option<Snapshot>, AllocError>
     ensures { IfOk result (λ snapshot. snapshot ≡ brought what.now) }
 {
     match what {
-        What::Install { snapshot } => Ok(Some(snapshot.share()?)),
-        What::AskVote { .. }
-        | What::Vote { .. }
-        | What::Append { .. }
-        | What::Ack { .. }
-        | What::TimeoutNow => Ok(None),
+        MessageBody::Install { snapshot } => Ok(Some(snapshot.share()?)),
+        MessageBody::AskVote { .. }
+        | MessageBody::Vote { .. }
+        | MessageBody::Append { .. }
+        | MessageBody::Ack { .. }
+        | MessageBody::TimeoutNow => Ok(None),
     }
 }
 
@@ -71,7 +71,7 @@ impl RaftNode {
     {
         match event {
             RaftEvent::Timeout => self.start_election(alloc),
-            RaftEvent::Beat => Ok(self.beat()),
+            RaftEvent::Beat => Ok(self.heartbeat()),
             RaftEvent::Message(message) => self.on_message(alloc, message),
             RaftEvent::Propose(entries) => self.propose(entries),
             RaftEvent::Transfer(to) => Ok(self.transfer(to)),
@@ -97,7 +97,7 @@ impl RaftNode {
         was: (u64, u64),
         batch: Option<u64>,
         install: Option<Snapshot>,
-        sends: Vec<Sending>,
+        sends: Vec<Outgoing>,
     ) -> Todo
         ensures meta { IsMeta was.0 was.1 self.now result.meta }
         ensures batch { result.batch ≡ batch }
@@ -109,7 +109,7 @@ impl RaftNode {
             meta: self.changed_meta(was.0, was.1),
             batch,
             install,
-            sends: Sendings::new(sends),
+            sends: OutgoingList::new(sends),
             commit: self.commit(),
         }
     }
@@ -120,7 +120,7 @@ impl RaftNode {
         was: (u64, u64),
         change: LogChange,
         came: Option<Snapshot>,
-        sends: Vec<Sending>,
+        sends: Vec<Outgoing>,
     ) -> Todo
         ensures meta { IsMeta was.0 was.1 self.now result.meta }
         ensures batch { result.batch ≡ first_at change }
@@ -206,7 +206,7 @@ impl RaftNode {
             meta: None,
             batch: None,
             install: None,
-            sends: Sendings::new(sends),
+            sends: OutgoingList::new(sends),
             commit: self.commit(),
         })
     }

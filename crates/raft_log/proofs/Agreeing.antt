@@ -2,8 +2,8 @@
 use Rattle.std.proofs.Common.{◌≡◌, ◌≢◌, ◌⊎◌, inl, inr, ℕ, zero, suc, ◌+◌, ◌<◌, ◌≤◌, true, false, List, [], ◌∷◌, length, drop, refl, sym, ap, subst, ◌∙◌, ⊎_elim, arith}
 use Rattle.std.specs.Prelude.{◌==◌}
 use Rattle.std.proofs.lemmas.Bool.{cond_both, cond-true, cond-false, eqb-true, eqb-false}
-use Rattle.raft_rules.specs.Log.{Entry, nth_term, conflict_place}
-use Rattle.raft_rules.proofs.Merges.{Alike, conflict_none, conflict_here}
+use Rattle.raft_spec.specs.Log.{Entry, nth_term, conflict_place}
+use Rattle.raft_spec.proofs.Merges.{Alike, conflict_none, conflict_here}
 use Rattle.raft_log.specs.Agreeing.{has_term, agreeing_front}
 
 -- an entry and its term

@@ -1,9 +1,9 @@
 -- A leader's commit index, as a loop from the log's end downwards finds it.
 use Rattle.std.proofs.Common.{◌≡◌, ℕ, zero, suc, ◌-◌, ◌<◌, ◌≤◌, true, false, List, length, sym, ap, ◌∙◌, arith}
-use Rattle.raft_rules.specs.Log.{Entry}
-use Rattle.raft_rules.specs.Commitment.{is_stored_by_majority, commit_up_to}
-use Rattle.raft_rules.specs.Progress.{LeaderProgress, has_in, commit_of}
-use Rattle.raft_rules.proofs.Commits.{commit_stays, commit_found, commit_skips}
+use Rattle.raft_spec.specs.Log.{Entry}
+use Rattle.raft_spec.specs.Commitment.{is_stored_by_majority, commit_up_to}
+use Rattle.raft_spec.specs.Progress.{LeaderProgress, has_in, commit_of}
+use Rattle.raft_spec.proofs.Commits.{commit_stays, commit_found, commit_skips}
 
 -- the commit index by the indexes up to one
 abbrev pub found_to : LeaderProgress → List Entry → ℕ → ℕ → ℕ → ℕ

@@ -4,10 +4,10 @@ use Rattle.std.specs.Prelude.{◌==◌, ◌||◌, min, max, slice_index_or, slic
 use Rattle.std.proofs.lemmas.Bool.{eqb-false, ne_eqb, cond-true, cond-false}
 use Rattle.std.proofs.lemmas.List.{map-append, take_more}
 use Rattle.std.proofs.lemmas.List.Elements.{filter-append}
-use Rattle.raft_rules.specs.Node.{among, others}
-use Rattle.raft_rules.specs.Progress.{PeerProgress, next_in, match_in, ids_in, rows_for, progress_of, after_ack}
-use Rattle.raft_rules.proofs.ProgressRows.{At, has_row, next_at, match_at, good_row, bad_row}
-use Rattle.raft_rules.proofs.ProgressPeers.{match_none}
+use Rattle.raft_spec.specs.Node.{among, others}
+use Rattle.raft_spec.specs.Progress.{PeerProgress, next_in, match_in, ids_in, rows_for, progress_of, after_ack}
+use Rattle.raft_spec.proofs.ProgressRows.{At, has_row, next_at, match_at, good_row, bad_row}
+use Rattle.raft_spec.proofs.ProgressPeers.{match_none}
 use Rattle.raft_log.specs.Rows.{IsFirstRow, row_for}
 
 within_same : (rs : List PeerProgress) (i : ℕ) (d e : PeerProgress) → i < length rs → slice_index_or rs i d ≡ slice_index_or rs i e

@@ -3,11 +3,11 @@ use Rattle.std.proofs.Common.{◌≡◌, ℕ, zero, suc, ◌+◌, ◌-◌, ◌<�
 use Rattle.std.specs.Prelude.{◌&&◌, ◌==◌, nat_le, true}
 use Rattle.std.proofs.lemmas.Bool.{and_parts, leb-true}
 use Rattle.std.proofs.lemmas.List.{take_more, get_or-drop}
-use Rattle.raft_rules.specs.Log.{Entry, LogEnd, nth_term, term_at, matches}
-use Rattle.raft_rules.specs.Node.{Follower}
-use Rattle.raft_rules.specs.Compaction.{CutLog, compacted, whole_log, meets}
-use Rattle.raft_rules.specs.NodeValues.{NodeValue}
-use Rattle.raft_rules.proofs.NodeValues.{compacted_length, whole_term, whole_term_cut}
+use Rattle.raft_spec.specs.Log.{Entry, LogEnd, nth_term, term_at, matches}
+use Rattle.raft_spec.specs.Node.{Follower}
+use Rattle.raft_spec.specs.Compaction.{CutLog, compacted, whole_log, meets}
+use Rattle.raft_spec.specs.NodeValues.{NodeValue}
+use Rattle.raft_spec.proofs.NodeValues.{compacted_length, whole_term, whole_term_cut}
 
 -- how long the whole log is
 pub whole_count : (l : CutLog) → length (whole_log l) ≡ l.first.index + length l.entries

@@ -3,11 +3,11 @@ use Rattle.std.proofs.Common.{◌≡◌, ◌≢◌, ◌⊎◌, ℕ, suc, ◌+◌
 use Rattle.std.specs.Prelude.{max, true, Option, Some, None, Result, Ok, Err, IfOk, OnErr, option_map}
 use Rattle.std.proofs.lemmas.List.{length-take-le}
 use Rattle.std.proofs.Math.Seq.{drop-append-add}
-use Rattle.raft_rules.specs.Log.{Entry, LogEnd, nth_term, accept}
-use Rattle.raft_rules.specs.Compaction.{CutLog, compacted, whole_log, meets, Matches, StartsAt}
-use Rattle.raft_rules.proofs.Merges.{Alike}
-use Rattle.raft_rules.proofs.AcceptPlaces.{accept_stays, accept_moves, accept_starts, accept_past_cut}
-use Rattle.raft_rules.proofs.NodeValues.{compacted_length}
+use Rattle.raft_spec.specs.Log.{Entry, LogEnd, nth_term, accept}
+use Rattle.raft_spec.specs.Compaction.{CutLog, compacted, whole_log, meets, Matches, StartsAt}
+use Rattle.raft_spec.proofs.Merges.{Alike}
+use Rattle.raft_spec.proofs.AcceptPlaces.{accept_stays, accept_moves, accept_starts, accept_past_cut}
+use Rattle.raft_spec.proofs.NodeValues.{compacted_length}
 use Rattle.raft_log.specs.Agreeing.{agreeing_front, TakesIn, TakesAfter}
 use Rattle.raft_log.proofs.Agreeing.{front_alike, front_stops, front_short}
 use Rattle.raft_log.proofs.Places.{meets_parts}

@@ -1,7 +1,7 @@
 -- Up to where entries that come agree with those that stand.
 use Rattle.std.specs.Prelude.{◌≡◌, ◌<◌, ℕ, zero, suc, ◌+◌, Bool, false, cond, ◌==◌, Option, Some, None, ◌-◌, option_map, List, [], ◌∷◌, ◌++◌, length, take, drop}
-use Rattle.raft_rules.specs.Log.{Entry}
-use Rattle.raft_rules.specs.Compaction.{CutLog}
+use Rattle.raft_spec.specs.Log.{Entry}
+use Rattle.raft_spec.specs.Compaction.{CutLog}
 
 -- there is an entry of this term at the place, from 0
 abbrev pub has_term : List Entry → ℕ → ℕ → Bool

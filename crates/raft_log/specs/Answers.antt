@@ -1,7 +1,7 @@
 -- What the answers to an Append say.
 use Rattle.std.specs.Prelude.{List}
-use Rattle.raft_rules.specs.Log.{Entry, LogEnd}
-use Rattle.raft_rules.specs.Compaction.{CutLog, Differs, Matches}
+use Rattle.raft_spec.specs.Log.{Entry, LogEnd}
+use Rattle.raft_spec.specs.Compaction.{CutLog, Differs, Matches}
 use Rattle.raft_log.specs.declared.log.Accepted.{Accepted}
 use Rattle.raft_log.specs.declared.log.Accepted.TheVariants as answers
 

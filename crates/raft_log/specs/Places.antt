@@ -1,7 +1,7 @@
 -- What a log that is cut off knows of its places, and what is left of it when more is cut off.
 use Rattle.std.specs.Prelude.{ℕ, ◌-◌, ◌&&◌, cond, if◌then◌else◌, nat_le, min, Option, Some, None, length, drop}
-use Rattle.raft_rules.specs.Log.{LogEnd, term_at}
-use Rattle.raft_rules.specs.Compaction.{CutLog, whole_log}
+use Rattle.raft_spec.specs.Log.{LogEnd, term_at}
+use Rattle.raft_spec.specs.Compaction.{CutLog, whole_log}
 
 -- the place at an index, where the log knows its term: at the cut, or at an entry past it
 abbrev pub known_term : CutLog → ℕ → Option ℕ

@@ -1,7 +1,7 @@
 -- One peer's row of a leader's progress.
 use Rattle.std.specs.Prelude.{◌≡◌, ℕ, false, cond, ◌<◌, List, length, take, slice_index_or}
-use Rattle.raft_rules.specs.Node.{among}
-use Rattle.raft_rules.specs.Progress.{PeerProgress, next_in, match_in, ids_in}
+use Rattle.raft_spec.specs.Node.{among}
+use Rattle.raft_spec.specs.Progress.{PeerProgress, next_in, match_in, ids_in}
 
 -- the first row of an id stands at the place
 pub record IsFirstRow (rows : List PeerProgress) (i : ℕ) (id : ℕ) : Type 0 where

@@ -7,5 +7,5 @@ mod queue;
 mod rows;
 
 pub use log::{Accepted, Log};
-pub use progress::{MOST_VOTERS, Progress};
-pub use rows::MOST_PEERS;
+pub use progress::{MAX_VOTERS, Progress};
+pub use rows::MAX_PEERS;

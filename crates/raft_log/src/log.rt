@@ -1,13 +1,13 @@
 //! The log of one node, cut off at its front.
 ghost use Rattle.std.specs.Prelude.{◌≡◌, ◌<◌, ◌≤◌, ◌+◌, ◌-◌, ◌++◌, suc, true, MatchOption, option_map, [], ◌∷◌, OnErr, IfOk, IfSome, IsSome, ◌↔◌, if◌then◌else◌, is_ok, length, take, drop, slice_index_or, ◌&&◌, nat_lt, nat_le};
-ghost use Rattle.raft_rules.specs.Log.{nth_term, log_end, term_at, first_replaced};
-ghost use Rattle.raft_rules.specs.Compaction.{whole_log, meets};
+ghost use Rattle.raft_spec.specs.Log.{nth_term, log_end, term_at, first_replaced};
+ghost use Rattle.raft_spec.specs.Compaction.{whole_log, meets};
 ghost use Rattle.raft_log.specs.Places.{known_term, cut_at};
 ghost use Rattle.raft_log.specs.Agreeing.{TakesAfter};
 ghost use Rattle.raft_log.specs.Answers.{Answers};
 
 use crate::queue::{conflict, copied, drop_front, index_after, take_in, term_of};
-use raft_vote::{Entries, Entry, LogEnd};
+use raft_messages::{Entries, Entry, LogEnd};
 use std::alloc::{AllocError, Global};
 use std::marker::Model;
 
@@ -39,7 +39,7 @@ pub struct Log {
 
 impl Model for Log {
     ghost use Rattle.std.specs.Prelude.{◌≤◌, ◌+◌, length};
-    ghost use Rattle.raft_rules.specs.Compaction.{CutLog};
+    ghost use Rattle.raft_spec.specs.Compaction.{CutLog};
 
     ghost Value = { CutLog };
 
@@ -123,7 +123,7 @@ impl Log {
     }
 
     /// Where the log ends. Takes no memory and constant time.
-    #[tactic(auto, unfolding(raft_rules::specs::Log::log_end))]
+    #[tactic(auto, unfolding(raft_spec::specs::Log::log_end))]
     pub fn end(&self) -> LogEnd
         ensures { result ≡ log_end (whole_log self.now) }
     {
@@ -146,7 +146,7 @@ impl Log {
 
     /// Whether the log has this place: it isn't before the cut, and the term at the index is known and the same. Takes no
     /// memory and constant time.
-    #[tactic(auto, unfolding(raft_rules::specs::Log::matches))]
+    #[tactic(auto, unfolding(raft_spec::specs::Log::matches))]
     pub fn matches(&self, index: u64, term: u64) -> bool
         ensures { result ≡ meets self.now (record { index = index; term = term }) }
     {
@@ -219,7 +219,7 @@ impl Log {
 
     /// Whether the entries of an Append, which follow the index `prev`, would replace one at or below the index `through`.
     /// Takes no memory; the cost is in the order of the entries that come.
-    #[tactic(auto, unfolding(raft_rules::specs::Log::first_replaced), using(crate::proofs::Places::whole_count, crate::proofs::Taking::rest))]
+    #[tactic(auto, unfolding(raft_spec::specs::Log::first_replaced), using(crate::proofs::Places::whole_count, crate::proofs::Taking::rest))]
     pub fn replaces(&self, prev: u64, coming: &[Entry], through: u64) -> bool
         requires low { self.now.first.index ≤ prev }
         requires high { prev ≤ length (whole_log self.now) }

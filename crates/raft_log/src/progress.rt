@@ -1,10 +1,10 @@
 //! What a leader knows of the logs of all nodes, and the commit index that follows.
 ghost use Rattle.std.specs.Prelude.{◌≡◌, ◌<◌, ◌≤◌, ◌+◌, ◌++◌, nat_le, length, take, []};
 ghost use Rattle.std.specs.List.{count_by};
-ghost use Rattle.raft_rules.specs.Commitment.{is_stored_by_majority};
-ghost use Rattle.raft_rules.specs.Node.{majority, others};
-ghost use Rattle.raft_rules.specs.Compaction.{whole_log};
-ghost use Rattle.raft_rules.specs.Progress.{next_in, match_in, rows_for, progress_of, after_ack, has_in, commit_of};
+ghost use Rattle.raft_spec.specs.Commitment.{is_stored_by_majority};
+ghost use Rattle.raft_spec.specs.Node.{majority, others};
+ghost use Rattle.raft_spec.specs.Compaction.{whole_log};
+ghost use Rattle.raft_spec.specs.Progress.{next_in, match_in, rows_for, progress_of, after_ack, has_in, commit_of};
 
 use crate::log::Log;
 use crate::rows::{PeerRows, rows_of, rows_of_both};
@@ -12,7 +12,7 @@ use arrayvec::ArrayVec;
 use std::marker::Model;
 
 /// The most voters of a cluster.
-pub const MOST_VOTERS: usize = 7;
+pub const MAX_VOTERS: usize = 7;
 
 /// What a leader knows of all nodes: its own id, the voters, and of each peer the index of the next entry to send to it
 /// and up to where its log is known to agree (its match). Clauses see the rules' record of these. No call takes memory:
@@ -20,12 +20,12 @@ pub const MOST_VOTERS: usize = 7;
 #[derive(Drop)]
 pub struct Progress {
     own: u64,
-    voters: ArrayVec<u64, MOST_VOTERS>,
+    voters: ArrayVec<u64, MAX_VOTERS>,
     rows: PeerRows,
 }
 
 impl Model for Progress {
-    ghost use Rattle.raft_rules.specs.Progress.{LeaderProgress};
+    ghost use Rattle.raft_spec.specs.Progress.{LeaderProgress};
 
     ghost Value = { LeaderProgress };
 
@@ -33,7 +33,7 @@ impl Model for Progress {
 }
 
 // These ids in a table.
-fn table_of(ids: &[u64]) -> ArrayVec<u64, MOST_VOTERS>
+fn table_of(ids: &[u64]) -> ArrayVec<u64, MAX_VOTERS>
     requires { length ids.now ≤ 7 }
     ensures { result.items ≡ ids.now }
 {
@@ -126,7 +126,7 @@ impl Progress {
     }
 
     // Whether a majority of the voters has the index, with the leader's last index.
-    #[tactic(auto, unfolding(raft_rules::specs::Node::majority))]
+    #[tactic(auto, unfolding(raft_spec::specs::Node::majority))]
     fn majority_has(&self, last: u64, index: u64) -> bool
         ensures { result ≡ majority self.now.voters (λ p. nat_le index (has_in self.now last p)) }
     {
@@ -149,7 +149,7 @@ impl Progress {
     }
 
     // Whether a majority of the voters has the entry at an index, and it is of the term.
-    #[tactic(auto, unfolding(raft_rules::specs::Commitment::is_stored_by_majority))]
+    #[tactic(auto, unfolding(raft_spec::specs::Commitment::is_stored_by_majority))]
     fn is_stored(&self, log: &Log, term: u64, index: u64) -> bool
         requires { index ≤ length (whole_log log.now) }
         ensures { result ≡ is_stored_by_majority (whole_log log.now) term self.now.voters (has_in self.now (length (whole_log log.now))) index }

@@ -1,9 +1,9 @@
 //! The entries of a log past its cut: how they agree with those that come, and how their front goes.
 ghost use Rattle.std.specs.Prelude.{◌≡◌, ◌<◌, ◌≤◌, ◌+◌, ◌-◌, ◌++◌, suc, MatchOption, OnOk, OnErr, IfOk, length, take, drop};
-ghost use Rattle.raft_rules.specs.Log.{nth_term, conflict_place};
+ghost use Rattle.raft_spec.specs.Log.{nth_term, conflict_place};
 ghost use Rattle.raft_log.specs.Agreeing.{has_term, agreeing_front, TakesIn};
 
-use raft_vote::{Entries, Entry};
+use raft_messages::{Entries, Entry};
 use std::alloc::{AllocError, Global};
 
 /// The index that so many entries after an index have the last of. An index that is too great is want of memory.

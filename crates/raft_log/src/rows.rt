@@ -1,14 +1,14 @@
 //! What a leader knows of its peers, as a table of fixed size.
 ghost use Rattle.std.specs.Prelude.{◌≡◌, ◌<◌, ◌≤◌, ◌+◌, ◌-◌, ◌++◌, [], ◌∷◌, suc, max, min, cond, MatchOption, length, false};
-ghost use Rattle.raft_rules.specs.Node.{among, others};
-ghost use Rattle.raft_rules.specs.Progress.{next_in, match_in, ids_in, rows_for, progress_of, after_ack};
+ghost use Rattle.raft_spec.specs.Node.{among, others};
+ghost use Rattle.raft_spec.specs.Progress.{next_in, match_in, ids_in, rows_for, progress_of, after_ack};
 ghost use Rattle.raft_log.specs.Rows.{IsFirstRow, row_for};
 
 use arrayvec::ArrayVec;
 use std::marker::Model;
 
 /// The most peers of a leader.
-pub const MOST_PEERS: usize = 9;
+pub const MAX_PEERS: usize = 9;
 
 /// One peer: the index of the next entry to send to it, and up to where its log is known to agree. The latter came in a
 /// message, so it has 32 bits.
@@ -20,7 +20,7 @@ pub struct PeerRow {
 }
 
 impl Model for PeerRow {
-    ghost use Rattle.raft_rules.specs.Progress.{PeerProgress};
+    ghost use Rattle.raft_spec.specs.Progress.{PeerProgress};
 
     ghost Value = { PeerProgress };
 
@@ -121,12 +121,12 @@ fn ack_among(rows: &mut [PeerRow], from: u64, good: bool, index: u64)
 /// The rows of all peers.
 #[derive(Drop)]
 pub struct PeerRows {
-    rows: ArrayVec<PeerRow, MOST_PEERS>,
+    rows: ArrayVec<PeerRow, MAX_PEERS>,
 }
 
 impl Model for PeerRows {
     ghost use Rattle.std.specs.Prelude.{List};
-    ghost use Rattle.raft_rules.specs.Progress.{PeerProgress};
+    ghost use Rattle.raft_spec.specs.Progress.{PeerProgress};
 
     ghost Value = { List PeerProgress };
 
@@ -173,7 +173,7 @@ impl PeerRows {
     }
 
     // Adds the peer of this id, but not the own one. One that had a row keeps it.
-    #[tactic(auto, unfolding(raft_rules::specs::Node::others))]
+    #[tactic(auto, unfolding(raft_spec::specs::Node::others))]
     fn add_one(&mut self, id: u64, own: u64, next: u64, old: &PeerRows)
         requires { length self.old < 9 }
         ensures rows { self.new ≡ self.old ++ rows_for (others (id ∷ []) own) next old.now }

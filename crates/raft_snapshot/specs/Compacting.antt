@@ -1,6 +1,6 @@
 -- The rules of compaction, by the end of the last snapshot.
 use Rattle.std.specs.Prelude.{ℕ, suc, ◌+◌, ◌-◌, Bool, false, not, ◌&&◌, ◌||◌, ◌==◌, nat_lt, nat_le, if◌then◌else◌, Option, Some, None}
-use Rattle.raft_rules.specs.Log.{LogEnd}
+use Rattle.raft_spec.specs.Log.{LogEnd}
 use Rattle.raft_snapshot.specs.declared.InstallPlan.{InstallPlan}
 use Rattle.raft_snapshot.specs.declared.InstallPlan.TheVariants as plans
 

@@ -5,7 +5,7 @@
 ghost use Rattle.std.specs.Prelude.{◌≡◌, ◌≢◌, ◌⊎◌, ◌<◌, ◌≤◌, ◌+◌, ◌-◌, ◌↔◌, IsTrue, Some, nat_le};
 ghost use Rattle.raft_snapshot.specs.Compacting.{is_due, first_kept, needs, plan_for};
 
-use raft_vote::LogEnd;
+use raft_messages::LogEnd;
 use std::marker::Model;
 
 /// From so many entries past its last snapshot on a node takes another one.
@@ -33,7 +33,7 @@ pub struct Compact {
 }
 
 impl Model for Compact {
-    ghost use Rattle.raft_rules.specs.Log.{LogEnd as LogEndValue};
+    ghost use Rattle.raft_spec.specs.Log.{LogEnd as LogEndValue};
 
     ghost Value = { LogEndValue };
 

@@ -1,7 +1,7 @@
 //! Five nodes play a figure of entries of older terms, move by move.
 use crate::nodes::{FIVE, entries, fresh, step};
-use raft_core::{RaftEvent, RaftNode, RaftRole, Sending, Todo};
-use raft_vote::RaftMessage;
+use raft_core::{Outgoing, RaftEvent, RaftNode, RaftRole, Todo};
+use raft_messages::RaftMessage;
 use std::alloc::{AllocError, Global};
 use std::test::*;
 
@@ -76,7 +76,7 @@ fn sent(mail: &mut Vec<RaftMessage>, todo: Todo) -> Result<(), AllocError> {
         commit: _,
     } = todo;
     for sending in sends.into_vec() {
-        if let Sending::Message(message) = sending {
+        if let Outgoing::Message(message) = sending {
             mail.push(message)?;
         }
     }

@@ -1,4 +1,4 @@
-//! The tests of `raft_vote`, `raft_log`, `raft_core` and `raft_member`, which call them from outside. A crate with tests of
+//! The tests of `raft_messages`, `raft_log`, `raft_core` and `raft_membership`, which call them from outside. A crate with tests of
 //! its own is proved once more with them, so these stand here.
 #![tactic(auto)]
 

@@ -1,6 +1,6 @@
 //! The log of one node, and the commit index of a leader.
 use raft_log::{Accepted, Log, Progress};
-use raft_vote::{Entry, EntryKind, LogEnd, SharedBytes};
+use raft_messages::{Entry, EntryKind, LogEnd, SharedBytes};
 use std::alloc::{AllocError, Global};
 use std::test::Fail;
 use wire_words::WireBytes;

@@ -1,8 +1,8 @@
 //! The configurations of a log, as entries join, are cut off and are applied.
 use crate::nodes::configuration;
 use crate::owner::{entry_of, joins, leaves, members_at, roles_of, settles_at};
-use raft_member::Members;
-use raft_vote::{EntryKind, read_servers};
+use raft_membership::Members;
+use raft_messages::{EntryKind, read_servers};
 use std::alloc::{AllocError, Global};
 use std::test::*;
 

@@ -1,6 +1,6 @@
 //! Nodes to test.
-use raft_core::{Kept2, RaftEvent, RaftNode, Todo};
-use raft_vote::{Entries, Entry, EntryKind, SharedBytes, read_servers};
+use raft_core::{RaftEvent, RaftNode, StoredRaft, Todo};
+use raft_messages::{Entries, Entry, EntryKind, SharedBytes, read_servers};
 use std::alloc::{AllocError, Global};
 use std::test::Fail;
 use wire_words::WireBytes;
@@ -42,7 +42,7 @@ pub fn entries(alloc: Global, terms: &[u64]) -> Result<Entries, AllocError> {
 pub fn fresh(alloc: Global, id: u64, roles: &[u64]) -> Result<RaftNode, Fail> {
     let bytes = configuration(alloc, roles)?;
     let (servers, _) = read_servers(alloc, bytes.as_slice())?;
-    let kept = Kept2 {
+    let kept = StoredRaft {
         term: 0,
         vote: 0,
         snapshot: None,

@@ -4,9 +4,11 @@ ghost use Rattle.std.specs.Prelude.{◌≡◌};
 ghost use Rattle.raft_core.specs.Starting.{snapshot_in};
 
 use crate::nodes::{configuration, step};
-use raft_core::{Kept2, RaftEvent, RaftNode, RaftRole, Sending, Todo};
-use raft_member::Members;
-use raft_vote::{Entries, Entry, EntryKind, LogEnd, Server, SharedBytes, Snapshot, read_servers};
+use raft_core::{Outgoing, RaftEvent, RaftNode, RaftRole, StoredRaft, Todo};
+use raft_membership::Members;
+use raft_messages::{
+    Entries, Entry, EntryKind, LogEnd, Server, SharedBytes, Snapshot, read_servers,
+};
 use std::alloc::{AllocError, Global};
 use std::test::Fail;
 use wire_words::WireBytes;
@@ -128,7 +130,7 @@ fn end_index(snapshot: Option<LogEnd>) -> u64
 }
 
 // A node that starts with what was kept, among servers of these roles.
-fn started(alloc: Global, id: u64, roles: &[u64], kept: Kept2) -> Result<RaftNode, Fail> {
+fn started(alloc: Global, id: u64, roles: &[u64], kept: StoredRaft) -> Result<RaftNode, Fail> {
     let bytes = configuration(alloc, roles)?;
     let (servers, _) = read_servers(alloc, bytes.as_slice())?;
     let index = end_index(kept.snapshot);
@@ -172,7 +174,7 @@ pub fn settles_at(members: &mut Members, applied: u64) -> Result<(), Fail> {
 }
 
 // The node is told servers of these roles. Answers what it sends.
-fn is_told(alloc: Global, node: &mut RaftNode, roles: &[u64]) -> Result<Vec<Sending>, Fail> {
+fn is_told(alloc: Global, node: &mut RaftNode, roles: &[u64]) -> Result<Vec<Outgoing>, Fail> {
     let bytes = configuration(alloc, roles)?;
     let (servers, _) = read_servers(alloc, bytes.as_slice())?;
     if node.view().role == RaftRole::Candidate {
@@ -269,7 +271,7 @@ impl Owner {
 
     /// The node takes an event; what it is to keep is kept, what is committed is applied, and where other servers count in
     /// its log and it doesn't lead it is told them. Answers what it sends.
-    pub fn happens(&mut self, alloc: Global, event: RaftEvent) -> Result<Vec<Sending>, Fail> {
+    pub fn happens(&mut self, alloc: Global, event: RaftEvent) -> Result<Vec<Outgoing>, Fail> {
         let todo = step(alloc, &mut self.node, event)?;
         let Todo {
             meta,
@@ -301,8 +303,8 @@ impl Owner {
 
     /// A leader that may proposes that another server has this role; one that is to vote has all of the log. It is told the
     /// new servers before. Answers what it sends.
-    pub fn changes(&mut self, alloc: Global, id: u64, role: u64) -> Result<Vec<Sending>, Fail> {
-        if !self.may_change() || role == 0 && !self.node.even(id) {
+    pub fn changes(&mut self, alloc: Global, id: u64, role: u64) -> Result<Vec<Outgoing>, Fail> {
+        if !self.may_change() || role == 0 && !self.node.is_caught_up(id) {
             return Ok(Vec::new(alloc));
         }
         let mut roles = roles_of(alloc, self.members.current())?;
@@ -376,7 +378,7 @@ impl Owner {
 
     /// It stops, and starts with what it has kept; the servers of the cluster had these roles at first.
     pub fn restarts(&mut self, alloc: Global, id: u64, opening: &[u64]) -> Result<(), Fail> {
-        let kept = Kept2 {
+        let kept = StoredRaft {
             term: self.disk.term,
             vote: self.disk.vote,
             snapshot: self.disk.end(),

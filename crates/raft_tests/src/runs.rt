@@ -1,8 +1,8 @@
 //! Random runs of five nodes, whose servers change.
 use crate::nodes::{FIVE, fresh};
 use crate::owner::{Owner, entry_of, proposal, roles_of};
-use raft_core::{RaftEvent, Sending};
-use raft_vote::{EntryKind, RaftMessage, What, read_message, write_message};
+use raft_core::{Outgoing, RaftEvent};
+use raft_messages::{EntryKind, MessageBody, RaftMessage, read_message, write_message};
 use std::alloc::{AllocError, Global};
 use std::test::*;
 use wire_words::{Message, WireBytes};
@@ -23,15 +23,15 @@ impl Picks {
 }
 
 // What a member sends, as a message; an Install has the bytes of its snapshot.
-fn message_of(member: &Owner, from: u64, sending: Sending) -> Result<Option<RaftMessage>, Fail> {
+fn message_of(member: &Owner, from: u64, sending: Outgoing) -> Result<Option<RaftMessage>, Fail> {
     match sending {
-        Sending::Message(message) => Ok(Some(message)),
-        Sending::Install { to, term, last: _ } => match &member.disk.snapshot {
+        Outgoing::Message(message) => Ok(Some(message)),
+        Outgoing::Install { to, term, last: _ } => match &member.disk.snapshot {
             Some(snapshot) => Ok(Some(RaftMessage {
                 from,
                 to,
                 term,
-                what: What::Install {
+                what: MessageBody::Install {
                     snapshot: snapshot.share()?,
                 },
             })),
@@ -44,7 +44,7 @@ fn message_of(member: &Owner, from: u64, sending: Sending) -> Result<Option<Raft
 fn sends_all(
     member: &Owner,
     from: u64,
-    sends: Vec<Sending>,
+    sends: Vec<Outgoing>,
     mail: &mut Vec<RaftMessage>,
 ) -> Result<(), Fail> {
     for sending in sends {

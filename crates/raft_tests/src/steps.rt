@@ -1,7 +1,7 @@
 //! Steps of one node, one after another.
 use crate::nodes::{FIVE, THREE, configuration, entries, fresh, step};
-use raft_core::{RaftEvent, RaftNode, RaftRole, Sending, Todo};
-use raft_vote::{LogEnd, RaftMessage, SharedBytes, Snapshot, What, read_servers};
+use raft_core::{Outgoing, RaftEvent, RaftNode, RaftRole, Todo};
+use raft_messages::{LogEnd, MessageBody, RaftMessage, SharedBytes, Snapshot, read_servers};
 use std::alloc::{AllocError, Global};
 use std::test::*;
 use wire_words::WireBytes;
@@ -25,15 +25,15 @@ enum Row {
 // What is sent first: its receiver, the number of its type, a flag, an index.
 fn first_sent(todo: &Todo) -> (u64, u8, bool, u64) {
     match todo.sends.as_slice() {
-        [Sending::Message(message), ..] => match &message.what {
-            What::AskVote { last } => (message.to, 1, false, last.index),
-            What::Vote { granted } => (message.to, 2, *granted, 0),
-            What::Append { prev, .. } => (message.to, 3, false, prev.index),
-            What::Ack { good, index } => (message.to, 4, *good, *index),
-            What::Install { snapshot } => (message.to, 5, false, snapshot.index),
-            What::TimeoutNow => (message.to, 6, false, 0),
+        [Outgoing::Message(message), ..] => match &message.what {
+            MessageBody::AskVote { last } => (message.to, 1, false, last.index),
+            MessageBody::Vote { granted } => (message.to, 2, *granted, 0),
+            MessageBody::Append { prev, .. } => (message.to, 3, false, prev.index),
+            MessageBody::Ack { good, index } => (message.to, 4, *good, *index),
+            MessageBody::Install { snapshot } => (message.to, 5, false, snapshot.index),
+            MessageBody::TimeoutNow => (message.to, 6, false, 0),
         },
-        [Sending::Install { to, last, .. }, ..] => (*to, 5, false, last.index),
+        [Outgoing::Install { to, last, .. }, ..] => (*to, 5, false, last.index),
         [] => (0, 0, false, 0),
     }
 }
@@ -52,32 +52,32 @@ fn event_of(alloc: Global, row: Row) -> Result<RaftEvent, AllocError> {
         }
         Row::AskVote(from, term, index, last) => {
             let last = LogEnd { index, term: last };
-            (from, term, What::AskVote { last })
+            (from, term, MessageBody::AskVote { last })
         }
-        Row::Vote(from, term, granted) => (from, term, What::Vote { granted }),
+        Row::Vote(from, term, granted) => (from, term, MessageBody::Vote { granted }),
         Row::Append(from, term, index, prev, commit, terms) => {
             let prev = LogEnd { index, term: prev };
             let entries = entries(alloc, terms)?;
             (
                 from,
                 term,
-                What::Append {
+                MessageBody::Append {
                     prev,
                     commit,
                     entries,
                 },
             )
         }
-        Row::Ack(from, term, good, index) => (from, term, What::Ack { good, index }),
+        Row::Ack(from, term, good, index) => (from, term, MessageBody::Ack { good, index }),
         Row::Install(from, term, index, last) => {
             let snapshot = Snapshot {
                 index,
                 term: last,
                 bytes: SharedBytes::new(alloc, WireBytes::new(Vec::new(alloc)))?,
             };
-            (from, term, What::Install { snapshot })
+            (from, term, MessageBody::Install { snapshot })
         }
-        Row::TimeoutNow(from, term) => (from, term, What::TimeoutNow),
+        Row::TimeoutNow(from, term) => (from, term, MessageBody::TimeoutNow),
     };
     Ok(RaftEvent::Message(RaftMessage {
         from,

@@ -1,5 +1,5 @@
 //! Messages and configurations both ways, their faults, and votes.
-use raft_vote::*;
+use raft_messages::*;
 use std::alloc::{AllocError, Global};
 use std::test::*;
 use wire_words::{Message, WireBytes, WordFault};

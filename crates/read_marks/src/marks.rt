@@ -5,7 +5,7 @@ ghost use Rattle.read_marks.specs.declared.marks.MarkFault.TheVariants.{Full};
 use std::marker::Model;
 
 /// How many marks can be live at once.
-const MOST_MARKS: usize = 64;
+const MAX_MARKS: usize = 64;
 
 /// A live mark of one table. Contracts see it as its place there. It is made by `Marks::pin` alone, can't be copied, and
 /// is spent by `Marks::release`; so where a table's marks are released only by its own ids, an id that wasn't spent is
@@ -37,7 +37,7 @@ pub enum MarkFault {
 /// the same mark. Contracts see it as the list of its places. No call takes memory.
 #[derive(Drop)]
 pub struct Marks {
-    table: [Option<u64>; MOST_MARKS],
+    table: [Option<u64>; MAX_MARKS],
 }
 
 impl Model for Marks {
@@ -55,7 +55,7 @@ impl Marks {
         ensures { result ≡ no_marks }
     {
         Marks {
-            table: [None; MOST_MARKS],
+            table: [None; MAX_MARKS],
         }
     }
 
@@ -69,7 +69,7 @@ impl Marks {
         ensures kept { OnErr result (self.new ≡ self.old) }
     {
         let Some(place) = free_place(self.places()) else {
-            return Err(MarkFault::Full(MOST_MARKS as u64));
+            return Err(MarkFault::Full(MAX_MARKS as u64));
         };
         self.table[place] = Some(mark);
         Ok(MarkId { place })

@@ -2,7 +2,7 @@
 
 use dq_base::{Image, Items, Name};
 use query_reader::answer_read;
-use session_decisions::{Read, ReadJob};
+use session_outcomes::{Read, ReadJob};
 use session_table::{Cause, Query, Reply};
 use sql_engine::CellEngine;
 use std::alloc::Global;
@@ -35,7 +35,7 @@ fn told_of(alloc: Global, text: &str) -> Option<Told> {
     let job = job_of(alloc, text)?;
     let mut engine = CellEngine::new(alloc);
     let told = match answer_read(alloc, &job, &mut engine) {
-        Read::Answers(rows) => Told::Responses(Reply::Rows(rows).responses()),
+        Read::Answers(rows) => Told::Responses(Reply::Rows(rows).response_count()),
         Read::Refused(cause) => Told::Refused(cause),
         Read::GivenBack => Told::GivenBack,
     };

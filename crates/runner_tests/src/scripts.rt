@@ -1,7 +1,7 @@
 use dq_base::{MemSink, MemSource};
-use script_nodes::ClusterJournal;
-use script_places::{CellChoice, WholePlace};
+use script_cluster::ClusterJournal;
 use script_runner::{Outcome, run_script};
+use script_whole_nodes::{CellChoice, WholePlace};
 use std::alloc::{AllocError, Global};
 use std::test::Fail;
 

@@ -5,34 +5,34 @@ use Rattle.std.specs.List.{AllByRecursion}
 use Rattle.std.proofs.lemmas.List.{take-take}
 use Rattle.std.proofs.lemmas.List.Elements.{All-from_recursion, All-contains}
 use Rattle.wire_words.specs.Items.{AreBytes}
-use Rattle.frame_commands.specs.declared.command.Command.{Command}
-use Rattle.page_apply.specs.Files.{files}
-use Rattle.page_apply.specs.AsMap.{Does}
-use Rattle.page_apply.proofs.AsMap.{files_in_order, files_changed}
-use Rattle.script_lines.specs.Lines.{lines_of}
-use Rattle.script_lines.specs.Grammar.{line_of}
-use Rattle.script_lines.specs.Spelling.{AreHex, IsAimed}
-use Rattle.script_lines.specs.Usage.{with_event}
-use Rattle.script_lines.specs.declared.events.Event.{Event}
-use Rattle.script_lines.specs.declared.events.Event.TheVariants as event
-use Rattle.script_lines.specs.declared.grammar.Aim.{Aim}
-use Rattle.script_lines.specs.declared.grammar.Aim.TheVariants as aims
-use Rattle.script_lines.specs.declared.grammar.ScriptLine.{ScriptLine}
-use Rattle.script_lines.specs.declared.grammar.ScriptLine.TheVariants as says
-use Rattle.script_lines.specs.declared.usage.Usage.{Usage}
-use Rattle.script_lines.proofs.SpelledLines.{line_spelled}
-use Rattle.script_nodes.specs.declared.said.Said.{Said as NodeSaid}
-use Rattle.script_nodes.specs.Outcomes.{Outcome}
-use Rattle.script_nodes.specs.Run as nodes
-use Rattle.script_pages.specs.declared.said.Said.{Said as MachineSaid}
-use Rattle.script_pages.specs.Alike as pages
-use Rattle.script_pages.specs.Alike.{BeginsWith, Follows, AllFollow, IsDigestOf, IsSound, PutsBytes, GoesAlike, length_of_all}
-use Rattle.script_pages.specs.Holding.{Holding}
-use Rattle.script_pages.specs.Machines.{Fleet, idle_fleet, applies, standing_of}
-use Rattle.script_pages.proofs.Agreement.{begins_itself, begins_then, follows_grown, tells_grown as machine_grown, all_follow_idle, next_front, events_keep_alike, machines_stand_alike}
-use Rattle.script_pages.proofs.Bounded.{none_sound, lists_stay_sound, files_are_bounded}
-use Rattle.script_pages.proofs.Elements.{all_weaker, all_append}
-use Rattle.script_nodes.specs.Run.{Fault, Line, Large}
+use Rattle.log_commands.specs.declared.command.Command.{Command}
+use Rattle.database_state.specs.Files.{files}
+use Rattle.database_state.specs.AsMap.{Does}
+use Rattle.database_state.proofs.AsMap.{files_in_order, files_changed}
+use Rattle.script_grammar.specs.Lines.{lines_of}
+use Rattle.script_grammar.specs.Grammar.{line_of}
+use Rattle.script_grammar.specs.Spelling.{AreHex, IsAimed}
+use Rattle.script_grammar.specs.Usage.{with_event}
+use Rattle.script_grammar.specs.declared.events.Event.{Event}
+use Rattle.script_grammar.specs.declared.events.Event.TheVariants as event
+use Rattle.script_grammar.specs.declared.grammar.FaultTarget.{FaultTarget}
+use Rattle.script_grammar.specs.declared.grammar.FaultTarget.TheVariants as aims
+use Rattle.script_grammar.specs.declared.grammar.ScriptLine.{ScriptLine}
+use Rattle.script_grammar.specs.declared.grammar.ScriptLine.TheVariants as says
+use Rattle.script_grammar.specs.declared.usage.Usage.{Usage}
+use Rattle.script_grammar.proofs.SpelledLines.{line_spelled}
+use Rattle.script_cluster.specs.declared.cluster_line.ClusterLine.{ClusterLine as NodeSaid}
+use Rattle.script_cluster.specs.Outcomes.{Outcome}
+use Rattle.script_cluster.specs.Run as nodes
+use Rattle.script_machines.specs.declared.machine_line.MachineLine.{MachineLine as MachineSaid}
+use Rattle.script_machines.specs.Alike as pages
+use Rattle.script_machines.specs.Alike.{BeginsWith, Follows, AllFollow, IsDigestOf, IsSound, PutsBytes, GoesAlike, length_of_all}
+use Rattle.script_machines.specs.Holding.{Holding}
+use Rattle.script_machines.specs.Machines.{Fleet, idle_fleet, applies, standing_of}
+use Rattle.script_machines.proofs.Agreement.{begins_itself, begins_then, follows_grown, tells_grown as machine_grown, all_follow_idle, next_front, events_keep_alike, machines_stand_alike}
+use Rattle.script_machines.proofs.Bounded.{none_sound, lists_stay_sound, files_are_bounded}
+use Rattle.script_machines.proofs.Elements.{all_weaker, all_append}
+use Rattle.script_cluster.specs.Run.{Fault, Line, Large}
 use Rattle.script_runner.specs.Run.{Said, OfNodes, OfMachines, Stage, AtNodes, AtMachines, Next, Run, shows, counts, after_event, line_step, said_step, stops, step, onward, closing, run_from, run}
 use Rattle.script_runner.specs.Alike.{fleet_at, led, led_from, commands_of, moment, run_until, Tells, IsSeenIn, IsSeen, KeepsAlike, machine_said}
 
@@ -138,7 +138,7 @@ are_bytes (byte ∷ bytes) small zero = small.0
 are_bytes (byte ∷ bytes) small (suc i) = are_bytes bytes small.1 i
 
 -- what a line puts are bytes
-text_puts : (event : Event) (aim : Aim) (text : List ℕ) → IsAimed aim event text → PutsBytes event
+text_puts : (event : Event) (aim : FaultTarget) (text : List ℕ) → IsAimed aim event text → PutsBytes event
 text_puts (event.Put bytes) aims.Nothing text s = are_bytes bytes (hex_small s.digits bytes s.hex)
 text_puts (event.Put bytes) (aims.Stop call pick) text s = are_bytes bytes (hex_small s.spelled.digits bytes s.spelled.hex)
 text_puts (event.Put bytes) (aims.Fail call) text s = are_bytes bytes (hex_small s.spelled.digits bytes s.spelled.hex)

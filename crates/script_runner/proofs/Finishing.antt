@@ -4,12 +4,12 @@ use Rattle.std.specs.Io.KnownBytes.{Appends, IsAtEnd}
 use Rattle.std.proofs.lemmas.List.{append-nil}
 use Rattle.dq_base.specs.Sink.{AppendsFront}
 use Rattle.dq_base.proofs.ContentLaws.{Appends-then, AppendsFront-nothing, AppendsFront-longer, AppendsFront-then}
-use Rattle.script_lines.specs.Lines.{Cursor, to_come, TakesLine}
-use Rattle.script_lines.specs.declared.lines.LineFault.{LineFault}
-use Rattle.script_lines.specs.declared.lines.LineFault.TheVariants as line
-use Rattle.script_nodes.specs.Knowing.{Knowing, outcomes_in}
-use Rattle.script_nodes.specs.Outcomes.{Item, Turn}
-use Rattle.script_nodes.specs.Run.{Fault, Line, Large, fault_text}
+use Rattle.script_grammar.specs.Lines.{Cursor, to_come, TakesLine}
+use Rattle.script_grammar.specs.declared.lines.LineFault.{LineFault}
+use Rattle.script_grammar.specs.declared.lines.LineFault.TheVariants as line
+use Rattle.script_cluster.specs.Knowing.{Knowing, outcomes_in}
+use Rattle.script_cluster.specs.Outcomes.{Item, Turn}
+use Rattle.script_cluster.specs.Run.{Fault, Line, Large, fault_text}
 use Rattle.script_runner.specs.declared.printing.PrintFault.{PrintFault}
 use Rattle.script_runner.specs.declared.printing.PrintFault.TheVariants as print
 use Rattle.script_runner.specs.declared.run.Outcome.{Outcome}

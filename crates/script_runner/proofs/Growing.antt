@@ -2,24 +2,24 @@
 use Rattle.std.proofs.Common.{◌≡◌, ℕ, ◌-◌, zero, suc, Bool, true, false, cond, List, [], ◌∷◌, ◌++◌, Option, Some, None, Result, Ok, Err, refl, sym, ap, ◌∙◌, append_assoc}
 use Rattle.std.specs.Prelude.{nat_le, slice_get}
 use Rattle.std.proofs.lemmas.List.{append-nil}
-use Rattle.script_lines.specs.ScriptSize.{line_count_limit}
-use Rattle.script_lines.specs.Grammar.{line_of}
-use Rattle.script_lines.specs.Usage.{with_event, with_messages}
-use Rattle.script_lines.specs.declared.events.Event.{Event}
-use Rattle.script_lines.specs.declared.events.Event.TheVariants as event
-use Rattle.script_lines.specs.declared.grammar.Aim.{Aim}
-use Rattle.script_lines.specs.declared.grammar.Aim.TheVariants.{Nothing}
-use Rattle.script_lines.specs.declared.grammar.ScriptLine.{ScriptLine}
-use Rattle.script_lines.specs.declared.grammar.ScriptLine.TheVariants as says
-use Rattle.script_lines.specs.declared.usage.Usage.{Usage}
-use Rattle.raft_vote.specs.declared.message.RaftMessage.{RaftMessage}
-use Rattle.raft_vote.specs.declared.fault.PeerFault.{PeerFault}
-use Rattle.script_nodes.specs.Outcomes.{Standing, Outs, Ending, Steps, Starts, Stops, Fails, Unreadable, Outcome, Doing, Timeout, Beat, Connect, Bytes, Hangup, Receive, Start, Turn, Does, Crashes}
-use Rattle.script_nodes.specs.World.{World, Letter, Halt, NotThere, Went, quiet, halted, onward, after_step, after_ending, with_turn, unless_many, asked, at_node, connects, on_link, node_of, hangs_up, is_up, arrived_at, arriving, is_node, arrives}
-use Rattle.script_nodes.specs.World.{delivered, delivers, crashes, starts, counted_so, counted, settled_so, settles, first_waiting, exists, happens, takes, bytes_in, shown}
-use Rattle.script_nodes.specs.declared.said.Said.{Said as NodeSaid}
-use Rattle.script_nodes.specs.Run as nodes
-use Rattle.script_nodes.specs.Run.{Fault, Large}
+use Rattle.script_grammar.specs.ScriptSize.{line_count_limit}
+use Rattle.script_grammar.specs.Grammar.{line_of}
+use Rattle.script_grammar.specs.Usage.{with_event, with_messages}
+use Rattle.script_grammar.specs.declared.events.Event.{Event}
+use Rattle.script_grammar.specs.declared.events.Event.TheVariants as event
+use Rattle.script_grammar.specs.declared.grammar.FaultTarget.{FaultTarget}
+use Rattle.script_grammar.specs.declared.grammar.FaultTarget.TheVariants.{Nothing}
+use Rattle.script_grammar.specs.declared.grammar.ScriptLine.{ScriptLine}
+use Rattle.script_grammar.specs.declared.grammar.ScriptLine.TheVariants as says
+use Rattle.script_grammar.specs.declared.usage.Usage.{Usage}
+use Rattle.raft_messages.specs.declared.message.RaftMessage.{RaftMessage}
+use Rattle.raft_messages.specs.declared.fault.PeerFault.{PeerFault}
+use Rattle.script_cluster.specs.Outcomes.{Standing, Outs, Ending, Steps, Starts, Stops, Fails, Unreadable, Outcome, Doing, Timeout, Beat, Connect, Bytes, Hangup, Receive, Start, Turn, Does, Crashes}
+use Rattle.script_cluster.specs.World.{World, Letter, Halt, NotThere, Went, quiet, halted, onward, after_step, after_ending, with_turn, unless_many, asked, at_node, connects, on_link, node_of, hangs_up, is_up, arrived_at, arriving, is_node, arrives}
+use Rattle.script_cluster.specs.World.{delivered, delivers, crashes, starts, counted_so, counted, settled_so, settles, first_waiting, exists, happens, takes, bytes_in, shown}
+use Rattle.script_cluster.specs.declared.cluster_line.ClusterLine.{ClusterLine as NodeSaid}
+use Rattle.script_cluster.specs.Run as nodes
+use Rattle.script_cluster.specs.Run.{Fault, Large}
 use Rattle.script_runner.specs.Run.{Stage, AtNodes, AtMachines, Next, stops, line_step, said_step, step, onward as run_onward, turns_at, run_from}
 use Rattle.script_runner.specs.Ending.{BeginWith}
 
@@ -58,40 +58,40 @@ unless_grows : (w : World) (over : Option Turn) (went : Went) (halt : Option Hal
 unless_grows w over went None g = g
 unless_grows w over went (Some why) g = same_turns w.turns
 
-asked_grows : (n : ℕ) (doing : Doing) (aim : Aim) (w : World) (outcomes : List Outcome) → Grows w (asked n doing aim w outcomes)
+asked_grows : (n : ℕ) (doing : Doing) (aim : FaultTarget) (w : World) (outcomes : List Outcome) → Grows w (asked n doing aim w outcomes)
 asked_grows n doing aim w [] = same_turns w.turns
 asked_grows n doing aim w (outcome ∷ left) =
     let went = after_ending n outcome.ending (with_turn w n doing aim outcome left) in
     unless_grows w (Some (Does n doing aim outcome)) went went.halt (Does n doing aim outcome ∷ [], ending_keeps n outcome.ending (with_turn w n doing aim outcome left))
 
-node_grows : (n : ℕ) (doing : Doing) (aim : Aim) → AlwaysGrows (at_node n doing aim)
+node_grows : (n : ℕ) (doing : Doing) (aim : FaultTarget) → AlwaysGrows (at_node n doing aim)
 node_grows n doing aim w = either w (is_up w n) (asked n doing aim w w.outcomes) (quiet w) (asked_grows n doing aim w w.outcomes) (same_turns w.turns)
 
 connects_grows : (n c : ℕ) → AlwaysGrows (connects n c)
 connects_grows n c w = either w (is_up w n) _ _ (asked_grows n (Connect c) Nothing _ w.outcomes) (same_turns w.turns)
 
-link_grows : (doing : Doing) (aim : Aim) (w : World) (node : Option ℕ) → Grows w (on_link doing aim w node)
+link_grows : (doing : Doing) (aim : FaultTarget) (w : World) (node : Option ℕ) → Grows w (on_link doing aim w node)
 link_grows doing aim w None = same_turns w.turns
 link_grows doing aim w (Some n) = node_grows n doing aim w
 
-hangs_up_grows : (c : ℕ) (aim : Aim) → AlwaysGrows (hangs_up c aim)
+hangs_up_grows : (c : ℕ) (aim : FaultTarget) → AlwaysGrows (hangs_up c aim)
 hangs_up_grows c aim w = link_grows (Hangup c) aim _ (node_of w.links c)
 
-arrives_grows : (aim : Aim) (w : World) (message : Result RaftMessage PeerFault) → Grows w (arrives aim w message)
+arrives_grows : (aim : FaultTarget) (w : World) (message : Result RaftMessage PeerFault) → Grows w (arrives aim w message)
 arrives_grows aim w (Err fault) = same_turns w.turns
 arrives_grows aim w (Ok m) = either w (is_node w m.to) (at_node m.to (Receive m) aim w) (quiet w) (node_grows m.to (Receive m) aim w) (same_turns w.turns)
 
-delivered_grows : (aim : Aim) (w : World) (place : ℕ) (letter : Option Letter) → Grows w (delivered aim w place letter)
+delivered_grows : (aim : FaultTarget) (w : World) (place : ℕ) (letter : Option Letter) → Grows w (delivered aim w place letter)
 delivered_grows aim w place None = same_turns w.turns
 delivered_grows aim w place (Some letter) = arrives_grows aim (record w { mail = arrived_at w.mail place }) (arriving letter)
 
-delivers_grows : (place : ℕ) (aim : Aim) → AlwaysGrows (delivers place aim)
+delivers_grows : (place : ℕ) (aim : FaultTarget) → AlwaysGrows (delivers place aim)
 delivers_grows place aim w = delivered_grows aim w place (slice_get w.mail place)
 
 crashes_grows : (n pick : ℕ) → AlwaysGrows (crashes n pick)
 crashes_grows n pick w = either w (is_up w n) _ (quiet w) (Crashes n pick ∷ [], refl) (same_turns w.turns)
 
-pub starts_grows : (n : ℕ) (aim : Aim) → AlwaysGrows (starts n aim)
+pub starts_grows : (n : ℕ) (aim : FaultTarget) → AlwaysGrows (starts n aim)
 starts_grows n aim w = either w (is_up w n) (quiet w) (asked n (Start w.voters) aim w w.outcomes) (same_turns w.turns) (asked_grows n (Start w.voters) aim w w.outcomes)
 
 counted_so_grows : (go : World → Went) → AlwaysGrows go → (w : World) (usage : Option Usage) → Grows w (counted_so go w usage)
@@ -115,7 +115,7 @@ pub settles_grows : (count : ℕ) → AlwaysGrows (settles count)
 settles_grows zero w = same_turns w.turns
 settles_grows (suc count) w = settled_grows (settles count) (settles_grows count) w (first_waiting w.mail)
 
-happens_grows : (w : World) (e : Event) (aim : Aim) → Grows w (happens w e aim)
+happens_grows : (w : World) (e : Event) (aim : FaultTarget) → Grows w (happens w e aim)
 unfolding happens
 happens_grows w (event.Timeout n) aim = counted_grows (at_node n Timeout aim) (node_grows n Timeout aim) w
 happens_grows w (event.Beat n) aim = counted_grows (at_node n Beat aim) (node_grows n Beat aim) w
@@ -130,7 +130,7 @@ happens_grows w (event.Start n) aim = counted_grows (starts n aim) (starts_grows
 happens_grows w (event.Put bytes) aim = same_turns w.turns
 happens_grows w (event.Take machine) aim = same_turns w.turns
 
-takes_grows : (w : World) (e : Event) (aim : Aim) → Grows w (takes w e aim)
+takes_grows : (w : World) (e : Event) (aim : FaultTarget) → Grows w (takes w e aim)
 takes_grows w e aim = either w (exists w e) (happens w e aim) (halted NotThere w) (happens_grows w e aim) (same_turns w.turns)
 
 -- ---- lines

@@ -1,18 +1,18 @@
 -- What happens at the nodes of a script is as in the run of nodes.
 use Rattle.std.proofs.Common.{◌≡◌, ℕ, suc, Bool, true, false, cond, List, [], ◌∷◌, Option, Some, None, refl, sym, subst}
-use Rattle.script_lines.specs.ScriptSize.{line_count_limit}
+use Rattle.script_grammar.specs.ScriptSize.{line_count_limit}
 use Rattle.std.specs.Prelude.{nat_le}
-use Rattle.script_lines.specs.Lines.{lines_of}
-use Rattle.script_lines.specs.Grammar.{line_of}
-use Rattle.script_lines.specs.Usage.{with_event}
-use Rattle.script_lines.specs.declared.grammar.ScriptLine.{ScriptLine}
-use Rattle.script_lines.specs.declared.grammar.ScriptLine.TheVariants as says
-use Rattle.script_lines.specs.declared.usage.Usage.{Usage}
-use Rattle.script_nodes.specs.Outcomes.{Outcome, Turn, Item}
-use Rattle.script_nodes.specs.Run as nodes
-use Rattle.script_pages.specs.declared.said.Said.{Said as MachineSaid}
-use Rattle.script_pages.specs.Machines.{Fleet, applies, standing_of}
-use Rattle.script_nodes.specs.Run.{Fault, Line, Large}
+use Rattle.script_grammar.specs.Lines.{lines_of}
+use Rattle.script_grammar.specs.Grammar.{line_of}
+use Rattle.script_grammar.specs.Usage.{with_event}
+use Rattle.script_grammar.specs.declared.grammar.ScriptLine.{ScriptLine}
+use Rattle.script_grammar.specs.declared.grammar.ScriptLine.TheVariants as says
+use Rattle.script_grammar.specs.declared.usage.Usage.{Usage}
+use Rattle.script_cluster.specs.Outcomes.{Outcome, Turn, Item}
+use Rattle.script_cluster.specs.Run as nodes
+use Rattle.script_machines.specs.declared.machine_line.MachineLine.{MachineLine as MachineSaid}
+use Rattle.script_machines.specs.Machines.{Fleet, applies, standing_of}
+use Rattle.script_cluster.specs.Run.{Fault, Line, Large}
 use Rattle.script_runner.specs.Run.{Stage, AtNodes, AtMachines, Next, Run, at_nodes, stops, shows, counts, after_event, line_step, said_step, step, onward, turns_at, journal_at, run_from, run}
 
 -- the same happened at nodes, and the same was noted

@@ -3,7 +3,7 @@ use Rattle.std.proofs.Common.{◌≡◌, ◌≢◌, ℕ, zero, suc, ◌<◌, fal
 use Rattle.std.specs.Io.KnownBytes.{Consumes, Keeps, IsAtEnd}
 use Rattle.std.proofs.lemmas.List.{append-nil}
 use Rattle.std.proofs.lemmas.Bool.Decides.{eqb_tells}
-use Rattle.script_lines.specs.Lines.{with_byte, lines_of, HasNoFeed, Cursor, to_come, TakesLine}
+use Rattle.script_grammar.specs.Lines.{with_byte, lines_of, HasNoFeed, Cursor, to_come, TakesLine}
 
 pub lines_next : (b : ℕ) (bytes : List ℕ) → b ≢ 10 → lines_of (b ∷ bytes) ≡ with_byte b (lines_of bytes)
 lines_next b bytes other = elim (eqb_tells b 10) [ inl p ↦ absurd (other p.1) | inr p ↦ rw p.0 refl ]

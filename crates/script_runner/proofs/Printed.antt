@@ -6,10 +6,10 @@ use Rattle.std.proofs.lemmas.Grind.{flat_map-append}
 use Rattle.std.specs.Io.KnownBytes.{Appends}
 use Rattle.dq_base.specs.Sink.{AppendsFront}
 use Rattle.dq_base.proofs.ContentLaws.{AppendsFront-longer, AppendsFront-then}
-use Rattle.script_nodes.specs.declared.said.Said.{Said as NodeSaid}
-use Rattle.script_nodes.specs.Printed as nodes_text
-use Rattle.script_pages.specs.declared.said.Said.{Said as MachineSaid}
-use Rattle.script_pages.specs.Printed as pages_text
+use Rattle.script_cluster.specs.declared.cluster_line.ClusterLine.{ClusterLine as NodeSaid}
+use Rattle.script_cluster.specs.Printed as nodes_text
+use Rattle.script_machines.specs.declared.machine_line.MachineLine.{MachineLine as MachineSaid}
+use Rattle.script_machines.specs.Printed as pages_text
 use Rattle.script_runner.specs.Run.{Said, OfNodes, OfMachines, printed_line, text_of}
 
 pub text_of-append : (a b : List Said) → text_of (a ++ b) ≡ text_of a ++ text_of b

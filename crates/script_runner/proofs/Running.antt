@@ -5,12 +5,12 @@ use Rattle.std.proofs.lemmas.List.{append-nil, length-append, nil_from_length}
 use Rattle.std.proofs.lemmas.Bool.{lt-leb, le-leb}
 use Rattle.dq_base.specs.Sink.{AppendsFront}
 use Rattle.dq_base.proofs.ContentLaws.{Consumes-nothing, Consumes-then, Appends-nothing, Appends-then, AppendsFront-nothing, AppendsFront-longer, AppendsFront-then}
-use Rattle.script_lines.specs.ScriptSize.{line_limit, line_count_limit}
-use Rattle.script_lines.specs.Lines.{lines_of, Cursor, to_come, TakesLine}
-use Rattle.script_lines.specs.Grammar.{line_of}
-use Rattle.script_nodes.specs.Knowing.{Knowing, Told, outcomes_in, outcomes_over}
-use Rattle.script_nodes.specs.Outcomes.{Outcome, Item, Turn}
-use Rattle.script_nodes.specs.Run.{Fault, Line, Large}
+use Rattle.script_grammar.specs.ScriptSize.{line_limit, line_count_limit}
+use Rattle.script_grammar.specs.Lines.{lines_of, Cursor, to_come, TakesLine}
+use Rattle.script_grammar.specs.Grammar.{line_of}
+use Rattle.script_cluster.specs.Knowing.{Knowing, Told, outcomes_in, outcomes_over}
+use Rattle.script_cluster.specs.Outcomes.{Outcome, Item, Turn}
+use Rattle.script_cluster.specs.Run.{Fault, Line, Large}
 use Rattle.script_runner.specs.Run.{Said, Stage, Next, Run, step, said_before, onward, ends_at, closing, journal_at, turns_at, over_at, run_from, run, stops, text_of}
 use Rattle.script_runner.specs.Stages.{AtStart, AtNodes}
 use Rattle.script_runner.specs.Scenes.{Holds, Nodes, Machines, stage_of, journal_of, closing_of, turns_of, Goes, Ends, EndsAt}

@@ -1,29 +1,29 @@
 -- What a line does in either mode, from what nodes or machines did.
 use Rattle.std.proofs.Common.{◌≡◌, ℕ, ◌≤◌, Bool, true, false, cond, List, [], ◌∷◌, ◌++◌, map, Option, Some, None, Result, Ok, Err, refl, sym, ap, subst, ◌∙◌}
 use Rattle.std.proofs.lemmas.Bool.{le-leb}
-use Rattle.script_lines.specs.ScriptSize.{line_count_limit}
-use Rattle.script_lines.specs.Grammar.{line_of}
-use Rattle.script_lines.specs.Usage.{no_usage, with_event}
-use Rattle.script_lines.specs.declared.events.Event.{Event}
-use Rattle.script_lines.specs.declared.faults.EventFault.{EventFault}
-use Rattle.script_lines.specs.declared.faults.EventFault.TheVariants as faults
-use Rattle.script_lines.specs.declared.grammar.Aim.{Aim}
-use Rattle.script_lines.specs.declared.grammar.ScriptLine.{ScriptLine}
-use Rattle.script_lines.specs.declared.grammar.ScriptLine.TheVariants as says
-use Rattle.script_lines.specs.declared.usage.Usage.{Usage}
-use Rattle.script_nodes.specs.declared.said.Said.{Said as NodeSaid}
-use Rattle.script_nodes.specs.Outcomes.{Outcome, Turn}
-use Rattle.script_nodes.specs.World.{Place}
-use Rattle.script_nodes.specs.Knowing.{Knowing, Told}
-use Rattle.script_nodes.specs.Run as nodes
-use Rattle.script_pages.specs.declared.said.Said.{Said as MachineSaid}
-use Rattle.script_pages.specs.Machines.{Fleet, idle_fleet, applies, standing_of}
-use Rattle.script_runner.specs.declared.scene.Scene.{Scene}
-use Rattle.script_runner.specs.declared.scene.Scene.TheVariants as scene
-use Rattle.script_runner.specs.declared.stage.Stage.{Stage as CodeStage}
+use Rattle.script_grammar.specs.ScriptSize.{line_count_limit}
+use Rattle.script_grammar.specs.Grammar.{line_of}
+use Rattle.script_grammar.specs.Usage.{no_usage, with_event}
+use Rattle.script_grammar.specs.declared.events.Event.{Event}
+use Rattle.script_grammar.specs.declared.faults.EventFault.{EventFault}
+use Rattle.script_grammar.specs.declared.faults.EventFault.TheVariants as faults
+use Rattle.script_grammar.specs.declared.grammar.FaultTarget.{FaultTarget}
+use Rattle.script_grammar.specs.declared.grammar.ScriptLine.{ScriptLine}
+use Rattle.script_grammar.specs.declared.grammar.ScriptLine.TheVariants as says
+use Rattle.script_grammar.specs.declared.usage.Usage.{Usage}
+use Rattle.script_cluster.specs.declared.cluster_line.ClusterLine.{ClusterLine as NodeSaid}
+use Rattle.script_cluster.specs.Outcomes.{Outcome, Turn}
+use Rattle.script_cluster.specs.World.{Place}
+use Rattle.script_cluster.specs.Knowing.{Knowing, Told}
+use Rattle.script_cluster.specs.Run as nodes
+use Rattle.script_machines.specs.declared.machine_line.MachineLine.{MachineLine as MachineSaid}
+use Rattle.script_machines.specs.Machines.{Fleet, idle_fleet, applies, standing_of}
+use Rattle.script_runner.specs.declared.script_mode.ScriptMode.{ScriptMode}
+use Rattle.script_runner.specs.declared.script_mode.ScriptMode.TheVariants as scene
+use Rattle.script_runner.specs.declared.node_script.NodeScript.{NodeScript as CodeStage}
 use Rattle.script_runner.specs.Stages as stages
 use Rattle.script_runner.specs.Stages.{Stands, AtStart, AtNodes}
-use Rattle.script_nodes.specs.Run.{Fault, Line, Large}
+use Rattle.script_cluster.specs.Run.{Fault, Line, Large}
 use Rattle.script_runner.specs.Run.{Said, OfNodes, OfMachines, Stage, Next, at_nodes, stays, stops, shows, counts, after_event, line_step, said_step, step}
 use Rattle.script_runner.specs.Run as run
 use Rattle.script_runner.specs.Scenes.{Holds, Nodes, Machines, Known, holds, stage_of, journal_of, turns_of, machines_in, Goes, Ends, EndsAt, DoesLine}
@@ -126,20 +126,20 @@ module _ {P : Type 0} (knows : Knowing P) (line : ℕ) (usage : Usage) (fleet : 
   unfolding line_step
   no_machine number found now none is e = ends_here knows (λ (s : Stage). line_step s line (says.Show number)) (Line line) usage usage fleet fleet now none (ap (shows usage fleet line) (sym is ∙ e))
 
-  pub event_counted : (event : Event) (aim : Aim) (more : Usage) (next : Fleet) (said : List MachineSaid) → applies fleet event ≡ Some (next, said) → with_event usage ≡ Some more
+  pub event_counted : (event : Event) (aim : FaultTarget) (more : Usage) (next : Fleet) (said : List MachineSaid) → applies fleet event ≡ Some (next, said) → with_event usage ≡ Some more
       → Goes knows (λ (s : Stage). line_step s line (says.Event event aim)) (Machines usage fleet) (Machines more next) (map OfMachines said)
   unfolding line_step
   event_counted event aim more next said e used =
       leads_on knows (λ (s : Stage). line_step s line (says.Event event aim)) usage more fleet next (map OfMachines said)
       (ap (after_event usage fleet line) e ∙ ap (counts usage fleet (next, said)) used)
 
-  pub event_uncounted : (event : Event) (aim : Aim) (more : Usage) (next : Fleet) (said : List MachineSaid) (now : List Said) → now ≡ [] → applies fleet event ≡ Some (next, said) → with_event usage ≡ None
+  pub event_uncounted : (event : Event) (aim : FaultTarget) (more : Usage) (next : Fleet) (said : List MachineSaid) (now : List Said) → now ≡ [] → applies fleet event ≡ Some (next, said) → with_event usage ≡ None
       → Ends knows (λ (s : Stage). line_step s line (says.Event event aim)) Large (Machines usage fleet) (Machines more next) now
   unfolding line_step
   event_uncounted event aim more next said now none e used =
       ends_here knows (λ (s : Stage). line_step s line (says.Event event aim)) Large usage more fleet next now none (ap (after_event usage fleet line) e ∙ ap (counts usage fleet (next, said)) used)
 
-  pub event_failed : (event : Event) (aim : Aim) (fault : EventFault) (more : Usage) (next : Fleet) (now : List Said) → now ≡ [] → (fault ≡ faults.NotThere → applies fleet event ≡ None) → (fault ≡ faults.TooMany → ⊥)
+  pub event_failed : (event : Event) (aim : FaultTarget) (fault : EventFault) (more : Usage) (next : Fleet) (now : List Said) → now ≡ [] → (fault ≡ faults.NotThere → applies fleet event ≡ None) → (fault ≡ faults.TooMany → ⊥)
       → DoesLine {P = P} {T = Unit {0}} knows line (λ (s : Stage). line_step s line (says.Event event aim)) (Err fault) (Machines usage fleet) (Machines more next) now
   unfolding line_step
   event_failed event aim faults.NotThere more next now none absent few =
@@ -174,7 +174,7 @@ as_line knows number line other result old new now is d = subst (λ (l : ScriptL
 
 -- ---- the mode line of machines
 
-module _ {P : Type 0} (see : P → Place) (knows : Knowing P) (x : Scene P) where
+module _ {P : Type 0} (see : P → Place) (knows : Knowing P) (x : ScriptMode P) where
   -- what a line does where the scene is this
   pub at_scene : {T : Type 0} (number : ℕ) (line : ScriptLine) (result : Result T EventFault) (held new : Holds P) (now : List Said) → holds see x ≡ held
       → DoesLine knows number (λ (s : Stage). line_step s number line) result held new now → DoesLine knows number (λ (s : Stage). line_step s number line) result (holds see x) new now
@@ -200,7 +200,7 @@ late knows number machines (AtNodes h) opens = record {
   uses = λ earlier. refl;
 }
 
-module _ {P : Type 0} (see : P → Place) (knows : Knowing P) (x : Scene P) where
+module _ {P : Type 0} (see : P → Place) (knows : Knowing P) (x : ScriptMode P) where
   pub pages_opened : (st : CodeStage P) (number machines : ℕ) (opens : Bool) (fleet : Fleet) (usage : Usage) → x ≡ scene.Nodes st → opens ≡ stages.is_opening (stages.stands see st) → opens ≡ true → fleet ≡ idle_fleet machines → usage ≡ no_usage
       → Goes knows (λ (s : Stage). line_step s number (says.Pages machines)) (holds see x) (Machines usage fleet) []
   pages_opened st number machines opens fleet usage is same may e none =

@@ -1,17 +1,17 @@
 -- A run has one list of commands, and machines that have applied as many of them hold the same files and pending pages, at
 -- whichever moments of the run.
 use Rattle.std.specs.Prelude.{◌≡◌, ◌≤◌, ◌+◌, ℕ, suc, List, [], ◌∷◌, ◌++◌, take, slice_get, All, Contains, Option, Some, None, ⊤}
-use Rattle.frame_commands.specs.declared.command.Command.{Command}
-use Rattle.page_apply.specs.Files.{files}
-use Rattle.page_apply.specs.AsMap.{AreInOrder, Does}
-use Rattle.script_lines.specs.Lines.{lines_of}
-use Rattle.script_nodes.specs.Outcomes.{Outcome}
-use Rattle.script_nodes.specs.Run.{Opening, Fault}
-use Rattle.script_pages.specs.declared.said.Said.TheVariants.{Machine}
-use Rattle.script_pages.specs.Alike as pages
-use Rattle.script_pages.specs.Alike.{BeginsWith, Follows, length_of_all}
-use Rattle.script_pages.specs.Holding.{Holding}
-use Rattle.script_pages.specs.Machines.{Fleet, idle_fleet}
+use Rattle.log_commands.specs.declared.command.Command.{Command}
+use Rattle.database_state.specs.Files.{files}
+use Rattle.database_state.specs.AsMap.{AreInOrder, Does}
+use Rattle.script_grammar.specs.Lines.{lines_of}
+use Rattle.script_cluster.specs.Outcomes.{Outcome}
+use Rattle.script_cluster.specs.Run.{Opening, Fault}
+use Rattle.script_machines.specs.declared.machine_line.MachineLine.TheVariants.{Machine}
+use Rattle.script_machines.specs.Alike as pages
+use Rattle.script_machines.specs.Alike.{BeginsWith, Follows, length_of_all}
+use Rattle.script_machines.specs.Holding.{Holding}
+use Rattle.script_machines.specs.Machines.{Fleet, idle_fleet}
 use Rattle.script_runner.specs.Run.{Said, OfNodes, OfMachines, Stage, AtNodes, AtMachines, Next, Run, step, closing, run_from, run}
 
 -- the machines of a stage and their list of commands; before the mode line and among nodes there are none

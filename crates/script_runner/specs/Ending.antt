@@ -2,12 +2,12 @@
 use Rattle.std.specs.Prelude.{◌≡◌, ◌++◌, ℕ, List, [], Option, Some, None, ⊤}
 use Rattle.std.specs.Io.KnownBytes.{Appends, Consumes, IsAtEnd}
 use Rattle.dq_base.specs.Sink.{AppendsFront}
-use Rattle.script_lines.specs.Lines.{lines_of}
-use Rattle.script_lines.specs.declared.lines.LineFault.{LineFault}
-use Rattle.script_lines.specs.declared.lines.LineFault.TheVariants as line
-use Rattle.script_nodes.specs.Knowing.{Knowing, Told, outcomes_in, outcomes_over}
-use Rattle.script_nodes.specs.Outcomes.{Outcome as Came, Item, Turn}
-use Rattle.script_nodes.specs.Run.{Fault, Line, Large, fault_text}
+use Rattle.script_grammar.specs.Lines.{lines_of}
+use Rattle.script_grammar.specs.declared.lines.LineFault.{LineFault}
+use Rattle.script_grammar.specs.declared.lines.LineFault.TheVariants as line
+use Rattle.script_cluster.specs.Knowing.{Knowing, Told, outcomes_in, outcomes_over}
+use Rattle.script_cluster.specs.Outcomes.{Outcome as Came, Item, Turn}
+use Rattle.script_cluster.specs.Run.{Fault, Line, Large, fault_text}
 use Rattle.script_runner.specs.declared.printing.PrintFault.{PrintFault}
 use Rattle.script_runner.specs.declared.printing.PrintFault.TheVariants as print
 use Rattle.script_runner.specs.declared.run.Outcome.{Outcome}

@@ -1,21 +1,21 @@
 -- The run that a script of either mode makes with what came of its events at nodes, and the text that it prints.
 use Rattle.std.specs.Prelude.{ℕ, suc, List, [], ◌∷◌, ◌++◌, map, nat_le, Option, Some, None, if◌then◌else◌}
 use Rattle.std.specs.List.{flat_map}
-use Rattle.script_lines.specs.ScriptSize.{line_count_limit}
-use Rattle.script_lines.specs.Lines.{lines_of}
-use Rattle.script_lines.specs.Grammar.{line_of}
-use Rattle.script_lines.specs.Usage.{no_usage, with_event}
-use Rattle.script_lines.specs.declared.grammar.ScriptLine.{ScriptLine}
-use Rattle.script_lines.specs.declared.grammar.ScriptLine.TheVariants as says
-use Rattle.script_lines.specs.declared.usage.Usage.{Usage}
-use Rattle.script_nodes.specs.declared.said.Said.{Said as NodeSaid}
-use Rattle.script_nodes.specs.Outcomes.{Outcome, Turn, Item}
-use Rattle.script_nodes.specs.Printed as nodes_text
-use Rattle.script_nodes.specs.Run as nodes
-use Rattle.script_nodes.specs.Run.{Fault, Line, Large, fault_text}
-use Rattle.script_pages.specs.declared.said.Said.{Said as MachineSaid}
-use Rattle.script_pages.specs.Machines.{Fleet, idle_fleet, applies, standing_of, standings}
-use Rattle.script_pages.specs.Printed as pages_text
+use Rattle.script_grammar.specs.ScriptSize.{line_count_limit}
+use Rattle.script_grammar.specs.Lines.{lines_of}
+use Rattle.script_grammar.specs.Grammar.{line_of}
+use Rattle.script_grammar.specs.Usage.{no_usage, with_event}
+use Rattle.script_grammar.specs.declared.grammar.ScriptLine.{ScriptLine}
+use Rattle.script_grammar.specs.declared.grammar.ScriptLine.TheVariants as says
+use Rattle.script_grammar.specs.declared.usage.Usage.{Usage}
+use Rattle.script_cluster.specs.declared.cluster_line.ClusterLine.{ClusterLine as NodeSaid}
+use Rattle.script_cluster.specs.Outcomes.{Outcome, Turn, Item}
+use Rattle.script_cluster.specs.Printed as nodes_text
+use Rattle.script_cluster.specs.Run as nodes
+use Rattle.script_cluster.specs.Run.{Fault, Line, Large, fault_text}
+use Rattle.script_machines.specs.declared.machine_line.MachineLine.{MachineLine as MachineSaid}
+use Rattle.script_machines.specs.Machines.{Fleet, idle_fleet, applies, standing_of, standings}
+use Rattle.script_machines.specs.Printed as pages_text
 
 -- what is said: of nodes and their clients, or of machines
 pub data Said : Type 0 where

@@ -1,21 +1,21 @@
 -- Where a script of either mode is as the code has it, and what a line leads to there.
 use Rattle.std.specs.Prelude.{◌≡◌, ◌++◌, ℕ, List, [], map, Option, Some, None, Result, Ok, Err}
-use Rattle.script_lines.specs.declared.faults.EventFault.{EventFault}
-use Rattle.script_lines.specs.declared.faults.EventFault.TheVariants as faults
-use Rattle.script_lines.specs.declared.grammar.ScriptLine.{ScriptLine}
-use Rattle.script_lines.specs.declared.grammar.ScriptLine.TheVariants as says
-use Rattle.script_lines.specs.declared.usage.Usage.{Usage}
-use Rattle.script_nodes.specs.Outcomes.{Outcome, Item, Turn}
-use Rattle.script_nodes.specs.World.{Place}
-use Rattle.script_nodes.specs.Knowing.{Knowing, Told, outcomes_in, outcomes_over}
-use Rattle.script_pages.specs.Machines.{Fleet, fleet_of}
+use Rattle.script_grammar.specs.declared.faults.EventFault.{EventFault}
+use Rattle.script_grammar.specs.declared.faults.EventFault.TheVariants as faults
+use Rattle.script_grammar.specs.declared.grammar.ScriptLine.{ScriptLine}
+use Rattle.script_grammar.specs.declared.grammar.ScriptLine.TheVariants as says
+use Rattle.script_grammar.specs.declared.usage.Usage.{Usage}
+use Rattle.script_cluster.specs.Outcomes.{Outcome, Item, Turn}
+use Rattle.script_cluster.specs.World.{Place}
+use Rattle.script_cluster.specs.Knowing.{Knowing, Told, outcomes_in, outcomes_over}
+use Rattle.script_machines.specs.Machines.{Fleet, fleet_of}
 use Rattle.script_runner.specs.declared.said.LineSaid.{LineSaid}
 use Rattle.script_runner.specs.declared.said.LineSaid.TheVariants as said
-use Rattle.script_runner.specs.declared.scene.Scene.{Scene}
-use Rattle.script_runner.specs.declared.scene.Scene.TheVariants as scene
+use Rattle.script_runner.specs.declared.script_mode.ScriptMode.{ScriptMode}
+use Rattle.script_runner.specs.declared.script_mode.ScriptMode.TheVariants as scene
 use Rattle.script_runner.specs.Stages as stages
 use Rattle.script_runner.specs.Stages.{Stands, stands}
-use Rattle.script_nodes.specs.Run.{Fault, Line, Large}
+use Rattle.script_cluster.specs.Run.{Fault, Line, Large}
 use Rattle.script_runner.specs.Run.{Said, OfNodes, OfMachines, Stage, AtNodes, AtMachines, Next, closing, journal_at, turns_at, over_at}
 
 -- what is held of a script: of its nodes, or of its machines
@@ -23,7 +23,7 @@ pub data Holds (P : Type 0) : Type 0 where
   Nodes : Stands P → Holds P
   Machines : Usage → Fleet → Holds P
 
-abbrev pub holds : {P : Type 0} → (P → Place) → Scene P → Holds P
+abbrev pub holds : {P : Type 0} → (P → Place) → ScriptMode P → Holds P
 holds shows (scene.Nodes stage) = Nodes (stands shows stage)
 holds shows (scene.Machines machines usage) = Machines usage (fleet_of machines)
 

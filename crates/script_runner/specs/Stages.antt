@@ -1,27 +1,27 @@
 -- Where a script is as the code has it, and what a line leads to there.
 use Rattle.std.specs.Prelude.{◌≡◌, ◌++◌, ℕ, Bool, true, false, List, [], Option, Some, None, Result, Ok, Err}
-use Rattle.script_lines.specs.declared.faults.EventFault.{EventFault}
-use Rattle.script_lines.specs.declared.faults.EventFault.TheVariants as faults
-use Rattle.script_lines.specs.declared.grammar.ScriptLine.{ScriptLine}
-use Rattle.script_lines.specs.declared.grammar.ScriptLine.TheVariants as says
-use Rattle.script_nodes.specs.declared.said.Said.{Said}
-use Rattle.script_nodes.specs.Outcomes.{Outcome, Item, Turn}
-use Rattle.script_nodes.specs.World.{Place}
-use Rattle.script_nodes.specs.Holding.{Held, world_of}
-use Rattle.script_nodes.specs.Knowing.{Knowing, AllKnow, Told, outcomes_in, outcomes_over}
-use Rattle.script_nodes.specs.Voters.{IsVoterCount}
-use Rattle.script_nodes.specs.Clusters.{held}
-use Rattle.script_nodes.specs.Run as run
-use Rattle.script_nodes.specs.Run.{Fault, Line, Large, Next, closing, journal_at, turns_at, over_at}
-use Rattle.script_runner.specs.declared.stage.Stage.{Stage}
-use Rattle.script_runner.specs.declared.stage.Stage.TheVariants as stage
+use Rattle.script_grammar.specs.declared.faults.EventFault.{EventFault}
+use Rattle.script_grammar.specs.declared.faults.EventFault.TheVariants as faults
+use Rattle.script_grammar.specs.declared.grammar.ScriptLine.{ScriptLine}
+use Rattle.script_grammar.specs.declared.grammar.ScriptLine.TheVariants as says
+use Rattle.script_cluster.specs.declared.cluster_line.ClusterLine.{ClusterLine}
+use Rattle.script_cluster.specs.Outcomes.{Outcome, Item, Turn}
+use Rattle.script_cluster.specs.World.{Place}
+use Rattle.script_cluster.specs.Holding.{Held, world_of}
+use Rattle.script_cluster.specs.Knowing.{Knowing, AllKnow, Told, outcomes_in, outcomes_over}
+use Rattle.script_cluster.specs.Voters.{IsVoterCount}
+use Rattle.script_cluster.specs.Clusters.{held}
+use Rattle.script_cluster.specs.Run as run
+use Rattle.script_cluster.specs.Run.{Fault, Line, Large, Next, closing, journal_at, turns_at, over_at}
+use Rattle.script_runner.specs.declared.node_script.NodeScript.{NodeScript}
+use Rattle.script_runner.specs.declared.node_script.NodeScript.TheVariants as stage
 
 -- what is held of a script: nothing before its mode line; or its nodes and what is beside them
 pub data Stands (P : Type 0) : Type 0 where
   AtStart : Stands P
   AtNodes : Held P → Stands P
 
-abbrev pub stands : {P : Type 0} → (P → Place) → Stage P → Stands P
+abbrev pub stands : {P : Type 0} → (P → Place) → NodeScript P → Stands P
 stands shows (stage.Opening place) = AtStart
 stands shows (stage.Within cluster) = AtNodes (held shows cluster)
 
@@ -45,7 +45,7 @@ journal_of AtStart = []
 journal_of (AtNodes h) = h.journal
 
 -- how all stand
-abbrev pub closing_of : {P : Type 0} → Stands P → List Said
+abbrev pub closing_of : {P : Type 0} → Stands P → List ClusterLine
 closing_of s = closing (stage_of s [] [])
 
 -- each place has been led to by the turns of its node among these
@@ -55,10 +55,10 @@ Known knows (AtNodes h) turns = AllKnow knows h.voters h.nodes turns
 
 -- Something was done: these outcomes came of its events. With them at the front of what is to come it leads here, and this was said; and
 -- places that were led to by the turns of their nodes are led on.
-pub record Goes {P : Type 0} (knows : Knowing P) (go : run.Stage → Next) (old new : Stands P) (before now : List Said) : Type 0 where
+pub record Goes {P : Type 0} (knows : Knowing P) (go : run.Stage → Next) (old new : Stands P) (before now : List ClusterLine) : Type 0 where
   pub outcomes : List Outcome
   pub turns : List Turn → List Turn
-  pub more : List Said
+  pub more : List ClusterLine
   pub goes : (earlier : List Turn) (later : List Outcome)
       → go (stage_of old earlier (outcomes ++ later)) ≡ record { stage = stage_of new (turns earlier) later; said = more; fault = None }
   pub says : now ≡ before ++ more
@@ -66,17 +66,17 @@ pub record Goes {P : Type 0} (knows : Knowing P) (go : run.Stage → Next) (old 
   pub uses : (earlier : List Turn) → outcomes_in (turns_of new (turns earlier)) ≡ outcomes_in (turns_of old earlier) ++ outcomes
 
 -- it ended there for this fault, behind these turns, when this was noted, and this said
-pub record EndsAt (fault : Fault) (journal : List Item) (said : List Said) (turns : List Turn) (over : Option Turn) (next : Next) : Type 0 where
+pub record EndsAt (fault : Fault) (journal : List Item) (said : List ClusterLine) (turns : List Turn) (over : Option Turn) (next : Next) : Type 0 where
   pub fault_is : next.fault ≡ Some fault
   pub said_is : next.said ≡ said
   pub journal_is : journal_at next.stage ≡ journal
   pub turns_are : turns_at next.stage ≡ turns
   pub over_is : over_at next.stage ≡ over
 
-pub record Ends {P : Type 0} (knows : Knowing P) (go : run.Stage → Next) (fault : Fault) (old new : Stands P) (before now : List Said) : Type 0 where
+pub record Ends {P : Type 0} (knows : Knowing P) (go : run.Stage → Next) (fault : Fault) (old new : Stands P) (before now : List ClusterLine) : Type 0 where
   pub outcomes : List Outcome
   pub turns : List Turn → List Turn
-  pub more : List Said
+  pub more : List ClusterLine
   pub over : Option Turn
   pub ends : (earlier : List Turn) (later : List Outcome) → EndsAt fault (journal_of new) more (turns earlier) over (go (stage_of old earlier (outcomes ++ later)))
   pub says : now ≡ before ++ more
@@ -89,7 +89,7 @@ MayOpen (says.Nodes voters spare) = IsVoterCount voters
 MayOpen line = Unit {0}
 
 -- what a line of this number did by its answer; after want of memory nothing is told
-abbrev pub DoesLine : {P T : Type 0} → Knowing P → ℕ → (run.Stage → Next) → Result T EventFault → Stands P → Stands P → List Said → List Said → Type 0
+abbrev pub DoesLine : {P T : Type 0} → Knowing P → ℕ → (run.Stage → Next) → Result T EventFault → Stands P → Stands P → List ClusterLine → List ClusterLine → Type 0
 DoesLine knows number go (Ok x) old new before now = Goes knows go old new before now
 DoesLine knows number go (Err faults.NotThere) old new before now = Ends knows go (Line number) old new before now
 DoesLine knows number go (Err faults.TooMany) old new before now = Ends knows go Large old new before now

@@ -1,6 +1,6 @@
 ghost use Rattle.std.specs.Prelude.{◌≡◌, ℕ, List};
-ghost use Rattle.script_nodes.specs.Outcomes.{Outcome};
-ghost use Rattle.script_nodes.specs.Run.{run as run_of_nodes};
+ghost use Rattle.script_cluster.specs.Outcomes.{Outcome};
+ghost use Rattle.script_cluster.specs.Run.{run as run_of_nodes};
 ghost use Rattle.script_runner.specs.Run.{run};
 ghost use Rattle.script_runner.specs.Alike.{KeepsAlike};
 

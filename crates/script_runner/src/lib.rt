@@ -2,11 +2,11 @@
 #![tactic(auto)]
 
 mod laws;
+mod node_script;
 mod printing;
 mod run;
 mod said;
-mod scene;
-mod stage;
+mod script_mode;
 
 pub use laws::runs_keep_alike;
 pub use run::{Outcome, run_script};

@@ -4,15 +4,15 @@ ghost use Rattle.std.specs.Prelude.{◌≡◌, ◌≤◌, OnOk, OnErr, Err};
 ghost use Rattle.std.specs.Io.KnownBytes.{Appends};
 ghost use Rattle.dq_base.specs.Faults.{Rose};
 ghost use Rattle.dq_base.specs.Sink.{AppendsFront};
-ghost use Rattle.script_nodes.specs.Printed.{printed as nodes_text};
-ghost use Rattle.script_pages.specs.Printed.{printed as machines_text};
+ghost use Rattle.script_cluster.specs.Printed.{printed as nodes_text};
+ghost use Rattle.script_machines.specs.Printed.{printed as machines_text};
 ghost use Rattle.script_runner.specs.Run.{text_of};
 ghost use Rattle.script_runner.specs.Scenes.{said_in};
 
 use crate::said::LineSaid;
 use dq_base::{Failed, Sink};
-use script_nodes::Said as NodeSaid;
-use script_pages::Said as MachineSaid;
+use script_cluster::ClusterLine as NodeSaid;
+use script_machines::MachineLine as MachineSaid;
 use std::alloc::{AllocError, Global};
 
 /// Why something could not be printed.
@@ -54,7 +54,7 @@ fn print_nodes<K: Sink>(alloc: Global, said: &[NodeSaid], sink: &mut K) -> Resul
     ensures cause { result ≡ Err PrintFault.Sink → Rose (K.faults sink.old) (K.faults sink.new) }
 {
     for say in said {
-        let line = script_nodes::line_for(alloc, say)?;
+        let line = script_cluster::line_for(alloc, say)?;
         sink.write_all(line.as_bytes())?;
     }
     Ok(())
@@ -72,7 +72,7 @@ fn print_machines<K: Sink>(
     ensures cause { result ≡ Err PrintFault.Sink → Rose (K.faults sink.old) (K.faults sink.new) }
 {
     for say in said {
-        let line = script_pages::line_for(alloc, say)?;
+        let line = script_machines::line_for(alloc, say)?;
         sink.write_all(line.as_bytes())?;
     }
     Ok(())

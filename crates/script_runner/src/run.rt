@@ -4,19 +4,19 @@ ghost use Rattle.std.specs.Prelude.{◌≡◌, ◌+◌, ◌≤◌, List, ℕ, Op
 ghost use Rattle.std.specs.Io.KnownBytes.{Appends, IsAtEnd};
 ghost use Rattle.dq_base.specs.Faults.{Rose};
 ghost use Rattle.dq_base.specs.Sink.{AppendsFront};
-ghost use Rattle.script_lines.specs.ScriptSize.{line_count_limit};
-ghost use Rattle.script_lines.specs.Lines.{to_come};
+ghost use Rattle.script_grammar.specs.ScriptSize.{line_count_limit};
+ghost use Rattle.script_grammar.specs.Lines.{to_come};
 ghost use Rattle.script_runner.specs.Run.{Stage as Shown, step, text_of};
 ghost use Rattle.script_runner.specs.Scenes.{closing_of, holds, journal_of};
 ghost use Rattle.script_runner.specs.Ending.{Breaks, Ended, Ran, Reached, ReadWhole, Stopped, HasLine, fault_line};
 
+use crate::node_script::NodeScript;
 use crate::printing::{PrintFault, print};
 use crate::said::LineSaid;
-use crate::scene::Scene;
-use crate::stage::Stage;
+use crate::script_mode::ScriptMode;
 use dq_base::{Failed, Sink, Source};
-use script_lines::{EventFault, LINE_COUNT_LIMIT, LineEnd, LineFault, LineReader};
-use script_nodes::{ClusterJournal, NodePlace};
+use script_cluster::{ClusterJournal, NodePlace};
+use script_grammar::{EventFault, LineEnd, LineFault, LineReader, MAX_LINES};
 use std::alloc::{AllocError, Global};
 
 /// How running a script ended.
@@ -76,7 +76,7 @@ impl From<AllocError> for Outcome {
 /// Does what the line of this number says, and prints what was said then.
 fn run_line<P: NodePlace, K: Sink>(
     alloc: Global,
-    scene: &mut Scene<P>,
+    scene: &mut ScriptMode<P>,
     number: u64,
     line: &[u8],
     sink: &mut K,
@@ -111,7 +111,7 @@ fn run_line<P: NodePlace, K: Sink>(
 fn run_next<P: NodePlace, S: Source, K: Sink>(
     alloc: Global,
     lines: &mut LineReader,
-    scene: &mut Scene<P>,
+    scene: &mut ScriptMode<P>,
     number: u64,
     source: &mut S,
     sink: &mut K,
@@ -168,7 +168,7 @@ fn run_past<P: NodePlace, S: Source>(lines: &mut LineReader, source: &mut S) -> 
 fn run_lines<P: NodePlace, S: Source, K: Sink>(
     alloc: Global,
     lines: &mut LineReader,
-    scene: &mut Scene<P>,
+    scene: &mut ScriptMode<P>,
     source: &mut S,
     sink: &mut K,
 ) -> Result<(), Outcome>
@@ -182,7 +182,7 @@ fn run_lines<P: NodePlace, S: Source, K: Sink>(
     ensures source_count { S.faults source.old ≤ S.faults source.new }
     ensures sink_count { K.faults sink.old ≤ K.faults sink.new }
 {
-    for number in 1..=LINE_COUNT_LIMIT {
+    for number in 1..=MAX_LINES {
         if !run_next(alloc, lines, scene, number, source, sink)? {
             return Ok(());
         }
@@ -193,7 +193,7 @@ fn run_lines<P: NodePlace, S: Source, K: Sink>(
 /// Shows how all stand, at the end of a script.
 fn close<P: NodePlace, K: Sink>(
     alloc: Global,
-    scene: &Scene<P>,
+    scene: &ScriptMode<P>,
     sink: &mut K,
 ) -> Result<(), PrintFault>
     ensures ok { OnOk result (Appends (K.written sink.old) (K.written sink.new) (text_of (closing_of (holds P.shows scene.now)))) }
@@ -209,7 +209,7 @@ fn close<P: NodePlace, K: Sink>(
 fn run_whole<P: NodePlace, S: Source, K: Sink>(
     alloc: Global,
     lines: &mut LineReader,
-    scene: &mut Scene<P>,
+    scene: &mut ScriptMode<P>,
     source: &mut S,
     sink: &mut K,
 ) -> Outcome
@@ -286,7 +286,7 @@ pub fn run_script<P: NodePlace, S: Source, K: Sink>(
         Ok(lines) => lines,
         Err(AllocError) => return Outcome::NoMemory,
     };
-    let mut scene = Scene::Nodes(Stage::Opening { place });
+    let mut scene = ScriptMode::Nodes(NodeScript::Opening { place });
     let outcome = run_whole(alloc, &mut lines, &mut scene, source, sink);
     *journal = scene.into_journal(alloc);
     match print_fault(alloc, outcome, sink) {

@@ -1,7 +1,7 @@
 //! What a line of a script has said.
 
-use script_nodes::Said as NodeSaid;
-use script_pages::Said as MachineSaid;
+use script_cluster::ClusterLine as NodeSaid;
+use script_machines::MachineLine as MachineSaid;
 use std::alloc::Global;
 
 /// What was said by a line.

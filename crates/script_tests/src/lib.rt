@@ -1,4 +1,4 @@
-//! The tests of `script_lines`, which call it from outside. A crate with tests of its own is proved once more with them, so these
+//! The tests of `script_grammar`, which call it from outside. A crate with tests of its own is proved once more with them, so these
 //! stand here.
 #![tactic(auto)]
 

@@ -1,5 +1,5 @@
 use dq_base::MemSource;
-use script_lines::{LineEnd, LineFault, LineReader};
+use script_grammar::{LineEnd, LineFault, LineReader};
 use std::alloc::{AllocError, Global};
 use std::test::Fail;
 

@@ -1,4 +1,4 @@
-use script_lines::line_in;
+use script_grammar::line_in;
 use std::alloc::{AllocError, Global};
 use std::test::Fail;
 

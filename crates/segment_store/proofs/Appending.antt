@@ -9,7 +9,7 @@ use Rattle.disk_model.proofs.Runs.{known_map}
 use Rattle.store_laws.specs.Names.{Segment}
 use Rattle.store_laws.specs.Store.{Log, Kept}
 use Rattle.store_laws.specs.Append.{with_batch, CanAppend}
-use Rattle.raft_vote.specs.Entries.{HaveHeads}
+use Rattle.raft_messages.specs.Entries.{HaveHeads}
 use Rattle.store_format.specs.Batches.{batch_bytes}
 use Rattle.store_format.specs.BatchesWritten.{segment_word, Fits}
 use Rattle.segment_store.specs.FileNames.{file_name}

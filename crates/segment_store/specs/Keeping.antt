@@ -1,7 +1,7 @@
 -- Keeping a snapshot: by which calls, and what they leave.
 use Rattle.std.specs.Prelude.{◌≢◌, ℕ, suc, ◌+◌, ◌<◌, ◌≤◌, Bool, false, cond, nat_lt, List, [], ◌∷◌, ◌++◌, map, Some, Result, OnOk, OnErr}
 use Rattle.std.specs.List.{filter}
-use Rattle.raft_vote.specs.declared.message.Snapshot.{Snapshot as SnapshotValue}
+use Rattle.raft_messages.specs.declared.message.Snapshot.{Snapshot as SnapshotValue}
 use Rattle.disk_model.specs.Disk.{Disk, Leaves}
 use Rattle.disk_model.specs.Calls.{Call, CutTo, Remove, SyncNames}
 use Rattle.disk_model.specs.Trait.{Text, Known}

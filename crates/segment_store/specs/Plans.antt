@@ -1,6 +1,6 @@
 -- What keeping a snapshot writes and removes, as the code has it.
 use Rattle.std.specs.Prelude.{◌≡◌, ◌<◌, ◌^◌, ℕ, List, ◌++◌, length}
-use Rattle.raft_vote.specs.Entries.{HaveHeads}
+use Rattle.raft_messages.specs.Entries.{HaveHeads}
 use Rattle.disk_model.specs.Disk.{Disk}
 use Rattle.disk_model.specs.Calls.{Call, MayWrite}
 use Rattle.disk_model.specs.Trait.{Text}

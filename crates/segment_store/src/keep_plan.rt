@@ -1,5 +1,5 @@
 ghost use Rattle.std.specs.Prelude.{◌≡◌, ◌<◌, ◌^◌, ◌∷◌, ℕ, length, slice_index, IfOk};
-ghost use Rattle.raft_vote.specs.Entries.{HaveHeads};
+ghost use Rattle.raft_messages.specs.Entries.{HaveHeads};
 ghost use Rattle.store_laws.specs.Names.{Segment, Snapshot};
 ghost use Rattle.store_laws.specs.Snapshots.{AllBelow};
 ghost use Rattle.store_format.specs.Snapshots.{snapshot_bytes};
@@ -10,7 +10,7 @@ ghost use Rattle.segment_store.specs.Plans.{file_bytes};
 
 use crate::names::{File, file_name};
 use dq_base::Name;
-use raft_vote::Entry;
+use raft_messages::Entry;
 use std::alloc::{AllocError, Global};
 use store_format::{batch_bytes, snapshot_head, snapshot_tail};
 

@@ -27,7 +27,7 @@ use crate::load_fault::LoadFault;
 use crate::loading::calls::{repair, sync_files};
 use crate::loading::list::{FolderList, list_files};
 use crate::loading::reads::{Sizes, read_files};
-use crate::names::NUMBERS;
+use crate::names::NUMBER_END;
 use crate::store::{Store, begin_batch};
 use disk_model::Disk;
 use std::alloc::{AllocError, Global};
@@ -133,7 +133,7 @@ fn empty_log<D: Disk>(
     ensures cause { DiskCause (D.faults disk.old) (D.faults disk.new) result }
     ensures count { MakesCalls 5 (D.made disk.old) (D.made disk.new) result }
 {
-    if number >= NUMBERS {
+    if number >= NUMBER_END {
         return Err(StoreFault::NoMemory);
     }
     let all = with_number(segments, number)?;

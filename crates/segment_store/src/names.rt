@@ -20,7 +20,7 @@ pub enum File {
 }
 
 /// Numbers of files are below this one, so that they have sixteen digits.
-pub(crate) const NUMBERS: u64 = 10_000_000_000_000_000;
+pub(crate) const NUMBER_END: u64 = 10_000_000_000_000_000;
 
 const POWERS: [u64; 16] = [
     1_000_000_000_000_000,

@@ -22,10 +22,10 @@ use crate::block::write_block;
 use crate::fault::StoreFault;
 use crate::keep_files::follow;
 use crate::keep_plan::{KeepPlan, kept_indices, new_segment, new_snapshot, old_files};
-use crate::names::{File, NUMBERS, file_name, metadata_file};
+use crate::names::{File, NUMBER_END, file_name, metadata_file};
 use crate::segment::{begin_segment, grow_segment};
 use disk_model::Disk;
-use raft_vote::{Entry, Snapshot};
+use raft_messages::{Entry, Snapshot};
 use std::alloc::{AllocError, Global};
 use std::marker::Model;
 use store_format::{Metadata, batch_bytes, metadata_bytes};
@@ -55,7 +55,7 @@ pub struct Store {
 }
 
 /// A segment of so many bytes or more takes no batch any more.
-const FULL: u64 = 8_388_608;
+const MAX_SEGMENT_LENGTH: u64 = 8_388_608;
 
 impl Model for Store {
     ghost use Rattle.segment_store.specs.Open.{Open, HaveDigits};
@@ -215,7 +215,7 @@ impl Store {
         ensures { result ≡ room_in self.now.size }
     {
         match self.size {
-            Some(size) if size < FULL => Some(size),
+            Some(size) if size < MAX_SEGMENT_LENGTH => Some(size),
             _ => None,
         }
     }
@@ -231,7 +231,7 @@ impl Store {
     fn new_number(&self) -> Option<u64>
         ensures { MatchOption result (Unit {0}) (λ number. (number ≡ self.now.next) × (number < 10000000000000000)) }
     {
-        if self.next < NUMBERS {
+        if self.next < NUMBER_END {
             Some(self.next)
         } else {
             None
@@ -329,7 +329,7 @@ impl Store {
         let Some(number) = self.new_number() else {
             return Err(AllocError);
         };
-        if snapshot.index >= NUMBERS {
+        if snapshot.index >= NUMBER_END {
             return Err(AllocError);
         }
         let is_there = self.snapshots.contains(&snapshot.index);

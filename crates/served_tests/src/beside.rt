@@ -9,12 +9,12 @@ use crate::lives::{ONE, Setting, What, event_of, started};
 use crate::messages::Said as Says;
 use crossbeam_channel::{Receiver, Sender, unbounded};
 use disk_model::MemDisk;
-use gateway::StepLimits;
-use node_edge::{Outbox, Post};
-use node_server::{ChannelPost, Lent, Reader, ReaderWorker, event_channel};
 use query_reader::answer_read;
-use served_node::{Said, run_node};
-use session_decisions::{Read, ReadJob};
+use serve_loop::{StepReport, run_node};
+use serve_threads::{ChannelPost, LentQuery, Reader, ReaderWorker, event_channel};
+use serve_traits::{Outbox, Post};
+use session_gateway::StepLimits;
+use session_outcomes::{Read, ReadJob};
 use sql_engine::Engine;
 use sqlite_engine::SqliteEngine;
 use std::alloc::Global;
@@ -77,7 +77,7 @@ impl<R: Clock + Copy + Drop + Send + 'static> Reader for Late<R> {
 struct Lender<R: Wait + Copy + Drop> {
     rt: R,
     gate: Gate,
-    jobs: Option<Sender<Lent<ReadJob>>>,
+    jobs: Option<Sender<LentQuery<ReadJob>>>,
     left: usize,
     heard: Vec<u8>,
 }
@@ -92,15 +92,15 @@ impl<R: Wait + Copy + Drop> Lender<R> {
         self.note(conn, b'q');
         self.gate.reach(LENT);
         if let Some(jobs) = &self.jobs {
-            let _ = jobs.send(&self.rt, Lent { conn, job });
+            let _ = jobs.send(&self.rt, LentQuery { conn, job });
         }
     }
 }
 
-impl<R: Wait + Copy + Drop> Outbox<Said> for Lender<R> {
+impl<R: Wait + Copy + Drop> Outbox<StepReport> for Lender<R> {
     ghost said = { λ _. None };
 
-    fn put(&mut self, said: Said) {
+    fn put(&mut self, said: StepReport) {
         let outs = said.outs;
         for (conn, message) in &outs.replies {
             self.note(*conn, letter(message.as_slice()));
@@ -120,7 +120,7 @@ fn reads<R: Wait + Clock + Copy + Drop + Send + 'static>(
     rt: R,
     alloc: Global,
     gate: Gate,
-    jobs: Receiver<Lent<ReadJob>>,
+    jobs: Receiver<LentQuery<ReadJob>>,
     post: ChannelPost<R, Read>,
 ) {
     let reader = Late {

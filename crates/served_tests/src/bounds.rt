@@ -4,7 +4,7 @@ use crate::lives::{ONE, Setting, What, hears};
 use crate::messages::Said;
 use Said::{Front, More, Open, Prepare};
 use What::{Connects, Hangs, Says, Timeout};
-use gateway::StepLimits;
+use session_gateway::StepLimits;
 use sql_engine::CellEngine;
 use std::test::*;
 

@@ -3,9 +3,9 @@
 ghost use Rattle.std.specs.Prelude.{None};
 
 use crate::feed::Feed;
-use node_edge::{Event, Outbox};
 use query_reader::answer_read;
-use served_node::Said;
+use serve_loop::StepReport;
+use serve_traits::{Event, Outbox};
 use sql_engine::Engine;
 use std::alloc::Global;
 use std::sync::Wait;
@@ -49,10 +49,10 @@ impl<R: Wait + Copy + Drop, E: Engine + Drop> Desk<R, E> {
     }
 }
 
-impl<R: Wait + Copy + Drop, E: Engine + Drop> Outbox<Said> for Desk<R, E> {
+impl<R: Wait + Copy + Drop, E: Engine + Drop> Outbox<StepReport> for Desk<R, E> {
     ghost said = { λ _. None };
 
-    fn put(&mut self, said: Said) {
+    fn put(&mut self, said: StepReport) {
         let outs = said.outs;
         for (conn, message) in &outs.replies {
             self.note(*conn, letter(message.as_slice()));

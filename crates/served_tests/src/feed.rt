@@ -3,8 +3,8 @@
 ghost use Rattle.std.specs.Prelude.{None};
 
 use dq_base::Failed;
-use node_edge::{Event, Inbox};
-use session_decisions::Read;
+use serve_traits::{Event, Inbox};
+use session_outcomes::Read;
 use std::alloc::{AllocError, Global};
 use std::collections::VecDeque;
 use std::sync::{Arc, Mutex, Wait};

@@ -1,18 +1,18 @@
 //! Lives of a node.
 
 ghost use Rattle.std.specs.Prelude.{◌≡◌, [], IfSome};
-ghost use Rattle.served_node.specs.Serving.{CanStep};
+ghost use Rattle.serve_loop.specs.Serving.{CanStep};
 
 use crate::desk::Desk;
 use crate::feed::Feed;
 use crate::messages::{Said as Says, bytes_of};
 use disk_model::{Disk, MemDisk};
-use gateway::StepLimits;
 use node_core::{Node, NodeSpec};
-use node_edge::{Event, Inbox, Outbox};
-use raft_vote::read_servers;
-use served_node::{Said, run_node};
-use session_decisions::Read;
+use raft_messages::read_servers;
+use serve_loop::{StepReport, run_node};
+use serve_traits::{Event, Inbox, Outbox};
+use session_gateway::StepLimits;
+use session_outcomes::Read;
 use sql_engine::Engine;
 use std::alloc::Global;
 use std::sync::Wait;
@@ -91,7 +91,7 @@ pub(crate) fn fed<R: Wait + Copy + Drop>(
 }
 
 /// Has the node of a setting, over a disk of its own, make a step for each event of an inbox.
-fn live<E: Engine, I: Inbox<Read>, O: Outbox<Said>>(
+fn live<E: Engine, I: Inbox<Read>, O: Outbox<StepReport>>(
     alloc: Global,
     setting: &Setting,
     engine: &mut E,

@@ -1,7 +1,7 @@
 //! What clients and peers say.
 
 use dq_base::Items;
-use raft_vote::{RaftMessage, What, write_message};
+use raft_messages::{MessageBody, RaftMessage, write_message};
 use std::alloc::Global;
 
 /// The version of the wire, and an OPEN of `d`.
@@ -74,7 +74,7 @@ fn raft(alloc: Global, from: u64) -> Option<Vec<u8>> {
         from,
         to: 1,
         term: 3,
-        what: What::TimeoutNow,
+        what: MessageBody::TimeoutNow,
     };
     Some(write_message(alloc, &message).ok()?.into_vec())
 }

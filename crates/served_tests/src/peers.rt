@@ -3,7 +3,7 @@
 use crate::lives::{Setting, THREE, What, hears};
 use crate::messages::Said;
 use What::{Connects, Says};
-use gateway::StepLimits;
+use session_gateway::StepLimits;
 use sql_engine::CellEngine;
 use std::test::*;
 

@@ -4,7 +4,7 @@ use crate::lives::{ONE, Setting, What, hears};
 use crate::messages::Said;
 use Said::{Exec, Open, Query};
 use What::{Connects, Says, Timeout};
-use gateway::StepLimits;
+use session_gateway::StepLimits;
 use sqlite_engine::SqliteEngine;
 use std::test::*;
 

@@ -1,11 +1,11 @@
 //! A core that answers each piece of bytes by itself, and fails where it is told to; and a reader.
 
 ghost use Rattle.std.specs.Prelude.{⊤};
-ghost use Rattle.node_edge.specs.Stepping.{StepCause};
+ghost use Rattle.serve_traits.specs.Stepping.{StepCause};
 
 use dq_base::Bytes;
-use node_edge::{Core, Event, StepFault};
-use node_server::Reader;
+use serve_threads::Reader;
+use serve_traits::{Core, Event, StepFault};
 
 /// What it says: the bytes that came, with their connection.
 #[derive(Debug, Drop)]

@@ -2,9 +2,9 @@
 
 use crate::addresses::free_address;
 use crate::served::{ask, begin};
-use node_edge::{Door, Event, Inbox, Link, Post};
-use node_server::{ChannelInbox, Host, Queues, event_channel};
-use server_hosts::TcpHost;
+use serve_sockets::TcpHost;
+use serve_threads::{ChannelInbox, Host, Queues, event_channel};
+use serve_traits::{Door, Event, Inbox, Link, Post};
 use std::alloc::Global;
 use std::sync::Wait;
 use std::test::*;

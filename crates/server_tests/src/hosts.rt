@@ -2,9 +2,9 @@
 
 use crate::echo::Next;
 use dq_base::Failed;
-use node_edge::{Door, Event, Inbox, Link, MemLink};
-use node_server::{Host, Keeper, Worker, beside, write_queue};
-use server_hosts::{ListHost, MemHost};
+use serve_sockets::{ListHost, MemHost};
+use serve_threads::{ConnectionReader, Host, Worker, beside, write_queue};
+use serve_traits::{Door, Event, Inbox, Link, MemLink};
 use std::alloc::Global;
 use std::sync::Wait;
 use std::test::*;
@@ -121,7 +121,7 @@ fn keeps<H: Host<u8>>(host: &mut H, alloc: Global, cuts: bool) -> Option<bool> {
     if cuts {
         writer.cut(&host.rt(), 77);
     }
-    let keeper = Keeper {
+    let keeper = ConnectionReader {
         alloc,
         rt: host.rt(),
         door: host.listen("here:1").ok()?,

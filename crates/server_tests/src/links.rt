@@ -1,5 +1,5 @@
 use dq_base::Bytes;
-use node_edge::{Event, LinkEnd, MemLink, MemPost, serve_link};
+use serve_traits::{Event, LinkEnd, MemLink, MemPost, serve_link};
 use std::alloc::Global;
 use std::test::*;
 

@@ -2,7 +2,7 @@ ghost use Rattle.std.specs.Prelude.{None};
 
 use crate::echo::{Echo, Said};
 use dq_base::Bytes;
-use node_edge::{Event, LoopEnd, MemInbox, Outbox, StepFault, core_loop};
+use serve_traits::{Event, LoopEnd, MemInbox, Outbox, StepFault, core_loop};
 use std::alloc::Global;
 use std::test::*;
 

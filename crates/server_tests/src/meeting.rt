@@ -4,10 +4,10 @@ use crate::addresses::free_address;
 use crate::echo::Next;
 use crate::served::begin;
 use dq_base::Items;
-use node_edge::{Event, Inbox};
-use node_server::{Host, Peer, PeerQueue, Worker, beside};
-use raft_vote::{RaftMessage, What};
-use server_hosts::TcpHost;
+use raft_messages::{MessageBody, RaftMessage};
+use serve_sockets::TcpHost;
+use serve_threads::{Host, Peer, PeerQueue, Worker, beside};
+use serve_traits::{Event, Inbox};
 use std::alloc::Global;
 use std::test::*;
 use wire_words::WireText;
@@ -41,7 +41,7 @@ fn send_to<H: Host<u8>>(
         from,
         to: 3 - from.min(2),
         term: 3,
-        what: What::TimeoutNow,
+        what: MessageBody::TimeoutNow,
     };
     queue.put(&rt, message);
     queue.close(&rt);

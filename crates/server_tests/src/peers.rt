@@ -2,8 +2,8 @@
 
 use crate::taps::{Deeds, TapDoor};
 use dq_base::{Calls, Items};
-use node_server::{Peer, PeerQueue};
-use raft_vote::{LogEnd, RaftMessage, What};
+use raft_messages::{LogEnd, MessageBody, RaftMessage};
+use serve_threads::{Peer, PeerQueue};
 use std::alloc::Global;
 use std::sync::Wait;
 use std::test::*;
@@ -15,13 +15,13 @@ const TERM_AT: usize = 16;
 /// A message of node 1 to node 2 in this term: an Append, or else a TimeoutNow.
 fn message(alloc: Global, term: u64, is_bulk: bool) -> RaftMessage {
     let what = if is_bulk {
-        What::Append {
+        MessageBody::Append {
             prev: LogEnd { term: 0, index: 0 },
             commit: 0,
             entries: Items::new(Vec::new(alloc)),
         }
     } else {
-        What::TimeoutNow
+        MessageBody::TimeoutNow
     };
     RaftMessage {
         from: 1,

@@ -3,9 +3,11 @@ ghost use Rattle.std.specs.Prelude.{None};
 
 use crate::addresses::free_address;
 use crate::echo::{Echo, Next, Said};
-use node_edge::{Door, Link, LoopEnd, Outbox, StepFault, core_loop};
-use node_server::{Heard, Host, Keeper, Queues, Worker, Writer, beside, write_queue};
-use server_hosts::TcpHost;
+use serve_sockets::TcpHost;
+use serve_threads::{
+    ConnectionReader, Host, LeaderContact, Queues, Worker, Writer, beside, write_queue,
+};
+use serve_traits::{Door, Link, LoopEnd, Outbox, StepFault, core_loop};
 use std::alloc::Global;
 use std::sync::Wait;
 use std::test::*;
@@ -36,7 +38,7 @@ pub(crate) fn begin<H: Host<u8>>(
     door: H::Door,
 ) -> Option<Queues<H::Rt, <H::Door as Door>::Link, u8>> {
     let (writer, writes) = write_queue(alloc).ok()?;
-    let keeper = Keeper {
+    let keeper = ConnectionReader {
         alloc,
         rt: host.rt(),
         door,
@@ -53,7 +55,7 @@ pub(crate) fn begin<H: Host<u8>>(
         writers: vec![in alloc; writer].ok()?,
         peers: Vec::new(alloc),
         readers: Vec::new(alloc),
-        heard: Heard::new(alloc).ok()?,
+        heard: LeaderContact::new(alloc).ok()?,
     })
 }
 

@@ -1,7 +1,7 @@
 use crate::addresses::free_address;
-use node_edge::{Door, Link};
-use node_server::Host;
-use server_hosts::TcpHost;
+use serve_sockets::TcpHost;
+use serve_threads::Host;
+use serve_traits::{Door, Link};
 use std::test::*;
 
 /// The version and the header of a message of one word: the first 16 bytes of a link.

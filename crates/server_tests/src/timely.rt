@@ -1,9 +1,9 @@
 //! The time that a link has.
 
 use crate::addresses::free_address;
-use node_edge::{Door, Link};
-use node_server::Host;
-use server_hosts::TcpHost;
+use serve_sockets::TcpHost;
+use serve_threads::Host;
+use serve_traits::{Door, Link};
 use std::alloc::Global;
 use std::test::*;
 

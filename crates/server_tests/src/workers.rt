@@ -3,10 +3,12 @@ use crate::addresses::free_address;
 use crate::echo::Next;
 use crossbeam_channel::unbounded;
 use dq_base::Items;
-use node_edge::{Door, Event, Inbox, Link};
-use node_server::{Heard, Host, Lent, Peer, PeerQueue, ReaderWorker, Ticker, Worker, beside};
-use raft_vote::{RaftMessage, What};
-use server_hosts::{MemHost, TcpHost};
+use raft_messages::{MessageBody, RaftMessage};
+use serve_sockets::{MemHost, TcpHost};
+use serve_threads::{
+    Host, LeaderContact, LentQuery, Peer, PeerQueue, ReaderWorker, Ticker, Worker, beside,
+};
+use serve_traits::{Door, Event, Inbox, Link};
 use std::alloc::Global;
 use std::test::*;
 use wire_words::WireText;
@@ -28,7 +30,7 @@ fn reads<H: Host<u8>>(host: &mut H, alloc: Global) -> Option<bool> {
         post: host.post().ok()?,
     };
     beside::<Next, H>(host, Worker::Reader(worker)).ok()?;
-    jobs.send(&rt, Lent { conn: 4, job: 6 }).ok()?;
+    jobs.send(&rt, LentQuery { conn: 4, job: 6 }).ok()?;
     let told = host.take().ok()?;
     Some(matches!(told, Event::ReadDone(4, 7)))
 }
@@ -39,7 +41,7 @@ fn beats<H: Host<u8>>(host: &mut H, alloc: Global) -> Option<usize> {
     let ticker = Ticker {
         rt,
         post: host.post().ok()?.metered(alloc, 1).ok()?,
-        heard: Heard::new(alloc).ok()?,
+        heard: LeaderContact::new(alloc).ok()?,
         word: 5,
     };
     beside::<Next, H>(host, Worker::Ticker(ticker)).ok()?;
@@ -82,7 +84,7 @@ fn sends<H: Host<u8>>(host: &mut H, alloc: Global, address: String) -> Option<bo
         from: 1,
         to: 2,
         term: 3,
-        what: What::TimeoutNow,
+        what: MessageBody::TimeoutNow,
     };
     queue.put(&rt, message);
     let held = heard_of(door.accept().ok()?)?;

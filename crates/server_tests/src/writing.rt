@@ -2,7 +2,7 @@
 
 use crate::taps::{Deeds, Tap};
 use dq_base::Items;
-use node_server::{
+use serve_threads::{
     ClientQueue, ClientWrites, CommonRoom, CutCause, Writer, write_queue, write_queue_in,
 };
 use std::alloc::Global;

@@ -2,14 +2,14 @@
 
 use crate::silent::Silent;
 use crate::words::named;
-use dir_check::{CheckEnd, check};
 use disk_model::{Disk, MemDisk};
 use dq_base::{Items, MemSink};
-use node_edge::Event;
-use node_service::{ServeEnd, serve};
-use raft_vote::{Entry, EntryKind, SharedBytes};
+use folder_check::{CheckEnd, check};
+use raft_messages::{Entry, EntryKind, SharedBytes};
 use segment_store::Store;
-use server_hosts::ListHost;
+use serve_node::{ServeEnd, serve};
+use serve_sockets::ListHost;
+use serve_traits::Event;
 use sql_engine::CellEngine;
 use std::alloc::Global;
 use std::sync::Wait;
@@ -89,7 +89,7 @@ fn host_of<R: Wait + Copy + Drop>(
     rt: R,
     alloc: Global,
     timeouts: u64,
-) -> Option<ListHost<R, gateway::Read>> {
+) -> Option<ListHost<R, session_gateway::Read>> {
     let mut events = Vec::new(alloc);
     for _ in 0..timeouts {
         events.push(Event::Timeout).ok()?;

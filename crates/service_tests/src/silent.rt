@@ -1,4 +1,4 @@
-use node_service::{Note, Notes};
+use serve_node::{Note, Notes};
 
 /// Takes notes and forgets them.
 #[derive(Clone, Copy)]

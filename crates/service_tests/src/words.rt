@@ -1,9 +1,9 @@
 //! The words of nodes.
 
 ghost use Rattle.std.specs.Prelude.{IfSome};
-ghost use Rattle.program_words.specs.Serving.{IsServable};
+ghost use Rattle.arguments.specs.Serving.{IsServable};
 
-use program_words::{Serve, read_serve};
+use arguments::{Serve, read_serve};
 use std::alloc::Global;
 
 /// The node that these words name.

@@ -3,16 +3,16 @@ use Rattle.std.proofs.Common.{◌≡◌, ℕ, Bool, true, false, cond, List, [],
 use Rattle.std.specs.Prelude.{◌==◌}
 use Rattle.std.specs.List.{AllByRecursion, filter}
 use Rattle.std.proofs.lemmas.Bool.{cases_Bool, eqb-true}
-use Rattle.page_apply.specs.declared.database.Database.{Database}
-use Rattle.page_apply.specs.Pins.{Pinning, IsPinned}
-use Rattle.session_rules.specs.Sessions.{Kind, Opening, Configuring, Writing, Committing, Querying, Flight, Transaction as RuleTransaction, Session as RuleSession, Gateway, absent}
-use Rattle.session_rules.specs.Requests.{with_tx, with_session}
-use Rattle.session_rules.specs.Events as events
-use Rattle.session_rules.specs.Events.{tidy, on_applied, on_lost, on_hangup}
-use Rattle.session_rules.specs.Sessions.{Due, Later as RuleLater}
+use Rattle.database_state.specs.declared.database.Database.{Database}
+use Rattle.database_state.specs.Pins.{Pinning, IsPinned}
+use Rattle.session_spec.specs.Sessions.{Kind, Opening, Configuring, Writing, Committing, Querying, Flight, Transaction as RuleTransaction, Session as RuleSession, Gateway, absent}
+use Rattle.session_spec.specs.Requests.{with_tx, with_session}
+use Rattle.session_spec.specs.Events as events
+use Rattle.session_spec.specs.Events.{tidy, on_applied, on_lost, on_hangup}
+use Rattle.session_spec.specs.Sessions.{Due, Later as RuleLater}
 use Rattle.session_table.specs.Named.{later_named}
-use Rattle.session_table.specs.declared.session.Later.{Later}
-use Rattle.session_table.specs.declared.session.Later.TheVariants as laters
+use Rattle.session_table.specs.declared.session.WaitingQuery.{WaitingQuery}
+use Rattle.session_table.specs.declared.session.WaitingQuery.TheVariants as laters
 use Rattle.session_table.specs.declared.session.Session.{Session}
 use Rattle.session_table.specs.declared.session.Transaction.{Transaction}
 use Rattle.session_table.specs.declared.sweep.Event.{Event}
@@ -83,7 +83,7 @@ module _ (old new : List Database) where
       lost_session : Option RuleLater → RuleSession
       lost_session later = record { there = true; hung = s.hung; database = database_of s.database; barriers = s.barriers; later = later; statements = s.statements.items; tx = None; flight = None }
 
-      same_lent : (l : Option Later) → option_map later_named (still_lent l) ≡ events.still_lent (option_map later_named l)
+      same_lent : (l : Option WaitingQuery) → option_map later_named (still_lent l) ≡ events.still_lent (option_map later_named l)
       same_lent None = refl
       same_lent (Some (laters.Due query)) = refl
       same_lent (Some (laters.Lent query)) = refl

@@ -5,9 +5,9 @@ use Rattle.std.specs.List.{AllByRecursion, list_any}
 use Rattle.std.proofs.lemmas.List.{at_drop_more, at_drop_all}
 use Rattle.std.proofs.Math.Nat.{le-max_left, le-max_right, max-le, max-zero}
 use Rattle.std.proofs.lemmas.Bool.{cond-true, cond-false, eq-eqb, ne_eqb}
-use Rattle.page_apply.specs.declared.database.Database.{Database}
-use Rattle.session_rules.specs.Sessions.{Session as RuleSession}
-use Rattle.session_rules.specs.Limits.{holds, other_holds, flown_by, flown, most}
+use Rattle.database_state.specs.declared.database.Database.{Database}
+use Rattle.session_spec.specs.Sessions.{Session as RuleSession}
+use Rattle.session_spec.specs.Limits.{holds, other_holds, flown_by, pending_pages, most}
 use Rattle.session_table.specs.declared.session.Session.{Session}
 use Rattle.session_table.specs.Table.{session_of, has_conn, session_found, session_at, table_of, AreApart, holds_beside, flown_in}
 
@@ -54,8 +54,8 @@ others_hold databases sessions weight conn name apart =
     any_found databases sessions sessions (λ (other : ℕ) (r : RuleSession). not (other == conn) && holds r name) (all_found databases sessions apart)
 
 pub all_flown : (databases : List Database) (sessions : List Session) (weight : ℕ) (name : List ℕ) → AreApart sessions
-    → flown (table_of databases sessions weight) name ≡ most (map (flown_in name) sessions)
-unfolding flown table_of
+    → pending_pages (table_of databases sessions weight) name ≡ most (map (flown_in name) sessions)
+unfolding pending_pages table_of
 all_flown databases sessions weight name apart =
     ap most (map_found databases sessions sessions (λ (r : RuleSession). flown_by r.flight name) (all_found databases sessions apart))
 

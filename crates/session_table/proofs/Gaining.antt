@@ -7,16 +7,16 @@ use Rattle.std.proofs.lemmas.List.{append_assoc}
 use Rattle.std.proofs.lemmas.List.Elements.{Contains-append_cases, Contains-append_left, Contains-append_right}
 use Rattle.dq_base.specs.declared.images.Image.{Image}
 use Rattle.read_marks.specs.Marks.{mark_at, with_mark}
-use Rattle.checkpoint_core.specs.Store.{IsLive, pinned}
-use Rattle.page_apply.specs.declared.database.Database.{Database}
-use Rattle.page_apply.specs.ByName.{change_first}
-use Rattle.page_apply.specs.Databases.{has_name, with_store}
-use Rattle.page_apply.specs.Machines.{IsMachine}
-use Rattle.page_apply.specs.ImageNumbers.{NumbersStay}
-use Rattle.page_apply.specs.Pins.{Pinning, has_place, at_place, is_live_in, IsPinned, IsPin, ShowsNewest, StillPinned}
-use Rattle.page_apply.proofs.Acting.{own_place}
-use Rattle.page_apply.proofs.ImageNumbers.{pin_stays}
-use Rattle.session_rules.specs.Machine.{machine_of}
+use Rattle.page_store.specs.Store.{IsLive, pinned}
+use Rattle.database_state.specs.declared.database.Database.{Database}
+use Rattle.database_state.specs.ByName.{change_first}
+use Rattle.database_state.specs.Databases.{has_name, with_store}
+use Rattle.database_state.specs.Machines.{IsMachine}
+use Rattle.database_state.specs.ImageNumbers.{NumbersStay}
+use Rattle.database_state.specs.Pins.{Pinning, has_place, at_place, is_live_in, IsPinned, IsPin, ShowsNewest, StillPinned}
+use Rattle.database_state.proofs.Acting.{own_place}
+use Rattle.database_state.proofs.ImageNumbers.{pin_stays}
+use Rattle.session_spec.specs.Machine.{machine_of}
 use Rattle.session_table.specs.declared.session.Session.{Session}
 use Rattle.session_table.specs.declared.session.Transaction.{Transaction}
 use Rattle.session_table.specs.Table.{image_pinned, mark_of, pin_of, pins_of}

@@ -3,13 +3,13 @@ use Rattle.std.proofs.Common.{◌≡◌, ◌≢◌, ℕ, zero, suc, Bool, true, 
 use Rattle.std.specs.Prelude.{◌==◌, is_some, IsSome}
 use Rattle.std.proofs.lemmas.Bool.{cases_Bool, cond-true, cond-false, eqb-true, eqb-false, both_ways}
 use Rattle.read_marks.specs.Marks.{mark_at, with_mark, without_mark}
-use Rattle.checkpoint_core.specs.Store.{Store, IsLive, released}
-use Rattle.page_apply.specs.declared.database.Database.{Database}
-use Rattle.page_apply.specs.ByName.{change_first}
-use Rattle.page_apply.specs.Databases.{named, has_name, with_store}
-use Rattle.page_apply.specs.Machines.{names_of}
-use Rattle.page_apply.specs.Pins.{Pinning, has_place, is_live_in, IsPinned, with_pin, without_pin}
-use Rattle.session_rules.specs.Machine.{base_of, machine_of}
+use Rattle.page_store.specs.Store.{Store, IsLive, released}
+use Rattle.database_state.specs.declared.database.Database.{Database}
+use Rattle.database_state.specs.ByName.{change_first}
+use Rattle.database_state.specs.Databases.{named, has_name, with_store}
+use Rattle.database_state.specs.Machines.{names_of}
+use Rattle.database_state.specs.Pins.{Pinning, has_place, is_live_in, IsPinned, with_pin, without_pin}
+use Rattle.session_spec.specs.Machine.{base_of, machine_of}
 
 -- a database with other marks
 abbrev remarked : (Store → List (Option ℕ)) → Database → Database

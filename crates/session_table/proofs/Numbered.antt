@@ -3,8 +3,8 @@ use Rattle.std.proofs.Common.{◌≡◌, ℕ, zero, suc, ◌+◌, ◌<◌, ◌�
 use Rattle.std.specs.Prelude.{is_some, IsSome}
 use Rattle.std.proofs.lemmas.List.Sums.{sum_by-cons}
 use Rattle.std.proofs.lemmas.List.{at_drop_more, at_drop_all}
-use Rattle.session_rules.specs.Sessions.{Prepared}
-use Rattle.session_rules.specs.Statements.{free_id, with_prepared, prepared_at, prepared_count}
+use Rattle.session_spec.specs.Sessions.{Prepared}
+use Rattle.session_spec.specs.Statements.{free_id, with_prepared, prepared_at, prepared_count}
 
 -- the least free number is found by looking at one after the other
 pub free_here : (xs : List (Option Prepared)) (i : ℕ) (d : Option Prepared) → i < length xs → get_or xs i d ≡ None → free_id (drop i xs) ≡ 0

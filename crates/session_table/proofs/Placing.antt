@@ -4,11 +4,11 @@ use Rattle.std.specs.Prelude.{◌==◌, nat_lt}
 use Rattle.std.specs.List.{AllByRecursion}
 use Rattle.std.proofs.lemmas.Bool.{cases_Bool, eqb-true, eqb-false, ne_eqb, lt-ltb, le-ltb}
 use Rattle.std.proofs.lemmas.List.{append-nil, length-set, length-append, map-append, length-map, get_or_default}
-use Rattle.page_apply.specs.declared.database.Database.{Database}
-use Rattle.page_apply.specs.Pins.{Pinning}
-use Rattle.session_rules.specs.Sessions.{Session as RuleSession, Gateway, absent, fresh}
-use Rattle.session_rules.specs.Requests.{with_session}
-use Rattle.session_rules.specs.Events.{connects, connected}
+use Rattle.database_state.specs.declared.database.Database.{Database}
+use Rattle.database_state.specs.Pins.{Pinning}
+use Rattle.session_spec.specs.Sessions.{Session as RuleSession, Gateway, absent, fresh}
+use Rattle.session_spec.specs.Requests.{with_session}
+use Rattle.session_spec.specs.Events.{connects, connected}
 use Rattle.session_table.specs.declared.session.Session.{Session}
 use Rattle.session_table.specs.Table.{session_of, session_at, table_of, AreApart, IsTable, pin_of, pins_of}
 use Rattle.session_table.specs.Changing.{IsAbsent, StandsAt, FreshFor, Joined, changed_by}

@@ -1,11 +1,11 @@
 -- Marks that are released one after another, and lists of marks.
 use Rattle.std.proofs.Common.{◌≡◌, ◌≢◌, List, [], ◌∷◌, ◌++◌, refl, sym, ap, subst, ◌∙◌}
 use Rattle.std.specs.List.{AllByRecursion}
-use Rattle.page_apply.specs.declared.database.Database.{Database}
-use Rattle.page_apply.specs.ImageNumbers.{NumbersStay}
-use Rattle.page_apply.specs.Pins.{Pinning, IsPinned, StillPinned, without_pin}
-use Rattle.page_apply.proofs.ImageNumbers.{release_stays}
-use Rattle.session_rules.specs.Machine.{machine_of}
+use Rattle.database_state.specs.declared.database.Database.{Database}
+use Rattle.database_state.specs.ImageNumbers.{NumbersStay}
+use Rattle.database_state.specs.Pins.{Pinning, IsPinned, StillPinned, without_pin}
+use Rattle.database_state.proofs.ImageNumbers.{release_stays}
+use Rattle.session_spec.specs.Machine.{machine_of}
 use Rattle.session_table.specs.Marks.{IsNoneOf, AreDifferent, Released}
 use Rattle.session_table.proofs.Marked.{released_stays, spent_marks}
 

@@ -3,18 +3,18 @@ use Rattle.std.proofs.Common.{◌≡◌, ◌≢◌, ℕ, zero, suc, ◌+◌, ◌
 use Rattle.std.specs.Prelude.{IsSome, slice_index_or}
 use Rattle.std.proofs.lemmas.List.Sums.{sum_by-cons}
 use Rattle.read_marks.specs.Marks.{mark_at, live_count}
-use Rattle.page_apply.specs.declared.database.Database.{Database}
-use Rattle.page_apply.specs.declared.pin.PinFault.{PinFault}
-use Rattle.page_apply.specs.Databases.{named, has_name}
-use Rattle.page_apply.specs.Files.{empty_image}
-use Rattle.page_apply.specs.Machines.{IsMachine}
-use Rattle.page_apply.specs.Pins.{Pinning, at_place, is_live_in, IsPinned, IsRefused}
-use Rattle.session_rules.specs.Machine.{base_of, machine_of}
+use Rattle.database_state.specs.declared.database.Database.{Database}
+use Rattle.database_state.specs.declared.pin.PinFault.{PinFault}
+use Rattle.database_state.specs.Databases.{named, has_name}
+use Rattle.database_state.specs.Files.{empty_image}
+use Rattle.database_state.specs.Machines.{IsMachine}
+use Rattle.database_state.specs.Pins.{Pinning, at_place, is_live_in, IsPinned, IsRefused}
+use Rattle.session_spec.specs.Machine.{base_of, machine_of}
 use Rattle.session_table.specs.declared.session.Session.{Session}
 use Rattle.session_table.specs.declared.session.Transaction.{Transaction}
 use Rattle.session_table.specs.Table.{mark_of, pin_of, pins_of, IsTable}
 use Rattle.session_table.specs.Marks.{AreMarks, HasRoom}
-use Rattle.page_apply.proofs.Acting.{own_place}
+use Rattle.database_state.proofs.Acting.{own_place}
 
 -- ---- as many marks as there are in a list
 

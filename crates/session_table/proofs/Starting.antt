@@ -1,10 +1,10 @@
 -- A session that begins a transaction, in its table.
 use Rattle.std.proofs.Common.{◌≡◌, ℕ, Bool, List, set, get_or, Option, Some, None, refl, sym, ap, subst, ◌∙◌}
 use Rattle.std.specs.Prelude.{IsSome}
-use Rattle.page_apply.specs.declared.database.Database.{Database}
-use Rattle.session_rules.specs.Machine.{Machine, machine_of}
-use Rattle.session_rules.specs.Sessions.{Transaction as RuleTransaction, Session as RuleSession}
-use Rattle.session_rules.specs.Requests.{with_session, with_tx, begun_over, begun}
+use Rattle.database_state.specs.declared.database.Database.{Database}
+use Rattle.session_spec.specs.Machine.{Machine, machine_of}
+use Rattle.session_spec.specs.Sessions.{Transaction as RuleTransaction, Session as RuleSession}
+use Rattle.session_spec.specs.Requests.{with_session, with_tx, begun_over, begun}
 use Rattle.session_table.specs.declared.session.Session.{Session}
 use Rattle.session_table.specs.declared.session.Transaction.{Transaction}
 use Rattle.session_table.specs.Table.{database_of, transaction_of, session_of, session_at, table_of, pin_of, pins_of, IsTable}

@@ -3,9 +3,9 @@ use Rattle.std.proofs.Common.{◌≡◌, ◌≢◌, ℕ, cond, List, [], ◌∷�
 use Rattle.std.specs.Prelude.{◌==◌}
 use Rattle.std.specs.List.{AllByRecursion, flat_map, filter}
 use Rattle.std.proofs.lemmas.Bool.{cases_Bool, eqb-true, eqb-false}
-use Rattle.page_apply.specs.declared.database.Database.{Database}
-use Rattle.session_rules.specs.Sessions.{Session as RuleSession, absent}
-use Rattle.session_rules.specs.Events.{tidy}
+use Rattle.database_state.specs.declared.database.Database.{Database}
+use Rattle.session_spec.specs.Sessions.{Session as RuleSession, absent}
+use Rattle.session_spec.specs.Events.{tidy}
 use Rattle.session_table.specs.declared.session.Session.{Session}
 use Rattle.session_table.specs.Table.{session_of, session_at, table_of, AreApart}
 use Rattle.session_table.proofs.Found.{here, elsewhere, IsFound, all_found}

@@ -7,15 +7,15 @@ use Rattle.std.specs.declared.cmp.Ordering.{Ordering}
 use Rattle.std.specs.declared.cmp.Ordering.TheVariants.{Less, Equal, Greater}
 use Rattle.dq_base.specs.declared.pages.NumberedPage.{NumberedPage}
 use Rattle.dq_base.specs.Applying.{page_fault}
-use Rattle.frame_commands.specs.declared.command.Command.{Command}
-use Rattle.frame_commands.specs.declared.command.Command.TheVariants.{OpenDb, Frames, Undo, Checkpoint}
+use Rattle.log_commands.specs.declared.command.Command.{Command}
+use Rattle.log_commands.specs.declared.command.Command.TheVariants.{OpenDb, Frames, Undo, Checkpoint}
 use Rattle.read_marks.specs.Marks.{mark_at, no_marks, lowered, lowered_mark}
-use Rattle.checkpoint_core.specs.Store.{IsLive, fresh_store}
-use Rattle.page_apply.specs.declared.database.Database.{Database}
-use Rattle.page_apply.specs.ByName.{at_name, change_first}
-use Rattle.page_apply.specs.Files.{empty_image, pending_of}
-use Rattle.page_apply.specs.Databases.{has_name, opened, grown, with_commit, frames, undone, moved, changed, act}
-use Rattle.page_apply.specs.Pins.{Pinning, has_place, is_live_in, IsPinned}
+use Rattle.page_store.specs.Store.{IsLive, fresh_store}
+use Rattle.database_state.specs.declared.database.Database.{Database}
+use Rattle.database_state.specs.ByName.{at_name, change_first}
+use Rattle.database_state.specs.Files.{empty_image, pending_of}
+use Rattle.database_state.specs.Databases.{has_name, opened, grown, with_commit, frames, undone, moved, changed, act}
+use Rattle.database_state.specs.Pins.{Pinning, has_place, is_live_in, IsPinned}
 
 -- what is done to a database moves it to no other place, and makes no mark of it live
 pub record MakesNone (f : Database → Database) : Type 0 where

@@ -5,15 +5,15 @@ use Rattle.std.specs.Option.{option_map}
 use Rattle.std.specs.List.{AllByRecursion, filter, flat_map}
 use Rattle.std.proofs.lemmas.List.{append-nil, append_assoc}
 use Rattle.wire_msgs.specs.declared.response.Response.{Response}
-use Rattle.page_apply.specs.declared.database.Database.{Database}
-use Rattle.session_rules.specs.Causes.{LeadershipLost, failure}
-use Rattle.session_rules.specs.Sessions.{Reply, Refusal, Flight, Session as RuleSession}
-use Rattle.session_rules.specs.Events.{placed, ordered, last_of, told_by, told_applied, told_lost}
-use Rattle.session_rules.specs.Events as events
-use Rattle.session_rules.specs.Sessions as rules
+use Rattle.database_state.specs.declared.database.Database.{Database}
+use Rattle.session_spec.specs.Causes.{LeadershipLost, failure}
+use Rattle.session_spec.specs.Sessions.{Reply, Refusal, Flight, Session as RuleSession}
+use Rattle.session_spec.specs.Events.{placed, ordered, last_of, told_by, told_applied, told_lost}
+use Rattle.session_spec.specs.Events as events
+use Rattle.session_spec.specs.Sessions as rules
 use Rattle.session_table.specs.Named.{later_named}
-use Rattle.session_table.specs.declared.session.Later.{Later}
-use Rattle.session_table.specs.declared.session.Later.TheVariants as laters
+use Rattle.session_table.specs.declared.session.WaitingQuery.{WaitingQuery}
+use Rattle.session_table.specs.declared.session.WaitingQuery.TheVariants as laters
 use Rattle.session_table.specs.declared.session.Session.{Session}
 use Rattle.session_table.specs.declared.sweep.Event.TheVariants.{Applied}
 use Rattle.session_table.specs.Table.{session_of, session_at, table_of, AreApart}
@@ -72,7 +72,7 @@ module _ (databases : List Database) (all : List Session) where
   waits_same : (s : Session) → events.waits (session_of databases s) ≡ waits s
   waits_same s = ap (λ (b : Bool). not s.hung && (not (is_none s.flight) || b)) (same_due s.later)
     where
-      same_due : (l : Option Later) → rules.is_due (option_map later_named l) ≡ is_due l
+      same_due : (l : Option WaitingQuery) → rules.is_due (option_map later_named l) ≡ is_due l
       same_due None = refl
       same_due (Some (laters.Due query)) = refl
       same_due (Some (laters.Lent query)) = refl

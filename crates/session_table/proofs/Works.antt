@@ -8,11 +8,11 @@ use Rattle.std.proofs.lemmas.List.Elements.{Contains-append_cases, Contains-appe
 use Rattle.dq_base.specs.declared.images.Image.{Image}
 use Rattle.dq_base.specs.declared.image_number.ImageNumber.{ImageNumber}
 use Rattle.sql_engine.specs.Known.{Known}
-use Rattle.page_apply.specs.declared.database.Database.{Database}
-use Rattle.page_apply.specs.Databases.{has_name, named}
-use Rattle.page_apply.specs.ImageNumbers.{number_of}
-use Rattle.session_rules.specs.Machine.{machine_of, base_of}
-use Rattle.session_rules.specs.Sessions.{Kind, Opening, Configuring, Writing, Committing, Querying, Flight}
+use Rattle.database_state.specs.declared.database.Database.{Database}
+use Rattle.database_state.specs.Databases.{has_name, named}
+use Rattle.database_state.specs.ImageNumbers.{number_of}
+use Rattle.session_spec.specs.Machine.{machine_of, base_of}
+use Rattle.session_spec.specs.Sessions.{Kind, Opening, Configuring, Writing, Committing, Querying, Flight}
 use Rattle.session_table.specs.declared.session.Session.{Session}
 use Rattle.session_table.specs.declared.session.Transaction.{Transaction}
 use Rattle.session_table.specs.declared.change.Change.{Change}

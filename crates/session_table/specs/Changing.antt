@@ -3,12 +3,12 @@ use Rattle.std.specs.Prelude.{◌≡◌, ◌≢◌, ℕ, ◌<◌, Bool, true, Li
 use Rattle.std.specs.List.{AllByRecursion}
 use Rattle.dq_base.specs.declared.pages.NumberedPage.{NumberedPage}
 use Rattle.dq_base.specs.Applying.{applied}
-use Rattle.page_apply.specs.declared.database.Database.{Database}
-use Rattle.session_rules.specs.Sessions.{Gateway, Lent, fresh, Prepared, Transaction as RuleTransaction, Session as RuleSession}
-use Rattle.session_rules.specs.Touched.{numbers_of}
-use Rattle.session_rules.specs.Statements.{with_prepared, without_prepared, prepared_at}
-use Rattle.session_rules.specs.Requests.{with_tx, with_flight, with_statements, with_database, with_barriers, with_later}
-use Rattle.session_rules.specs.Events.{connects, connected}
+use Rattle.database_state.specs.declared.database.Database.{Database}
+use Rattle.session_spec.specs.Sessions.{Gateway, Lent, fresh, Prepared, Transaction as RuleTransaction, Session as RuleSession}
+use Rattle.session_spec.specs.Touched.{numbers_of}
+use Rattle.session_spec.specs.Statements.{with_prepared, without_prepared, prepared_at}
+use Rattle.session_spec.specs.Requests.{with_tx, with_flight, with_statements, with_database, with_barriers, with_later}
+use Rattle.session_spec.specs.Events.{connects, connected}
 use Rattle.session_table.specs.declared.session.Session.{Session}
 use Rattle.session_table.specs.declared.session.Transaction.{Transaction}
 use Rattle.session_table.specs.Table.{session_of, pin_of}

@@ -1,10 +1,10 @@
 -- Read marks in a machine: which are live, and what it is to release some of them.
 use Rattle.std.specs.Prelude.{◌≡◌, ◌≢◌, ◌<◌, List, [], ◌∷◌, length, ◌⊎◌}
 use Rattle.std.specs.List.{AllByRecursion, Contains}
-use Rattle.page_apply.specs.declared.database.Database.{Database}
-use Rattle.page_apply.specs.ImageNumbers.{NumbersStay}
-use Rattle.page_apply.specs.Pins.{Pinning, IsPinned, StillPinned}
-use Rattle.session_rules.specs.Machine.{machine_of}
+use Rattle.database_state.specs.declared.database.Database.{Database}
+use Rattle.database_state.specs.ImageNumbers.{NumbersStay}
+use Rattle.database_state.specs.Pins.{Pinning, IsPinned, StillPinned}
+use Rattle.session_spec.specs.Machine.{machine_of}
 
 -- the mark is none of these
 abbrev pub IsNoneOf : List Pinning → Pinning → Type 0

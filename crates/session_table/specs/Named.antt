@@ -1,19 +1,19 @@
 -- The causes, replies and kinds of the rules, by those of code.
 use Rattle.std.specs.Prelude.{◌≡◌, ℕ, List, [], Some, None, Result, Ok, Err}
 use Rattle.wire_rows.specs.Answering.{parts_of}
-use Rattle.sql_engine.specs.declared.answer.Ran.{Ran}
-use Rattle.session_rules.specs.Causes as rules
-use Rattle.session_rules.specs.Requests.{rows_cause}
-use Rattle.session_rules.specs.Causes.{Cause as RuleCause}
-use Rattle.session_rules.specs.Sessions.{Reply as RuleReply, Single, Rows, Kind, Opening, Configuring, Writing, Committing, Querying, Due, Lent}
-use Rattle.session_rules.specs.Sessions.{Later as RuleLater}
+use Rattle.sql_engine.specs.declared.answer.StatementResult.{StatementResult}
+use Rattle.session_spec.specs.Causes as rules
+use Rattle.session_spec.specs.Requests.{rows_cause}
+use Rattle.session_spec.specs.Causes.{Cause as RuleCause}
+use Rattle.session_spec.specs.Sessions.{Reply as RuleReply, Single, Rows, Kind, Opening, Configuring, Writing, Committing, Querying, Due, Lent}
+use Rattle.session_spec.specs.Sessions.{Later as RuleLater}
 use Rattle.session_table.specs.declared.cause.Cause.{Cause}
 use Rattle.session_table.specs.declared.reply.Reply.{Reply}
 use Rattle.session_table.specs.declared.reply.Reply.TheVariants as replies
-use Rattle.session_table.specs.declared.session.FlightKind.{FlightKind}
-use Rattle.session_table.specs.declared.session.FlightKind.TheVariants as kinds
-use Rattle.session_table.specs.declared.session.Later.{Later}
-use Rattle.session_table.specs.declared.session.Later.TheVariants as laters
+use Rattle.session_table.specs.declared.session.ProposalKind.{ProposalKind}
+use Rattle.session_table.specs.declared.session.ProposalKind.TheVariants as kinds
+use Rattle.session_table.specs.declared.session.WaitingQuery.{WaitingQuery}
+use Rattle.session_table.specs.declared.session.WaitingQuery.TheVariants as laters
 use Rattle.session_table.specs.declared.cause.Cause.TheVariants as causes
 
 abbrev pub cause_named : Cause → RuleCause
@@ -60,7 +60,7 @@ abbrev pub reply_named : Reply → RuleReply
 reply_named (replies.Single response) = Single response
 reply_named (replies.Rows answer) = Rows answer
 
-abbrev pub kind_named : FlightKind → Kind
+abbrev pub kind_named : ProposalKind → Kind
 kind_named (kinds.Opening name) = Opening
 kind_named kinds.Configuring = Configuring
 kind_named (kinds.Writing name pages reply) = Writing (reply_named reply)
@@ -68,7 +68,7 @@ kind_named (kinds.Committing name pages) = Committing
 kind_named (kinds.Querying query) = Querying query
 
 -- the database of a proposal; the empty name where it is for none
-abbrev pub name_for : FlightKind → List ℕ
+abbrev pub name_for : ProposalKind → List ℕ
 name_for (kinds.Opening name) = name
 name_for kinds.Configuring = []
 name_for (kinds.Writing name pages reply) = name
@@ -76,18 +76,18 @@ name_for (kinds.Committing name pages) = name
 name_for (kinds.Querying query) = []
 
 -- how many pages it has after the proposal, where that changes them
-abbrev pub pages_for : FlightKind → ℕ
+abbrev pub pages_for : ProposalKind → ℕ
 pages_for (kinds.Opening name) = 0
 pages_for kinds.Configuring = 0
 pages_for (kinds.Writing name pages reply) = pages
 pages_for (kinds.Committing name pages) = pages
 pages_for (kinds.Querying query) = 0
 
-abbrev pub later_named : Later → RuleLater
+abbrev pub later_named : WaitingQuery → RuleLater
 later_named (laters.Due query) = Due query
 later_named (laters.Lent query) = Lent query
 
 -- The rows of an answer are told, where they can be; else the cause is that for which they can't.
-abbrev pub TellsRows : Ran → Result Ran Cause → Type 0
+abbrev pub TellsRows : StatementResult → Result StatementResult Cause → Type 0
 TellsRows answer (Ok told) = (told ≡ answer) × (rows_cause (parts_of answer.columns answer.rows) ≡ None)
 TellsRows answer (Err cause) = rows_cause (parts_of answer.columns answer.rows) ≡ Some (cause_named cause)

@@ -2,10 +2,10 @@
 use Rattle.std.specs.Prelude.{◌+◌, ◌==◌, ℕ, cond, List, [], ◌∷◌, length, Option, Some, None}
 use Rattle.wire_rows.specs.Answering.{held}
 use Rattle.wire_rows.specs.Cut.{cut, bodies, total_size}
-use Rattle.session_rules.specs.Sessions.{Prepared, Reply, Refusal, Single, Rows, Flight, Kind, Opening, Configuring, Writing, Committing, Querying}
+use Rattle.session_spec.specs.Sessions.{Prepared, Reply, Refusal, Single, Rows, Flight, Kind, Opening, Configuring, Writing, Committing, Querying}
 use Rattle.session_table.specs.declared.session.Session.{Session}
-use Rattle.session_table.specs.declared.session.Later.{Later}
-use Rattle.session_table.specs.declared.session.Later.TheVariants.{Due, Lent}
+use Rattle.session_table.specs.declared.session.WaitingQuery.{WaitingQuery}
+use Rattle.session_table.specs.declared.session.WaitingQuery.TheVariants.{Due, Lent}
 use Rattle.session_table.specs.StatementSizes.{statement_size}
 
 -- a prepared statement counts 128 bytes, and besides those of its text
@@ -36,7 +36,7 @@ flight_size None = 0
 flight_size (Some flight) = kind_size flight.kind
 
 -- the query that is yet to be answered
-abbrev pub later_size : Option Later → ℕ
+abbrev pub later_size : Option WaitingQuery → ℕ
 later_size None = 0
 later_size (Some (Due query)) = statement_size query
 later_size (Some (Lent query)) = statement_size query

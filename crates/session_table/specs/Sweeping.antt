@@ -2,15 +2,15 @@
 use Rattle.std.specs.Prelude.{ℕ, ◌==◌, ◌≡◌, Bool, true, false, List, [], ◌∷◌, ◌++◌, map, Option, Some, None, if◌then◌else◌}
 use Rattle.std.specs.List.{flat_map}
 use Rattle.wire_msgs.specs.declared.response.Response.{Response}
-use Rattle.page_apply.specs.declared.database.Database.{Database}
-use Rattle.page_apply.specs.Pins.{Pinning}
-use Rattle.session_rules.specs.Sessions.{Kind, Opening, Configuring, Writing, Committing, Querying, Flight, Reply, Gateway, responses_of}
-use Rattle.session_rules.specs.Events as events
-use Rattle.session_rules.specs.Requests.{with_tx, with_session}
+use Rattle.database_state.specs.declared.database.Database.{Database}
+use Rattle.database_state.specs.Pins.{Pinning}
+use Rattle.session_spec.specs.Sessions.{Kind, Opening, Configuring, Writing, Committing, Querying, Flight, Reply, Gateway, responses_of}
+use Rattle.session_spec.specs.Events as events
+use Rattle.session_spec.specs.Requests.{with_tx, with_session}
 use Rattle.sql_engine.specs.Replies.{Statement}
 use Rattle.session_table.specs.declared.session.Session.{Session}
-use Rattle.session_table.specs.declared.session.Later.{Later}
-use Rattle.session_table.specs.declared.session.Later.TheVariants.{Due, Lent}
+use Rattle.session_table.specs.declared.session.WaitingQuery.{WaitingQuery}
+use Rattle.session_table.specs.declared.session.WaitingQuery.TheVariants.{Due, Lent}
 use Rattle.session_table.specs.declared.sweep.Event.{Event}
 use Rattle.session_table.specs.declared.sweep.Event.TheVariants.{Applied, Lost, Left, Ended}
 use Rattle.session_table.specs.Table.{pin_of}
@@ -41,7 +41,7 @@ abbrev pub due_at : Session → Statement → Session
 due_at s statement = record { conn = s.conn; hung = s.hung; database = s.database; barriers = s.barriers; later = Some (Due statement); statements = s.statements; transaction = s.transaction; flight = None }
 
 -- a reader goes on with its query, where leadership is lost
-abbrev pub still_lent : Option Later → Option Later
+abbrev pub still_lent : Option WaitingQuery → Option WaitingQuery
 still_lent None = None
 still_lent (Some (Due query)) = None
 still_lent (Some (Lent query)) = Some (Lent query)

@@ -2,12 +2,12 @@
 use Rattle.std.specs.Prelude.{◌≢◌, ℕ, ◌≤◌, ◌==◌, Bool, true, not, ◌&&◌, List, [], ◌∷◌, ◌++◌, length, map, find, Option, Some, None}
 use Rattle.std.specs.Option.{option_map}
 use Rattle.std.specs.List.{AllByRecursion}
-use Rattle.page_apply.specs.declared.database.Database.{Database}
+use Rattle.database_state.specs.declared.database.Database.{Database}
 use Rattle.dq_base.specs.declared.images.Image.{Image}
-use Rattle.page_apply.specs.Pins.{Pinning, pinned_image}
-use Rattle.page_apply.specs.Files.{empty_image}
-use Rattle.session_rules.specs.Sessions.{Transaction as RuleTransaction, Session as RuleSession, Gateway, absent}
-use Rattle.session_rules.specs.Limits.{holds, flown_by}
+use Rattle.database_state.specs.Pins.{Pinning, pinned_image}
+use Rattle.database_state.specs.Files.{empty_image}
+use Rattle.session_spec.specs.Sessions.{Transaction as RuleTransaction, Session as RuleSession, Gateway, absent}
+use Rattle.session_spec.specs.Limits.{holds, flown_by}
 use Rattle.session_table.specs.Named.{later_named}
 use Rattle.session_table.specs.declared.session.Session.{Session}
 use Rattle.session_table.specs.declared.session.Transaction.{Transaction}

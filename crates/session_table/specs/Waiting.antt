@@ -1,14 +1,14 @@
 -- Who waits for proposals that are lost, in the order in which they are told.
 use Rattle.std.specs.Prelude.{ℕ, suc, Bool, true, false, not, ◌&&◌, ◌||◌, nat_le, List, [], ◌∷◌, map, is_none, Option, Some, None, if◌then◌else◌}
 use Rattle.wire_msgs.specs.declared.response.Response.{Response}
-use Rattle.session_rules.specs.Causes.{LeadershipLost, failure}
-use Rattle.session_rules.specs.Events.{last_of}
+use Rattle.session_spec.specs.Causes.{LeadershipLost, failure}
+use Rattle.session_spec.specs.Events.{last_of}
 use Rattle.session_table.specs.declared.session.Session.{Session}
-use Rattle.session_table.specs.declared.session.Later.{Later}
-use Rattle.session_table.specs.declared.session.Later.TheVariants.{Due, Lent}
+use Rattle.session_table.specs.declared.session.WaitingQuery.{WaitingQuery}
+use Rattle.session_table.specs.declared.session.WaitingQuery.TheVariants.{Due, Lent}
 
 -- a query is run next
-abbrev pub is_due : Option Later → Bool
+abbrev pub is_due : Option WaitingQuery → Bool
 is_due None = false
 is_due (Some (Due query)) = true
 is_due (Some (Lent query)) = false

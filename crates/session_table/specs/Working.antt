@@ -6,10 +6,10 @@ use Rattle.dq_base.specs.declared.image_number.ImageNumber.{ImageNumber}
 use Rattle.dq_base.specs.declared.image_number.ImageNumber.TheVariants.{Working}
 use Rattle.dq_base.specs.declared.pages.NumberedPage.{NumberedPage}
 use Rattle.dq_base.specs.Applying.{applied}
-use Rattle.checkpoint_core.specs.Store.{newest_image}
+use Rattle.page_store.specs.Store.{newest_image}
 use Rattle.sql_engine.specs.Known.{Known}
-use Rattle.page_apply.specs.declared.database.Database.{Database}
-use Rattle.page_apply.specs.ImageNumbers.{number_of}
+use Rattle.database_state.specs.declared.database.Database.{Database}
+use Rattle.database_state.specs.ImageNumbers.{number_of}
 use Rattle.session_table.specs.declared.session.Session.{Session}
 use Rattle.session_table.specs.declared.session.Transaction.{Transaction}
 use Rattle.session_table.specs.declared.change.Change.{Change}

@@ -2,12 +2,12 @@
 
 ghost use Rattle.std.specs.Prelude.{◌≡◌, IsSome, IfOk};
 ghost use Rattle.std.specs.Arc.{arc_value};
-ghost use Rattle.session_rules.specs.Machine.{machine_of};
+ghost use Rattle.session_spec.specs.Machine.{machine_of};
 ghost use Rattle.session_table.specs.Table.{database_of};
 
 use crate::session::Session;
+use database_state::Machine;
 use dq_base::{Image, Name};
-use page_apply::Machine;
 use std::alloc::{AllocError, Global};
 use std::sync::Arc;
 

@@ -2,19 +2,19 @@
 
 ghost use Rattle.std.specs.Prelude.{◌⊎◌, ◌≡◌, ◌<◌, ℕ, List, vec_len, None, Some, get_or, set, IsSome, OnOk, OnErr, IfOk};
 ghost use Rattle.std.specs.List.{AllByRecursion, Contains};
-ghost use Rattle.session_rules.specs.Machine.{machine_of};
-ghost use Rattle.session_rules.specs.Requests.{with_session, begun_over, begun};
+ghost use Rattle.session_spec.specs.Machine.{machine_of};
+ghost use Rattle.session_spec.specs.Requests.{with_session, begun_over, begun};
 ghost use Rattle.session_table.specs.declared.session.Session.{Session};
 ghost use Rattle.session_table.specs.Table.{image_pinned, transaction_of, mark_of, pin_of, table_of, pins_of, IsTable};
 ghost use Rattle.session_table.specs.Marks.{AreMarks, Gained, HasRoom};
 ghost use Rattle.session_table.specs.Changing.{StandsAt, with_transaction};
 ghost use Rattle.session_table.specs.Working.{work_of, works_of, IsNewest};
-ghost use Rattle.page_apply.specs.ImageNumbers.{NumbersStay};
+ghost use Rattle.database_state.specs.ImageNumbers.{NumbersStay};
 
 use crate::bases::{newest_image_of, newest_of};
 use crate::session::{Session, Transaction};
+use database_state::{Machine, Pin};
 use dq_base::Name;
-use page_apply::{Machine, Pin};
 use std::alloc::{AllocError, Global};
 
 /// A read mark of the newest image of a database; none where the machine has no such database.

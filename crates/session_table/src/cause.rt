@@ -2,7 +2,7 @@
 
 ghost use Rattle.std.specs.Prelude.{◌≡◌, IfOk};
 ghost use Rattle.session_table.specs.Named.{cause_named};
-ghost use Rattle.session_rules.specs.Causes.{code, message, failure, unread_cause, scan_cause, engine_cause};
+ghost use Rattle.session_spec.specs.Causes.{code, message, failure, unread_cause, scan_cause, engine_cause};
 
 use sql_engine::EngineFault;
 use sql_scan::ScanFault;

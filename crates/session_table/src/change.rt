@@ -3,16 +3,16 @@
 ghost use Rattle.std.specs.Prelude.{◌≡◌, ◌≤◌, ◌+◌, ◌++◌, ℕ, List, length, vec_len, vec_capacity, get_or, IsOk, OnOk, OnErr};
 ghost use Rattle.std.specs.Option.{option_map};
 ghost use Rattle.dq_base.specs.Applying.{applied};
-ghost use Rattle.page_apply.specs.declared.database.Database.{Database};
-ghost use Rattle.session_rules.specs.Requests.{with_session};
-ghost use Rattle.session_rules.specs.Touched.{numbers_of};
+ghost use Rattle.database_state.specs.declared.database.Database.{Database};
+ghost use Rattle.session_spec.specs.Requests.{with_session};
+ghost use Rattle.session_spec.specs.Touched.{numbers_of};
 ghost use Rattle.session_table.specs.declared.session.Session.{Session};
 ghost use Rattle.session_table.specs.Table.{session_of, table_of, pins_of, IsTable, AreApart, pin_of, transaction_of};
 ghost use Rattle.session_table.specs.Changing.{StandsAt, changed_by, worked_on, CanChange};
 ghost use Rattle.session_table.specs.Working.{work_of, works_of, work_with, work_made, AreAmong};
 
 use crate::query::Query;
-use crate::session::{Flight, Later, Prepared, Session, Transaction};
+use crate::session::{PendingProposal, Prepared, Session, Transaction, WaitingQuery};
 use crate::statements::{finalize, prepare};
 use dq_base::{Image, ImageNumber, Name, NumberedPage, PageSet, apply_pages};
 use std::alloc::AllocError;
@@ -25,7 +25,7 @@ pub enum Change {
     /// It has opened the database of this name, with barrier reads or without.
     Opens(Name, bool),
     /// It has a new database in flight, with barrier reads or without.
-    Creates(Flight, bool),
+    Creates(PendingProposal, bool),
     /// Its query is lent to a reader.
     Lends(Query),
     /// It has prepared a statement.
@@ -35,7 +35,7 @@ pub enum Change {
     /// Its transaction has changed these pages, and has the turn to write; the number that was drawn for its working image.
     Works(PageSet, u64),
     /// It has this proposal in flight.
-    Flies(Flight),
+    Flies(PendingProposal),
 }
 
 /// Applies pages that can be applied. `Err` is want of memory; the image is then unchanged.
@@ -107,7 +107,7 @@ impl Session {
                 self.barriers = barriers;
                 self.flight = Some(flight);
             }
-            Change::Lends(query) => self.later = Some(Later::Lent(query)),
+            Change::Lends(query) => self.later = Some(WaitingQuery::Lent(query)),
             Change::Prepares(prepared) => {
                 let _id = prepare(&mut self.statements, prepared)?;
             }

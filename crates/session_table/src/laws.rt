@@ -1,9 +1,9 @@
 ghost use Rattle.std.specs.Prelude.{◌≡◌, ◌≢◌, ℕ, List};
-ghost use Rattle.page_apply.specs.declared.database.Database.{Database};
-ghost use Rattle.frame_commands.specs.declared.command.Command.{Command};
-ghost use Rattle.page_apply.specs.Databases.{act};
-ghost use Rattle.page_apply.specs.Pins.{Pinning, IsPinned, with_pin, without_pin};
-ghost use Rattle.session_rules.specs.Machine.{machine_of};
+ghost use Rattle.database_state.specs.declared.database.Database.{Database};
+ghost use Rattle.log_commands.specs.declared.command.Command.{Command};
+ghost use Rattle.database_state.specs.Databases.{act};
+ghost use Rattle.database_state.specs.Pins.{Pinning, IsPinned, with_pin, without_pin};
+ghost use Rattle.session_spec.specs.Machine.{machine_of};
 
 /// A law: that a read mark comes or goes changes no database as the rules see it.
 #[tactic(auto, using(crate::proofs::Marked::released_stays, crate::proofs::Marked::pinned_stays))]

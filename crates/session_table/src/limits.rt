@@ -1,24 +1,24 @@
 //! The limits of sessions. The definitions of the rules have each as a plain number, so code with another one isn't proved.
 
-use wire_rows::ANSWER_LIMIT;
+use wire_rows::MAX_ANSWER_BYTES;
 
 /// How many sessions a node has at most, those that have hung up counted: one for each read mark that the machine has at most.
-pub const MOST_SESSIONS: usize = 64;
+pub const MAX_SESSIONS: usize = 64;
 
 /// How many statements a session may have prepared.
-pub const MOST_STATEMENTS: usize = 64;
+pub const MAX_STATEMENTS: usize = 64;
 
 /// How many databases there may be, those that are proposed counted.
-pub const MOST_DATABASES: usize = 16;
+pub const MAX_DATABASES: usize = 16;
 
 /// How many pages all databases may have together, those of proposals counted.
-pub const MOST_PAGES: u64 = 16_384;
+pub const MAX_PAGES: u64 = 16_384;
 
 /// From this index on, nothing more is appended to a log.
-pub const LAST_INDEX: u64 = 4_294_900_000;
+pub const MAX_INDEX: u64 = 4_294_900_000;
 
 /// How many bytes the body of an answer may have.
-pub const LARGEST_ANSWER: u64 = ANSWER_LIMIT;
+pub const MAX_QUERY_ANSWER: u64 = MAX_ANSWER_BYTES;
 
 /// The greatest id of a server.
 pub const GREATEST_ID: u64 = 9;

@@ -1,36 +1,38 @@
 //! What one session's open work means for the others.
 
 ghost use Rattle.std.specs.Prelude.{◌≡◌, ◌&&◌, ℕ, max, Some, List, bytes_eq};
-ghost use Rattle.page_apply.specs.declared.database.Database.{Database};
-ghost use Rattle.session_rules.specs.Limits as limits;
+ghost use Rattle.database_state.specs.declared.database.Database.{Database};
+ghost use Rattle.session_spec.specs.Limits as limits;
 ghost use Rattle.session_table.specs.Named.{kind_named, name_for, pages_for};
 ghost use Rattle.session_table.specs.Table.{transaction_of, session_of, table_of, AreApart, holds_beside, flown_in};
 
-use crate::session::{Flight, FlightKind, Session, Transaction};
+use crate::session::{PendingProposal, ProposalKind, Session, Transaction};
 
-impl FlightKind {
+impl ProposalKind {
     /// Whether the proposal changes the pages of its database. Takes no memory.
     pub fn is_write(&self) -> bool
         ensures { result ≡ limits.is_write (kind_named self.now) }
     {
         match self {
-            FlightKind::Opening { .. } | FlightKind::Configuring | FlightKind::Querying { .. } =>
-                false,
-            FlightKind::Writing { .. } | FlightKind::Committing { .. } => true,
+            ProposalKind::Opening { .. }
+            | ProposalKind::Configuring
+            | ProposalKind::Querying { .. } => false,
+            ProposalKind::Writing { .. } | ProposalKind::Committing { .. } => true,
         }
     }
 }
 
-impl FlightKind {
+impl ProposalKind {
     /// Whether the proposal changes the pages of the database of a name.
     fn writes_to(&self, name: &str) -> bool
         ensures { result ≡ (limits.is_write (kind_named self.now) && bytes_eq (name_for self.now) name.now) }
     {
         match self {
-            FlightKind::Opening { .. } | FlightKind::Configuring | FlightKind::Querying { .. } =>
-                false,
-            FlightKind::Writing { name: own, .. } => own.as_str() == name,
-            FlightKind::Committing { name: own, .. } => own.as_str() == name,
+            ProposalKind::Opening { .. }
+            | ProposalKind::Configuring
+            | ProposalKind::Querying { .. } => false,
+            ProposalKind::Writing { name: own, .. } => own.as_str() == name,
+            ProposalKind::Committing { name: own, .. } => own.as_str() == name,
         }
     }
 
@@ -39,14 +41,16 @@ impl FlightKind {
         ensures { result ≡ pages_for self.now }
     {
         match self {
-            FlightKind::Opening { .. } | FlightKind::Configuring | FlightKind::Querying { .. } => 0,
-            FlightKind::Writing { pages, .. } => *pages,
-            FlightKind::Committing { pages, .. } => *pages,
+            ProposalKind::Opening { .. }
+            | ProposalKind::Configuring
+            | ProposalKind::Querying { .. } => 0,
+            ProposalKind::Writing { pages, .. } => *pages,
+            ProposalKind::Committing { pages, .. } => *pages,
         }
     }
 }
 
-impl Flight {
+impl PendingProposal {
     /// Whether it changes the pages of the database of a name. Takes no memory.
     pub fn writes_to(&self, name: &str) -> bool
         ensures { result ≡ limits.writes_to (Some self.now) name.now }
@@ -69,7 +73,7 @@ impl Flight {
 impl Transaction {
     /// Whether it has the turn to write of the database of a name. Takes no memory.
     fn has_turn(&self, name: &str) -> bool
-        ensures { (databases : List Database) → result ≡ limits.has_turn (Some (transaction_of databases self.now)) name.now }
+        ensures { (databases : List Database) → result ≡ limits.holds_write_lock (Some (transaction_of databases self.now)) name.now }
     {
         self.turn && self.name.as_str() == name
     }
@@ -88,7 +92,7 @@ impl Session {
 
     /// Whether its transaction has the turn to write of the database of a name.
     fn has_turn(&self, name: &str) -> bool
-        ensures { (databases : List Database) → result ≡ limits.has_turn (session_of databases self.now).tx name.now }
+        ensures { (databases : List Database) → result ≡ limits.holds_write_lock (session_of databases self.now).tx name.now }
     {
         match &self.transaction {
             Some(transaction) => transaction.has_turn(name),
@@ -97,7 +101,7 @@ impl Session {
     }
 
     /// Whether it has the turn to write of the database of a name, by its proposal or by its transaction. Takes no memory.
-    #[tactic(auto, unfolding(session_rules::specs::Limits::holds))]
+    #[tactic(auto, unfolding(session_spec::specs::Limits::holds))]
     pub fn holds(&self, name: &str) -> bool
         ensures { (databases : List Database) → result ≡ limits.holds (session_of databases self.now) name.now }
     {
@@ -147,7 +151,7 @@ fn greater(a: u64, b: u64) -> u64
 /// memory.
 pub fn flown(sessions: &[Session], name: &str) -> u64
     requires { AreApart sessions.now }
-    ensures { (databases : List Database) (weight : ℕ) → result ≡ limits.flown (table_of databases sessions.now weight) name.now }
+    ensures { (databases : List Database) (weight : ℕ) → result ≡ limits.pending_pages (table_of databases sessions.now weight) name.now }
 {
     let mut most = 0;
     for session in sessions {

@@ -12,7 +12,7 @@ use wire_words::{Value, WireText};
 
 /// A text with the values of its parameters, and how many bytes they keep.
 #[derive(Debug, Drop)]
-struct Asked {
+struct BoundText {
     text: WireText,
     params: Items<Value>,
     size: u64,
@@ -22,7 +22,7 @@ struct Asked {
 /// shares it by count with the reader. Clauses see it as the rules' statement.
 #[derive(Debug, Drop)]
 pub struct Query {
-    asked: Arc<Asked, Global>,
+    asked: Arc<BoundText, Global>,
 }
 
 impl Model for Query {
@@ -74,7 +74,7 @@ impl Query {
         ensures { IfOk result (λ query. query ≡ record { text = text; params = params }) }
     {
         let size = statement_size(&text, params.as_slice());
-        let asked = Asked { text, params, size };
+        let asked = BoundText { text, params, size };
         Ok(Query {
             asked: Arc::new(alloc, asked)?,
         })
@@ -93,7 +93,7 @@ impl Query {
     pub fn text(&self) -> &str
         ensures { result.now ≡ self.now.text }
     {
-        let asked: &Asked = &self.asked;
+        let asked: &BoundText = &self.asked;
         asked.text.as_str()
     }
 
@@ -101,7 +101,7 @@ impl Query {
     pub fn params(&self) -> &[Value]
         ensures { result.now ≡ self.now.params }
     {
-        let asked: &Asked = &self.asked;
+        let asked: &BoundText = &self.asked;
         asked.params.as_slice()
     }
 
@@ -109,7 +109,7 @@ impl Query {
     pub fn size(&self) -> u64
         ensures { result ≡ held (statement_size self.now) }
     {
-        let asked: &Asked = &self.asked;
+        let asked: &BoundText = &self.asked;
         asked.size
     }
 }

@@ -3,7 +3,7 @@
 ghost use Rattle.std.specs.Prelude.{◌≡◌, ◌<◌, ◌≤◌, ◌+◌, ◌++◌, [], ◌∷◌, length, map, vec_len, vec_capacity, IfOk};
 ghost use Rattle.wire_rows.specs.Spelling.{HaveNoNul, HaveWidth};
 ghost use Rattle.wire_msgs.specs.declared.response.Response.TheVariants as responses;
-ghost use Rattle.session_rules.specs.Sessions.{responses_of};
+ghost use Rattle.session_spec.specs.Sessions.{responses_of};
 ghost use Rattle.wire_rows.specs.Answering.{held};
 ghost use Rattle.wire_rows.specs.Cut.{cut, bodies, total_size};
 ghost use Rattle.session_table.specs.Named.{TellsRows, reply_named};
@@ -12,7 +12,7 @@ ghost use Rattle.session_table.specs.Sweeping.{told_in};
 
 use crate::cause::Cause;
 use dq_base::Items;
-use sql_engine::Ran;
+use sql_engine::StatementResult;
 use std::alloc::{AllocError, Global};
 use std::collections::VecDeque;
 use std::marker::Model;
@@ -23,7 +23,7 @@ use wire_words::WireBytes;
 /// Rows that are told: an answer that is cut into parts. Clauses see the answer.
 #[derive(Debug, Drop)]
 pub struct ToldRows {
-    answer: Ran,
+    answer: StatementResult,
     told: Items<WireBytes>,
     // How many bytes the parts have.
     size: u64,
@@ -33,9 +33,9 @@ impl Model for ToldRows {
     ghost use Rattle.std.specs.Prelude.{◌≡◌};
     ghost use Rattle.wire_rows.specs.Cut.{cut, bodies, total_size};
     ghost use Rattle.wire_rows.specs.Answering.{held};
-    ghost use Rattle.sql_engine.specs.declared.answer.Ran.{Ran};
+    ghost use Rattle.sql_engine.specs.declared.answer.StatementResult.{StatementResult};
 
-    ghost Value = { Ran };
+    ghost Value = { StatementResult };
 
     ghost view = { λ r. r.answer };
 
@@ -56,7 +56,10 @@ fn total(parts: &[WireBytes]) -> u64
 impl ToldRows {
     /// Cuts the rows of an answer into parts; or tells why they can't be told: a text holds a NUL, or all parts together are
     /// too big. No column's name holds a NUL, and each row has as many values as there are columns. `Err` is want of memory.
-    pub fn cut(alloc: Global, answer: Ran) -> Result<Result<ToldRows, Cause>, AllocError>
+    pub fn cut(
+        alloc: Global,
+        answer: StatementResult,
+    ) -> Result<Result<ToldRows, Cause>, AllocError>
         requires names { HaveNoNul answer.columns }
         requires widths { HaveWidth (length answer.columns) answer.rows }
         requires no_columns { length answer.columns ≡ 0 → answer.rows ≡ [] }
@@ -118,7 +121,7 @@ pub enum Reply {
 
 impl Reply {
     /// In how many responses it is told. Takes no memory.
-    pub fn responses(&self) -> usize
+    pub fn response_count(&self) -> usize
         ensures { result ≡ length (responses_of (reply_named self.now)) }
     {
         match self {

@@ -2,8 +2,8 @@
 
 use crate::query::Query;
 use crate::reply::Reply;
+use database_state::Pin;
 use dq_base::{Image, ImageNumber, Name};
-use page_apply::Pin;
 use sql_scan::WordKind;
 use std::marker::Model;
 use wire_words::WireText;
@@ -20,7 +20,7 @@ pub struct Prepared {
 }
 
 impl Model for Prepared {
-    ghost use Rattle.session_rules.specs.Sessions.{Prepared as RulePrepared};
+    ghost use Rattle.session_spec.specs.Sessions.{Prepared as RulePrepared};
 
     ghost Value = { RulePrepared };
 
@@ -29,7 +29,7 @@ impl Model for Prepared {
 
 /// What a proposal in flight is for.
 #[derive(Debug, Drop)]
-pub enum FlightKind {
+pub enum ProposalKind {
     /// A new database.
     Opening {
         /// Its name.
@@ -62,7 +62,7 @@ pub enum FlightKind {
 
 /// A query that its session has yet to answer, with nothing in flight for it.
 #[derive(Debug, Drop)]
-pub enum Later {
+pub enum WaitingQuery {
     /// Its barrier is applied, and it is run next.
     Due(Query),
     /// A reader runs it.
@@ -71,7 +71,7 @@ pub enum Later {
 
 /// A proposal in flight. Clauses see it as the rules' one.
 #[derive(Debug, Drop)]
-pub struct Flight {
+pub struct PendingProposal {
     /// The index of its first entry.
     pub first: u64,
     /// That of its last one.
@@ -79,11 +79,11 @@ pub struct Flight {
     /// The term in which its entries were appended.
     pub term: u64,
     /// What it is for.
-    pub kind: FlightKind,
+    pub kind: ProposalKind,
 }
 
-impl Model for Flight {
-    ghost use Rattle.session_rules.specs.Sessions.{Flight as RuleFlight};
+impl Model for PendingProposal {
+    ghost use Rattle.session_spec.specs.Sessions.{Flight as RuleFlight};
     ghost use Rattle.session_table.specs.Named.{kind_named, name_for, pages_for};
 
     ghost Value = { RuleFlight };
@@ -123,11 +123,11 @@ pub struct Session {
     /// Whether it asked for barrier reads when it opened it.
     pub barriers: bool,
     /// A query that it has yet to answer, with nothing in flight for it.
-    pub later: Option<Later>,
+    pub later: Option<WaitingQuery>,
     /// The statements that it has prepared, by their numbers.
     pub statements: Vec<Option<Prepared>>,
     /// Its open transaction.
     pub transaction: Option<Transaction>,
     /// Its proposal in flight.
-    pub flight: Option<Flight>,
+    pub flight: Option<PendingProposal>,
 }

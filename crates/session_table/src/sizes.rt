@@ -5,7 +5,7 @@ ghost use Rattle.wire_rows.specs.Answering.{held};
 ghost use Rattle.session_table.specs.Named.{kind_named};
 ghost use Rattle.session_table.specs.SessionSizes.{prepared_size, all_prepared_size, kind_size, flight_size, later_size, session_size, kept_size, kept_size_at};
 
-use crate::session::{Flight, FlightKind, Later, Prepared, Session};
+use crate::session::{PendingProposal, Prepared, ProposalKind, Session, WaitingQuery};
 
 /// What a prepared statement counts; 0 where there is none.
 fn prepared_size(statement: &Option<Prepared>) -> u64
@@ -28,21 +28,22 @@ fn all_prepared_size(statements: &[Option<Prepared>]) -> u64
     size
 }
 
-impl FlightKind {
+impl ProposalKind {
     /// What it keeps of the reply that waits for its entry, or of the query behind a barrier.
     fn size(&self) -> u64
         ensures { result ≡ held (kind_size (kind_named self.now)) }
     {
         match self {
-            FlightKind::Opening { .. } | FlightKind::Configuring | FlightKind::Committing { .. } =>
-                0,
-            FlightKind::Writing { reply, .. } => reply.size(),
-            FlightKind::Querying { query } => query.size(),
+            ProposalKind::Opening { .. }
+            | ProposalKind::Configuring
+            | ProposalKind::Committing { .. } => 0,
+            ProposalKind::Writing { reply, .. } => reply.size(),
+            ProposalKind::Querying { query } => query.size(),
         }
     }
 }
 
-fn flight_size(flight: &Option<Flight>) -> u64
+fn flight_size(flight: &Option<PendingProposal>) -> u64
     ensures { result ≡ held (flight_size flight.now) }
 {
     match flight {
@@ -51,12 +52,12 @@ fn flight_size(flight: &Option<Flight>) -> u64
     }
 }
 
-fn later_size(later: &Option<Later>) -> u64
+fn later_size(later: &Option<WaitingQuery>) -> u64
     ensures { result ≡ held (later_size later.now) }
 {
     match later {
-        Some(Later::Due(query)) => query.size(),
-        Some(Later::Lent(query)) => query.size(),
+        Some(WaitingQuery::Due(query)) => query.size(),
+        Some(WaitingQuery::Lent(query)) => query.size(),
         None => 0,
     }
 }

@@ -1,7 +1,7 @@
 //! The statements that a session has prepared, by their numbers.
 
 ghost use Rattle.std.specs.Prelude.{◌≡◌, ◌<◌, None, Some, length, IfOk, OnOk, OnErr, IsSome, MatchOption};
-ghost use Rattle.session_rules.specs.Statements as rules;
+ghost use Rattle.session_spec.specs.Statements as rules;
 
 use crate::session::Prepared;
 use std::alloc::AllocError;

@@ -3,23 +3,23 @@
 ghost use Rattle.std.specs.Prelude.{◌≡◌, ◌<◌, ◌≤◌, ◌+◌, ◌++◌, ℕ, true, false, [], ◌∷◌};
 ghost use Rattle.std.specs.Prelude.{List, length, take, drop, vec_len, vec_capacity, OnOk, OnErr, IfOk, Some, MatchOption};
 ghost use Rattle.std.specs.List.{AllByRecursion};
-ghost use Rattle.page_apply.specs.Pins.{IsPinned};
-ghost use Rattle.session_rules.specs.Sessions.{responses_of};
-ghost use Rattle.session_rules.specs.Machine.{machine_of};
-ghost use Rattle.session_rules.specs.Events as events;
-ghost use Rattle.session_rules.specs.Events.{landed_reply};
+ghost use Rattle.database_state.specs.Pins.{IsPinned};
+ghost use Rattle.session_spec.specs.Sessions.{responses_of};
+ghost use Rattle.session_spec.specs.Machine.{machine_of};
+ghost use Rattle.session_spec.specs.Events as events;
+ghost use Rattle.session_spec.specs.Events.{landed_reply};
 ghost use Rattle.session_table.specs.declared.sweep.Event.TheVariants.{Applied, Lost, Left, Ended};
 ghost use Rattle.session_table.specs.Table.{mark_of, pin_of, pins_of, table_of, AreApart, IsTable};
 ghost use Rattle.session_table.specs.Marks.{AreMarks, AreDifferent, Released};
 ghost use Rattle.session_table.specs.Working.{works_of, AreAmong};
-ghost use Rattle.page_apply.specs.ImageNumbers.{NumbersStay};
+ghost use Rattle.database_state.specs.ImageNumbers.{NumbersStay};
 ghost use Rattle.session_table.specs.Sweeping.{ends_at, done, freed_done, still_lent, landed_responses, told_landed, all_kept};
 ghost use Rattle.session_table.specs.Sweeping.{all_freed, said, all_said, told_in, all_told, SweptOne, after};
 
 use crate::reply::Reply;
-use crate::session::{Flight, FlightKind, Later, Session, Transaction};
+use crate::session::{PendingProposal, ProposalKind, Session, Transaction, WaitingQuery};
 use crate::told::{responses_at, told_lost};
-use page_apply::{Machine, Pin};
+use database_state::{Machine, Pin};
 use std::alloc::{AllocError, Global};
 use wire_msgs::Response;
 
@@ -57,7 +57,7 @@ fn release(transaction: Option<Transaction>, machine: &mut Machine)
 }
 
 /// Takes the proposal that ends at an index.
-fn take_ended(flight: &mut Option<Flight>, index: u64) -> Option<Flight>
+fn take_ended(flight: &mut Option<PendingProposal>, index: u64) -> Option<PendingProposal>
     ensures { MatchOption result ((flight.new ≡ flight.old) × (ends_at index flight.old ≡ false))
         (λ ended. (flight.old ≡ Some ended) × (ends_at index flight.old ≡ true)) }
 {
@@ -75,7 +75,12 @@ fn take_ended(flight: &mut Option<Flight>, index: u64) -> Option<Flight>
 
 impl Session {
     /// Its proposal is done: what that changes, and what its client is told.
-    fn land(&mut self, ended: Flight, machine: &mut Machine, told: &mut Vec<(u64, Response)>)
+    fn land(
+        &mut self,
+        ended: PendingProposal,
+        machine: &mut Machine,
+        told: &mut Vec<(u64, Response)>,
+    )
         requires marks { AllByRecursion (IsPinned machine.old) (pin_of self.old.transaction) }
         requires room { vec_len told.old + length (landed_responses (landed_reply ended.kind)) ≤ vec_capacity told.old }
         ensures done { self.new ≡ done self.old ended.name ended.kind }
@@ -86,14 +91,14 @@ impl Session {
     {
         self.flight = None;
         match ended.kind {
-            FlightKind::Opening { name } => {
+            ProposalKind::Opening { name } => {
                 self.database = Some(name);
                 Reply::Single(Response::Db { id: 0 }).tell(self.conn, told);
             }
-            FlightKind::Configuring => Reply::Single(Response::Empty).tell(self.conn, told),
-            FlightKind::Writing { reply, .. } => reply.tell(self.conn, told),
-            FlightKind::Querying { query } => self.later = Some(Later::Due(query)),
-            FlightKind::Committing { .. } => {
+            ProposalKind::Configuring => Reply::Single(Response::Empty).tell(self.conn, told),
+            ProposalKind::Writing { reply, .. } => reply.tell(self.conn, told),
+            ProposalKind::Querying { query } => self.later = Some(WaitingQuery::Due(query)),
+            ProposalKind::Committing { .. } => {
                 release(self.transaction.take(), machine);
                 Reply::Single(Response::Result {
                     last_insert_id: 0,
@@ -134,7 +139,7 @@ impl Session {
     fn keep_lent(&mut self)
         ensures { self.new ≡ record self.old { later = still_lent self.old.later } }
     {
-        if let Some(Later::Due(_)) = &self.later {
+        if let Some(WaitingQuery::Due(_)) = &self.later {
             self.later = None;
         }
     }

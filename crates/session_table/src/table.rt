@@ -2,17 +2,17 @@
 
 ghost use Rattle.std.specs.Prelude.{◌≡◌, ◌==◌, ℕ, List, Some, None, OnErr, IfOk, MatchOption};
 ghost use Rattle.std.specs.Option.{option_map};
-ghost use Rattle.page_apply.specs.declared.database.Database.{Database};
+ghost use Rattle.database_state.specs.declared.database.Database.{Database};
 ghost use Rattle.session_table.specs.Table.{table_of, pins_of, AreApart, IsTable};
 ghost use Rattle.session_table.specs.Changing.{IsAbsent, StandsAt, FreshFor, Joined};
 ghost use Rattle.session_table.specs.Working.{works_of};
 ghost use Rattle.session_table.specs.Named.{later_named};
-ghost use Rattle.session_rules.specs.Sessions.{later_query};
-ghost use Rattle.session_rules.specs.Requests.{without_later};
+ghost use Rattle.session_spec.specs.Sessions.{later_query};
+ghost use Rattle.session_spec.specs.Requests.{without_later};
 
-use crate::limits::MOST_SESSIONS;
+use crate::limits::MAX_SESSIONS;
 use crate::query::Query;
-use crate::session::{Later, Session};
+use crate::session::{Session, WaitingQuery};
 use std::alloc::{AllocError, Global};
 
 impl Session {
@@ -64,7 +64,7 @@ fn join_new(alloc: Global, sessions: &mut Vec<Session>, conn: u64) -> Result<boo
     ensures works { works_of sessions.new.items ≡ works_of sessions.old.items }
     ensures fit { IsTable sessions.new.items }
 {
-    if sessions.len() >= MOST_SESSIONS {
+    if sessions.len() >= MAX_SESSIONS {
         return Ok(false);
     }
     sessions.push(fresh(alloc, conn))?;
@@ -88,14 +88,14 @@ pub fn join(alloc: Global, sessions: &mut Vec<Session>, conn: u64) -> Result<boo
     }
 }
 
-impl Later {
+impl WaitingQuery {
     /// The query itself.
     fn into_query(self) -> Query
         ensures { later_query (Some (later_named self)) ≡ Some result }
     {
         match self {
-            Later::Due(query) => query,
-            Later::Lent(query) => query,
+            WaitingQuery::Due(query) => query,
+            WaitingQuery::Lent(query) => query,
         }
     }
 }

@@ -1,9 +1,9 @@
 //! Who is told what where proposals end.
 
 ghost use Rattle.std.specs.Prelude.{◌≡◌, ⊤, ℕ, List, length, IfOk, OnOk, MatchOption};
-ghost use Rattle.page_apply.specs.declared.database.Database.{Database};
-ghost use Rattle.session_rules.specs.Events as events;
-ghost use Rattle.session_rules.specs.Events.{last_of};
+ghost use Rattle.database_state.specs.declared.database.Database.{Database};
+ghost use Rattle.session_spec.specs.Events as events;
+ghost use Rattle.session_spec.specs.Events.{last_of};
 ghost use Rattle.session_table.specs.declared.sweep.Event.TheVariants.{Applied};
 ghost use Rattle.session_table.specs.Named.{kind_named};
 ghost use Rattle.session_table.specs.Table.{table_of, AreApart};
@@ -11,20 +11,21 @@ ghost use Rattle.session_table.specs.Sweeping.{landed_responses, said, all_said,
 ghost use Rattle.session_table.specs.Waiting.{is_due, waits, place_for, placed_in, with_waiting, waiting_in, told_lost_to};
 
 use crate::cause::Cause;
-use crate::session::{FlightKind, Later, Session};
+use crate::session::{ProposalKind, Session, WaitingQuery};
 use std::alloc::{AllocError, Global};
 use wire_msgs::Response;
 
-impl FlightKind {
+impl ProposalKind {
     /// In how many responses it is told that the proposal is done.
-    fn responses(&self) -> usize
+    fn response_count(&self) -> usize
         ensures { result ≡ length (landed_responses (events.landed_reply (kind_named self.now))) }
     {
         match self {
-            FlightKind::Opening { .. } | FlightKind::Configuring | FlightKind::Committing { .. } =>
-                1,
-            FlightKind::Writing { reply, .. } => reply.responses(),
-            FlightKind::Querying { .. } => 0,
+            ProposalKind::Opening { .. }
+            | ProposalKind::Configuring
+            | ProposalKind::Committing { .. } => 1,
+            ProposalKind::Writing { reply, .. } => reply.response_count(),
+            ProposalKind::Querying { .. } => 0,
         }
     }
 }
@@ -35,8 +36,8 @@ impl Session {
         ensures { result ≡ is_due self.now.later }
     {
         match &self.later {
-            Some(Later::Due(_)) => true,
-            Some(Later::Lent(_)) => false,
+            Some(WaitingQuery::Due(_)) => true,
+            Some(WaitingQuery::Lent(_)) => false,
             None => false,
         }
     }
@@ -67,7 +68,7 @@ impl Session {
                 if flight.last != index || self.hung {
                     0
                 } else {
-                    flight.kind.responses()
+                    flight.kind.response_count()
                 }
             }
             None => 0,

@@ -1,7 +1,7 @@
 -- No servers are a configuration.
 use Rattle.std.proofs.Common.{◌≡◌, List, [], sym, subst, arith}
-use Rattle.raft_rules.specs.Node.{Server, voters}
-use Rattle.raft_vote.specs.Servers.{IsConfiguration}
+use Rattle.raft_spec.specs.Node.{Server, voters}
+use Rattle.raft_messages.specs.Servers.{IsConfiguration}
 
 none : IsConfiguration []
 unfolding voters

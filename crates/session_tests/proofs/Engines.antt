@@ -2,7 +2,7 @@
 use Rattle.std.proofs.Common.{Result, Ok, Err}
 use Rattle.std.specs.Prelude.{IfErr}
 use Rattle.dq_base.specs.declared.images.Image.{Image}
-use Rattle.sql_engine.specs.declared.answer.Ran.{Ran}
+use Rattle.sql_engine.specs.declared.answer.StatementResult.{StatementResult}
 use Rattle.sql_engine.specs.declared.fault.EngineFault.{EngineFault}
 use Rattle.sql_engine.specs.declared.fault.EngineFault.TheVariants as faults
 use Rattle.sql_engine.specs.declared.kind.EngineKind.TheVariants.{Cells, Sqlite}
@@ -18,6 +18,6 @@ same_fault m image s faults.Unopened h = cc
 same_fault m image s faults.Cut h = cc
 same_fault m image s faults.NoMemory h = h
 
-pub of_cells : (m : Meaning) (image : Image) (s : Statement) (result : Result Ran EngineFault) → IfErr result (Faults m Cells image s) → IfErr result (Faults m Sqlite image s)
+pub of_cells : (m : Meaning) (image : Image) (s : Statement) (result : Result StatementResult EngineFault) → IfErr result (Faults m Cells image s) → IfErr result (Faults m Sqlite image s)
 of_cells m image s (Ok ran) h = h
 of_cells m image s (Err fault) h = same_fault m image s fault h

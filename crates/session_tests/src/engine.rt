@@ -5,7 +5,7 @@ ghost use Rattle.sql_engine.specs.declared.kind.EngineKind.TheVariants.{Sqlite};
 ghost use Rattle.sql_engine.specs.Cells.{cells};
 
 use dq_base::{Image, ImageNumber};
-use sql_engine::{CellEngine, Engine, EngineFault, ImageNumbers, Ran};
+use sql_engine::{CellEngine, Engine, EngineFault, ImageNumbers, StatementResult};
 use std::alloc::AllocError;
 use wire_words::Value;
 
@@ -55,7 +55,7 @@ impl Engine for LifeEngine {
         params: &[Value],
         tx: u64,
         limit: Option<u64>,
-    ) -> Result<Ran, EngineFault> {
+    ) -> Result<StatementResult, EngineFault> {
         if !self.is_closed {
             return self.cells.run(image, numbers, text, params, tx, limit);
         }

@@ -1,17 +1,17 @@
 //! A node over cells, alone in its cluster, that is told when its entries are applied and when it loses its leadership.
 
 ghost use Rattle.std.specs.Prelude.{[]};
-ghost use Rattle.gateway.specs.Calls.{HasShortTerm, IsConfigured};
-ghost use Rattle.client_sessions.specs.Seen.{Agrees, StandOver};
+ghost use Rattle.session_gateway.specs.Calls.{HasShortTerm, IsConfigured};
+ghost use Rattle.client_sessions.specs.Seen.{Agrees, AreValidOver};
 
 use crate::engine::LifeEngine;
 use crate::messages::{VERSION, bulk, dumps, executes, opens, queries};
-use client_sessions::{Act, Clients, Joining};
+use client_sessions::{Act, Clients, ConnectResult};
+use database_state::Machine;
 use dq_base::Items;
-use frame_commands::{Command, read_command};
-use gateway::{StepLimits, View};
-use page_apply::Machine;
-use raft_vote::Entry;
+use log_commands::{Command, read_command};
+use raft_messages::Entry;
+use session_gateway::{StepLimits, View};
 use sql_engine::CellEngine;
 use std::alloc::{AllocError, Global};
 use std::collections::VecDeque;
@@ -102,20 +102,20 @@ fn follow(
 }
 
 /// What a client that gets no session is told here.
-fn refusal(joining: Joining) -> Option<&'static [u8]> {
+fn refusal(joining: ConnectResult) -> Option<&'static [u8]> {
     match joining {
-        Joining::Joined => None,
-        Joining::Full => Some(b"full"),
-        Joining::Taken => Some(b"taken"),
+        ConnectResult::Joined => None,
+        ConnectResult::Full => Some(b"full"),
+        ConnectResult::Taken => Some(b"taken"),
     }
 }
 
 /// Does what the entry of a command says.
-#[tactic(auto, using(frame_commands::proofs::InOtherWords::fit_low))]
+#[tactic(auto, using(log_commands::proofs::InOtherWords::fit_low))]
 fn act(clients: &Clients, machine: &mut Machine, command: &Command) -> Result<(), AllocError>
-    requires stand { StandOver clients.now machine.old }
+    requires stand { AreValidOver clients.now machine.old }
     requires agrees { Agrees [] clients.now machine.old }
-    ensures stand { StandOver clients.now machine.new }
+    ensures stand { AreValidOver clients.now machine.new }
     ensures agrees { Agrees [] clients.now machine.new }
 {
     if !command.numbers_fit() {
@@ -130,7 +130,7 @@ fn act(clients: &Clients, machine: &mut Machine, command: &Command) -> Result<()
 impl Node {
     /// A node that serves as the leader of term 1, and has applied its first entry of it.
     pub(crate) fn new(alloc: Global) -> Node
-        ensures stand { StandOver result.clients result.machine }
+        ensures stand { AreValidOver result.clients result.machine }
         ensures agrees { Agrees [] result.clients result.machine }
     {
         Node {
@@ -168,9 +168,9 @@ impl Node {
 
     /// The message whose turn it is has it; false where none is left.
     fn serve_one(&mut self) -> Result<bool, AllocError>
-        requires stand { StandOver self.old.clients self.old.machine }
+        requires stand { AreValidOver self.old.clients self.old.machine }
         requires agrees { Agrees [] self.old.clients self.old.machine }
-        ensures stand { StandOver self.new.clients self.new.machine }
+        ensures stand { AreValidOver self.new.clients self.new.machine }
         ensures agrees { Agrees [] self.new.clients self.new.machine }
     {
         let view = self.view();
@@ -188,9 +188,9 @@ impl Node {
 
     /// All that waits has its turn, a hundred messages at most.
     fn serve(&mut self) -> Result<(), AllocError>
-        requires stand { StandOver self.old.clients self.old.machine }
+        requires stand { AreValidOver self.old.clients self.old.machine }
         requires agrees { Agrees [] self.old.clients self.old.machine }
-        ensures stand { StandOver self.new.clients self.new.machine }
+        ensures stand { AreValidOver self.new.clients self.new.machine }
         ensures agrees { Agrees [] self.new.clients self.new.machine }
     {
         for _ in 0..100 {
@@ -203,9 +203,9 @@ impl Node {
 
     /// Bytes come on a connection.
     fn hear(&mut self, conn: u64, bytes: &[u8]) -> Result<(), AllocError>
-        requires stand { StandOver self.old.clients self.old.machine }
+        requires stand { AreValidOver self.old.clients self.old.machine }
         requires agrees { Agrees [] self.old.clients self.old.machine }
-        ensures stand { StandOver self.new.clients self.new.machine }
+        ensures stand { AreValidOver self.new.clients self.new.machine }
         ensures agrees { Agrees [] self.new.clients self.new.machine }
     {
         self.clients.receive(conn, bytes)?;
@@ -214,9 +214,9 @@ impl Node {
 
     /// A client connects.
     fn connect(&mut self, conn: u64) -> Result<(), AllocError>
-        requires stand { StandOver self.old.clients self.old.machine }
+        requires stand { AreValidOver self.old.clients self.old.machine }
         requires agrees { Agrees [] self.old.clients self.old.machine }
-        ensures stand { StandOver self.new.clients self.new.machine }
+        ensures stand { AreValidOver self.new.clients self.new.machine }
         ensures agrees { Agrees [] self.new.clients self.new.machine }
     {
         let joining = self.clients.connect(conn)?;
@@ -233,9 +233,9 @@ impl Node {
 
     /// So many clients connect, with the numbers from 101 on.
     fn crowd(&mut self, count: u64) -> Result<(), AllocError>
-        requires stand { StandOver self.old.clients self.old.machine }
+        requires stand { AreValidOver self.old.clients self.old.machine }
         requires agrees { Agrees [] self.old.clients self.old.machine }
-        ensures stand { StandOver self.new.clients self.new.machine }
+        ensures stand { AreValidOver self.new.clients self.new.machine }
         ensures agrees { Agrees [] self.new.clients self.new.machine }
     {
         for number in 0..count {
@@ -246,9 +246,9 @@ impl Node {
 
     /// A client sends a message, where there was memory for it.
     fn ask(&mut self, conn: u64, message: Result<Vec<u8>, AllocError>) -> Result<(), AllocError>
-        requires stand { StandOver self.old.clients self.old.machine }
+        requires stand { AreValidOver self.old.clients self.old.machine }
         requires agrees { Agrees [] self.old.clients self.old.machine }
-        ensures stand { StandOver self.new.clients self.new.machine }
+        ensures stand { AreValidOver self.new.clients self.new.machine }
         ensures agrees { Agrees [] self.new.clients self.new.machine }
     {
         let bytes = message?;
@@ -257,9 +257,9 @@ impl Node {
 
     /// A client sends two messages of 16 MiB, and no message has its turn.
     fn flood(&mut self, conn: u64) -> Result<(), AllocError>
-        requires stand { StandOver self.old.clients self.old.machine }
+        requires stand { AreValidOver self.old.clients self.old.machine }
         requires agrees { Agrees [] self.old.clients self.old.machine }
-        ensures stand { StandOver self.new.clients self.new.machine }
+        ensures stand { AreValidOver self.new.clients self.new.machine }
         ensures agrees { Agrees [] self.new.clients self.new.machine }
     {
         let message = bulk(self.alloc)?;
@@ -269,9 +269,9 @@ impl Node {
 
     /// A connection is closed that is to be.
     fn close(&mut self, conn: u64) -> Result<(), AllocError>
-        requires stand { StandOver self.old.clients self.old.machine }
+        requires stand { AreValidOver self.old.clients self.old.machine }
         requires agrees { Agrees [] self.old.clients self.old.machine }
-        ensures stand { StandOver self.new.clients self.new.machine }
+        ensures stand { AreValidOver self.new.clients self.new.machine }
         ensures agrees { Agrees [] self.new.clients self.new.machine }
     {
         let Some(reason) = self.clients.close(conn, &mut self.machine) else {
@@ -285,9 +285,9 @@ impl Node {
 
     /// The query whose barrier is applied is run, where there is one.
     fn run_due(&mut self) -> Result<(), AllocError>
-        requires stand { StandOver self.old.clients self.old.machine }
+        requires stand { AreValidOver self.old.clients self.old.machine }
         requires agrees { Agrees [] self.old.clients self.old.machine }
-        ensures stand { StandOver self.new.clients self.new.machine }
+        ensures stand { AreValidOver self.new.clients self.new.machine }
         ensures agrees { Agrees [] self.new.clients self.new.machine }
     {
         let Some(conn) = self.clients.next_due() else {
@@ -305,9 +305,9 @@ impl Node {
 
     /// The next entry is applied.
     fn apply_one(&mut self, entry: &Entry) -> Result<(), AllocError>
-        requires stand { StandOver self.old.clients self.old.machine }
+        requires stand { AreValidOver self.old.clients self.old.machine }
         requires agrees { Agrees [] self.old.clients self.old.machine }
-        ensures stand { StandOver self.new.clients self.new.machine }
+        ensures stand { AreValidOver self.new.clients self.new.machine }
         ensures agrees { Agrees [] self.new.clients self.new.machine }
     {
         if let Ok(command) = read_command(self.alloc, entry.bytes.as_slice()) {
@@ -321,9 +321,9 @@ impl Node {
 
     /// What was proposed is applied.
     fn apply(&mut self) -> Result<(), AllocError>
-        requires stand { StandOver self.old.clients self.old.machine }
+        requires stand { AreValidOver self.old.clients self.old.machine }
         requires agrees { Agrees [] self.old.clients self.old.machine }
-        ensures stand { StandOver self.new.clients self.new.machine }
+        ensures stand { AreValidOver self.new.clients self.new.machine }
         ensures agrees { Agrees [] self.new.clients self.new.machine }
     {
         for _ in 0..self.proposed.len() {
@@ -336,9 +336,9 @@ impl Node {
 
     /// Leadership is lost, and what was proposed is gone.
     fn lose(&mut self) -> Result<(), AllocError>
-        requires stand { StandOver self.old.clients self.old.machine }
+        requires stand { AreValidOver self.old.clients self.old.machine }
         requires agrees { Agrees [] self.old.clients self.old.machine }
-        ensures stand { StandOver self.new.clients self.new.machine }
+        ensures stand { AreValidOver self.new.clients self.new.machine }
         ensures agrees { Agrees [] self.new.clients self.new.machine }
     {
         self.serving = false;
@@ -350,9 +350,9 @@ impl Node {
 
     /// It leads the next term, with its first entry applied.
     fn lead(&mut self)
-        requires stand { StandOver self.old.clients self.old.machine }
+        requires stand { AreValidOver self.old.clients self.old.machine }
         requires agrees { Agrees [] self.old.clients self.old.machine }
-        ensures stand { StandOver self.new.clients self.new.machine }
+        ensures stand { AreValidOver self.new.clients self.new.machine }
         ensures agrees { Agrees [] self.new.clients self.new.machine }
     {
         self.serving = true;
@@ -362,9 +362,9 @@ impl Node {
 
     /// Something happens.
     pub(crate) fn take(&mut self, step: Step) -> Result<(), AllocError>
-        requires stand { StandOver self.old.clients self.old.machine }
+        requires stand { AreValidOver self.old.clients self.old.machine }
         requires agrees { Agrees [] self.old.clients self.old.machine }
-        ensures stand { StandOver self.new.clients self.new.machine }
+        ensures stand { AreValidOver self.new.clients self.new.machine }
         ensures agrees { Agrees [] self.new.clients self.new.machine }
     {
         match step {
@@ -400,9 +400,9 @@ impl Node {
 
     /// Some things happen, one after another.
     pub(crate) fn take_all(&mut self, steps: &[Step]) -> Result<(), AllocError>
-        requires stand { StandOver self.old.clients self.old.machine }
+        requires stand { AreValidOver self.old.clients self.old.machine }
         requires agrees { Agrees [] self.old.clients self.old.machine }
-        ensures stand { StandOver self.new.clients self.new.machine }
+        ensures stand { AreValidOver self.new.clients self.new.machine }
         ensures agrees { Agrees [] self.new.clients self.new.machine }
     {
         for step in steps {
@@ -413,9 +413,9 @@ impl Node {
 
     /// Forgets what it said.
     pub(crate) fn forget(&mut self)
-        requires stand { StandOver self.old.clients self.old.machine }
+        requires stand { AreValidOver self.old.clients self.old.machine }
         requires agrees { Agrees [] self.old.clients self.old.machine }
-        ensures stand { StandOver self.new.clients self.new.machine }
+        ensures stand { AreValidOver self.new.clients self.new.machine }
         ensures agrees { Agrees [] self.new.clients self.new.machine }
     {
         self.said.clear();

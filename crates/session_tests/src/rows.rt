@@ -5,7 +5,7 @@ ghost use Rattle.wire_rows.specs.Spelling.{HaveWidth};
 
 use dq_base::{Items, PageSet};
 use session_table::{Cause, ToldRows};
-use sql_engine::Ran;
+use sql_engine::StatementResult;
 use std::alloc::{AllocError, Global};
 use std::test::Fail;
 use wire_rows::Row;
@@ -43,13 +43,13 @@ fn rows(alloc: Global, bytes: usize) -> Result<Vec<Row>, AllocError>
 }
 
 /// An answer of one row with a blob of so many bytes.
-fn answer(alloc: Global, bytes: usize) -> Result<Ran, AllocError>
+fn answer(alloc: Global, bytes: usize) -> Result<StatementResult, AllocError>
     ensures columns { IfOk result (λ ran. ran.columns ≡ codes "v" ∷ []) }
     ensures widths { IfOk result (λ ran. HaveWidth 1 ran.rows) }
 {
     let columns = columns(alloc)?;
     let rows = rows(alloc, bytes)?;
-    Ok(Ran {
+    Ok(StatementResult {
         after: PageSet {
             tx: 0,
             pages: Items::new(Vec::new(alloc)),

@@ -6,7 +6,7 @@ use Rattle.dq_base.specs.declared.images.Image.{Image}
 use Rattle.dq_base.specs.Images.{page_at}
 use Rattle.dq_base.specs.Changes.{changed}
 use Rattle.wire_words.specs.declared.value.Value.{Value}
-use Rattle.sql_engine.specs.declared.answer.Ran.{Ran}
+use Rattle.sql_engine.specs.declared.answer.StatementResult.{StatementResult}
 use Rattle.sql_engine.specs.declared.cell_statement.CellStatement.{CellStatement}
 use Rattle.sql_engine.specs.declared.fault.EngineFault.{EngineFault}
 use Rattle.sql_engine.specs.declared.kind.EngineKind.TheVariants.{Cells}
@@ -58,7 +58,7 @@ same_reply : (affected other : ℕ) (columns names : List (List ℕ)) (rows valu
 same_reply affected other columns names rows values a c r = λ i. record { affected = a i; columns = c i; rows = plain_rows (r i) }
 
 -- an answer without columns
-pub tells_told : (image after : Image) (tx affected : ℕ) (ran : Ran) → IsShort after → ran.after ≡ record { tx = tx; pages = changed image after } → ran.affected ≡ affected → ran.columns ≡ [] → ran.rows ≡ []
+pub tells_told : (image after : Image) (tx affected : ℕ) (ran : StatementResult) → IsShort after → ran.after ≡ record { tx = tx; pages = changed image after } → ran.affected ≡ affected → ran.columns ≡ [] → ran.rows ≡ []
     → TellsOutcome image tx (record { after = after; reply = told affected }) ran
 tells_told image after tx affected ran short pages affected_is columns_are rows_are =
     record {
@@ -79,7 +79,7 @@ one_column None = record { named = (refl, tt); wide = tt; empty = λ e. refl }
 one_column (Some page) = record { named = (refl, tt); wide = (refl, tt); empty = λ e. absurd cc }
 
 -- an answer with the value of a cell
-pub tells_read : (image : Image) (page tx : ℕ) (ran : Ran) → IsShort image → ran.after ≡ record { tx = tx; pages = changed image image } → ran.affected ≡ 0 → ran.columns ≡ codes "v" ∷ [] → ran.rows ≡ cell_rows (page_at image (2 * page))
+pub tells_read : (image : Image) (page tx : ℕ) (ran : StatementResult) → IsShort image → ran.after ≡ record { tx = tx; pages = changed image image } → ran.affected ≡ 0 → ran.columns ≡ codes "v" ∷ [] → ran.rows ≡ cell_rows (page_at image (2 * page))
     → TellsOutcome image tx (read image page) ran
 tells_read image page tx ran short pages affected_is columns_are rows_are =
     let cell : Option (List ℕ) = page_at image (2 * page) in
@@ -105,7 +105,7 @@ outcome_refused image s some =
 
 -- ---- the clauses of an engine
 
-pub performed_answers : (image : Image) (s : Statement) (tx : ℕ) (result : Result Ran EngineFault) → Performs image tx (outcome_of image s) result → IfOk result (Answers cells image s tx)
+pub performed_answers : (image : Image) (s : Statement) (tx : ℕ) (result : Result StatementResult EngineFault) → Performs image tx (outcome_of image s) result → IfOk result (Answers cells image s tx)
 performed_answers image s tx (Ok ran) (outcome, (does, tells)) =
     record {
       after = outcome.after;
@@ -121,7 +121,7 @@ refused_so : (image : Image) (s : Statement) (refusal : Refusal) → outcome_of 
 refused_so image s constraint does = does
 refused_so image s sql does = does
 
-pub performed_faults : (image : Image) (s : Statement) (tx : ℕ) (result : Result Ran EngineFault) → Performs image tx (outcome_of image s) result → IfErr result (Faults cells Cells image s)
+pub performed_faults : (image : Image) (s : Statement) (tx : ℕ) (result : Result StatementResult EngineFault) → Performs image tx (outcome_of image s) result → IfErr result (Faults cells Cells image s)
 performed_faults image s tx (Ok ran) p = tt
 performed_faults image s tx (Err fault) (inl memory) = subst (Faults cells Cells image s) (sym memory) tt
 performed_faults image s tx (Err fault) (inr (refusal, (does, is))) = subst (Faults cells Cells image s) (sym is) (refused_so image s refusal does)

@@ -4,7 +4,7 @@ use Rattle.std.proofs.lemmas.List.{get_or_default}
 use Rattle.dq_base.specs.declared.images.Image.{Image}
 use Rattle.dq_base.specs.declared.image_number.ImageNumber.TheVariants.{Working}
 use Rattle.dq_base.specs.Applying.{applied}
-use Rattle.sql_engine.specs.declared.answer.Ran.{Ran}
+use Rattle.sql_engine.specs.declared.answer.StatementResult.{StatementResult}
 use Rattle.sql_engine.specs.declared.fault.EngineFault.{EngineFault}
 use Rattle.sql_engine.specs.declared.image_numbers.ImageNumbers.{ImageNumbers}
 use Rattle.sql_engine.specs.Known.{Known, MayKnow, was, handed, left}
@@ -18,12 +18,12 @@ pub of_contained : {X : Type 0} (P : X → Type 0) (xs : List X) (x : X) → All
 of_contained P xs x all c = subst P c.2 (all c.0 x c.1)
 
 -- what is known is known still
-pub still_known : (image : Image) (numbers : ImageNumbers) (result : Result Ran EngineFault) (known : List Known) → All (MayKnow image numbers result known) known
+pub still_known : (image : Image) (numbers : ImageNumbers) (result : Result StatementResult EngineFault) (known : List Known) → All (MayKnow image numbers result known) known
 still_known image numbers result known k d lt = was (all_contained known k d lt)
 
-module _ (P : Known → Type 0) (image : Image) (numbers : ImageNumbers) (result : Result Ran EngineFault) (before : List Known)
+module _ (P : Known → Type 0) (image : Image) (numbers : ImageNumbers) (result : Result StatementResult EngineFault) (before : List Known)
     (held : All P before) (is_handed : P (record { number = numbers.before; image = image }))
-    (is_left : (ran : Ran) → result ≡ Ok ran → P (record { number = Working numbers.after; image = applied image ran.after.pages })) where
+    (is_left : (ran : StatementResult) → result ≡ Ok ran → P (record { number = Working numbers.after; image = applied image ran.after.pages })) where
   one_known : (known : Known) → MayKnow image numbers result before known → P known
   one_known known (was c) = of_contained P before known held c
   one_known known (handed e) = subst P (sym e) is_handed

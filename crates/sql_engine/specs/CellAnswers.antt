@@ -2,7 +2,7 @@
 use Rattle.std.specs.Prelude.{◌≡◌, ◌⊎◌, ℕ, None, Result, Ok, Err}
 use Rattle.dq_base.specs.declared.images.Image.{Image}
 use Rattle.dq_base.specs.Changes.{changed}
-use Rattle.sql_engine.specs.declared.answer.Ran.{Ran}
+use Rattle.sql_engine.specs.declared.answer.StatementResult.{StatementResult}
 use Rattle.sql_engine.specs.declared.fault.EngineFault.{EngineFault}
 use Rattle.sql_engine.specs.declared.fault.EngineFault.TheVariants as faults
 use Rattle.sql_engine.specs.Replies.{fault_in, plain_rows, IsTable}
@@ -10,7 +10,7 @@ use Rattle.sql_engine.specs.Meanings.{Refusal, constraint, sql, IsShort, reply_o
 use Rattle.sql_engine.specs.Cells.{Outcome}
 
 -- the answer tells this outcome
-pub record TellsOutcome (image : Image) (tx : ℕ) (outcome : Outcome) (ran : Ran) : Type 0 where
+pub record TellsOutcome (image : Image) (tx : ℕ) (outcome : Outcome) (ran : StatementResult) : Type 0 where
   pub short : IsShort outcome.after
   pub reply : reply_of ran ≡ outcome.reply
   pub pages : ran.after ≡ record { tx = tx; pages = changed image outcome.after }
@@ -23,6 +23,6 @@ fault_of constraint = faults.Constraint
 fault_of sql = faults.Sql
 
 -- The result is that of what a statement does: its outcome is told, or the refusal, or memory ran out.
-abbrev pub Performs : Image → ℕ → Result Outcome Refusal → Result Ran EngineFault → Type 0
+abbrev pub Performs : Image → ℕ → Result Outcome Refusal → Result StatementResult EngineFault → Type 0
 Performs image tx does (Ok ran) = (outcome : Outcome) × ((does ≡ Ok outcome) × TellsOutcome image tx outcome ran)
 Performs image tx does (Err fault) = (fault ≡ faults.NoMemory) ⊎ ((refusal : Refusal) × ((does ≡ Err refusal) × (fault ≡ fault_of refusal)))

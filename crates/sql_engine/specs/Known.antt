@@ -4,7 +4,7 @@ use Rattle.dq_base.specs.declared.images.Image.{Image}
 use Rattle.dq_base.specs.declared.image_number.ImageNumber.{ImageNumber}
 use Rattle.dq_base.specs.declared.image_number.ImageNumber.TheVariants.{Newest, Working}
 use Rattle.dq_base.specs.Applying.{applied}
-use Rattle.sql_engine.specs.declared.answer.Ran.{Ran}
+use Rattle.sql_engine.specs.declared.answer.StatementResult.{StatementResult}
 use Rattle.sql_engine.specs.declared.fault.EngineFault.{EngineFault}
 use Rattle.sql_engine.specs.declared.image_numbers.ImageNumbers.{ImageNumbers}
 
@@ -30,10 +30,10 @@ pub record MayRun (known : List Known) (image : Image) (numbers : ImageNumbers) 
 
 -- What is known after a run was known before it, or is the image handed in by its number, or the image that the answer's pages
 -- lead to by the number of the image after.
-pub data MayKnow (image : Image) (numbers : ImageNumbers) (result : Result Ran EngineFault) (before : List Known) (known : Known) : Type 0 where
+pub data MayKnow (image : Image) (numbers : ImageNumbers) (result : Result StatementResult EngineFault) (before : List Known) (known : Known) : Type 0 where
   was : Contains before known → MayKnow image numbers result before known
   handed : known ≡ record { number = numbers.before; image = image } → MayKnow image numbers result before known
-  left : (ran : Ran) → result ≡ Ok ran → known ≡ record { number = Working numbers.after; image = applied image ran.after.pages } → MayKnow image numbers result before known
+  left : (ran : StatementResult) → result ≡ Ok ran → known ≡ record { number = Working numbers.after; image = applied image ran.after.pages } → MayKnow image numbers result before known
 
 -- What is known was known before, or is this image by this number.
 pub data MayKnowBeside (image : Image) (number : ImageNumber) (before : List Known) (known : Known) : Type 0 where

@@ -2,7 +2,7 @@
 use Rattle.std.specs.Prelude.{◌≡◌, ◌<◌, ◌≤◌, ◌^◌, ⊤, ℕ, Bool, true, false, List, [], ◌∷◌, ◌++◌, length, Option, Some, None, IsSome, Result, Err}
 use Rattle.dq_base.specs.declared.images.Image.{Image}
 use Rattle.dq_base.specs.Changes.{changed}
-use Rattle.sql_engine.specs.declared.answer.Ran.{Ran}
+use Rattle.sql_engine.specs.declared.answer.StatementResult.{StatementResult}
 use Rattle.sql_engine.specs.declared.kind.EngineKind.{EngineKind}
 use Rattle.sql_engine.specs.declared.kind.EngineKind.TheVariants.{Sqlite}
 use Rattle.sql_engine.specs.declared.fault.EngineFault.{EngineFault}
@@ -26,12 +26,12 @@ pub record IsShort (image : Image) : Type 0 where
   pub side : length image.side < 2 ^ 64
 
 -- the reply that an answer stands for
-abbrev pub reply_of : Ran → Reply
+abbrev pub reply_of : StatementResult → Reply
 reply_of ran = record { affected = ran.affected; columns = ran.columns; rows = plain_rows ran.rows }
 
 -- The answer is a reply that the statement may give on the image, which the wire can carry, with the pages that lead to the
 -- image that the statement leaves then.
-pub record Answers (m : Meaning) (image : Image) (s : Statement) (tx : ℕ) (ran : Ran) : Type 0 where
+pub record Answers (m : Meaning) (image : Image) (s : Statement) (tx : ℕ) (ran : StatementResult) : Type 0 where
   pub after : Image
   pub short : IsShort after
   pub runs : m.runs image s after (reply_of ran)
@@ -58,7 +58,7 @@ Faults m kind image s faults.Cut = kind ≡ Sqlite
 Faults m kind image s faults.NoMemory = ⊤
 
 -- a statement is cut short only where there is a limit
-abbrev pub IsCutBy : Option ℕ → Result Ran EngineFault → Type 0
+abbrev pub IsCutBy : Option ℕ → Result StatementResult EngineFault → Type 0
 IsCutBy limit result = result ≡ Err faults.Cut → IsSome limit
 
 -- an engine stays what it is: its kind stays, and its count of refused openings does not fall
@@ -67,20 +67,20 @@ pub record Stays (kind_before kind_now : EngineKind) (refused_before refused_now
   pub openings : refused_before ≤ refused_now
 
 -- the count of refused openings rose where the answer is that the files were not opened
-abbrev pub CountsOpenings : ℕ → ℕ → Result Ran EngineFault → Type 0
+abbrev pub CountsOpenings : ℕ → ℕ → Result StatementResult EngineFault → Type 0
 CountsOpenings before now result = result ≡ Err faults.Unopened → before < now
 
 -- the answers that an engine has given so far, and whether it has lost one since
 pub record Told : Type 0 where
-  pub answers : List (Result Ran EngineFault)
+  pub answers : List (Result StatementResult EngineFault)
   pub cut : Bool
 
 -- An engine that tells its answers adds this one to them, as long as it has lost none; or it has lost one, and then the
 -- answer is want of memory. One that tells none goes on so.
-pub data Tells (result : Result Ran EngineFault) : Option Told → Option Told → Type 0 where
+pub data Tells (result : Result StatementResult EngineFault) : Option Told → Option Told → Type 0 where
   untold : Tells result None None
-  added : (answers : List (Result Ran EngineFault)) → Tells result (Some (record { answers = answers; cut = false })) (Some (record { answers = answers ++ result ∷ []; cut = false }))
-  lost : (answers : List (Result Ran EngineFault)) (cut : Bool) → result ≡ Err faults.NoMemory → Tells result (Some (record { answers = answers; cut = cut })) (Some (record { answers = answers; cut = true }))
+  added : (answers : List (Result StatementResult EngineFault)) → Tells result (Some (record { answers = answers; cut = false })) (Some (record { answers = answers ++ result ∷ []; cut = false }))
+  lost : (answers : List (Result StatementResult EngineFault)) (cut : Bool) → result ≡ Err faults.NoMemory → Tells result (Some (record { answers = answers; cut = cut })) (Some (record { answers = answers; cut = true }))
 
 -- what a fork tells: no answer so far, where the engine tells its answers
 abbrev pub told_anew : Option Told → Option Told

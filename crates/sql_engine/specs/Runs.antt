@@ -2,7 +2,7 @@
 use Rattle.std.specs.Prelude.{ℕ, ◌≡◌, List, [], ◌∷◌, ◌++◌}
 use Rattle.dq_base.specs.declared.images.Image.{Image}
 use Rattle.dq_base.specs.Applying.{applied}
-use Rattle.sql_engine.specs.declared.answer.Ran.{Ran}
+use Rattle.sql_engine.specs.declared.answer.StatementResult.{StatementResult}
 use Rattle.sql_engine.specs.Replies.{Statement, Reply}
 use Rattle.sql_engine.specs.Meanings.{Meaning, Answers}
 
@@ -32,4 +32,4 @@ Splits m = (before after : Image) (ss ts : List Statement) (replies : List Reply
 
 -- the pages of an answer, applied to the image, make the image that the statement leaves
 abbrev pub LeadsOn : Meaning → Type 0
-LeadsOn m = (image : Image) (s : Statement) (tx : ℕ) (ran : Ran) (a : Answers m image s tx ran) → applied image ran.after.pages ≡ a.after
+LeadsOn m = (image : Image) (s : Statement) (tx : ℕ) (ran : StatementResult) (a : Answers m image s tx ran) → applied image ran.after.pages ≡ a.after

@@ -8,7 +8,7 @@ ghost use Rattle.sql_engine.specs.Cells.{with_cell, wiped, cell_rows, told, read
 ghost use Rattle.sql_engine.specs.CellChanges.{lengths_of};
 ghost use Rattle.sql_engine.specs.CellAnswers.{TellsOutcome, Performs};
 
-use crate::answer::Ran;
+use crate::answer::StatementResult;
 use crate::cell_changes::{lengths_of, set_changes, wipe_changes};
 use crate::cell_statement::CellStatement;
 use crate::cell_text::statement_of;
@@ -23,13 +23,13 @@ use wire_words::{Value, WireText};
 const GREATEST_VALUE: u64 = 9_223_372_036_854_775_807;
 
 /// An answer without columns.
-fn told(pages: Vec<NumberedPage>, affected: u64, tx: u64, alloc: Global) -> Ran
+fn told(pages: Vec<NumberedPage>, affected: u64, tx: u64, alloc: Global) -> StatementResult
     ensures after { result.after ≡ record { tx = tx; pages = pages.items } }
     ensures affected { result.affected ≡ affected }
     ensures columns { result.columns ≡ [] }
     ensures rows { result.rows ≡ [] }
 {
-    Ran {
+    StatementResult {
         after: PageSet {
             tx,
             pages: Items::new(pages),
@@ -48,7 +48,7 @@ fn set(
     page: u64,
     value: u64,
     tx: u64,
-) -> Result<Ran, AllocError>
+) -> Result<StatementResult, AllocError>
     requires page { IsCellPage page }
     requires short { IsShort image.now }
     requires lengths { lengths ≡ lengths_of image.now }
@@ -65,7 +65,7 @@ fn wipe(
     lengths: Lengths,
     pages: u64,
     tx: u64,
-) -> Result<Ran, AllocError>
+) -> Result<StatementResult, AllocError>
     requires pages { pages ≤ 8192 }
     requires short { IsShort image.now }
     requires lengths { lengths ≡ lengths_of image.now }
@@ -106,14 +106,14 @@ fn columns(alloc: Global) -> Result<Vec<WireText>, AllocError>
 }
 
 /// Reads a cell.
-fn get(alloc: Global, image: &Image, page: u64, tx: u64) -> Result<Ran, AllocError>
+fn get(alloc: Global, image: &Image, page: u64, tx: u64) -> Result<StatementResult, AllocError>
     requires page { IsCellPage page }
     requires short { IsShort image.now }
     ensures { IfOk result (TellsOutcome image.now tx (read image.now page)) }
 {
     let columns = columns(alloc)?;
     let rows = cell_rows(alloc, page_at(image, 2 * page))?;
-    Ok(Ran {
+    Ok(StatementResult {
         after: PageSet {
             tx,
             pages: Items::new(Vec::new(alloc)),
@@ -131,7 +131,7 @@ fn perform(
     lengths: Lengths,
     statement: CellStatement,
     tx: u64,
-) -> Result<Ran, EngineFault>
+) -> Result<StatementResult, EngineFault>
     requires range { IsInRange statement }
     requires short { IsShort image.now }
     requires lengths { lengths ≡ lengths_of image.now }
@@ -156,7 +156,7 @@ pub(crate) fn run_statement(
     text: &str,
     params: &[Value],
     tx: u64,
-) -> Result<Ran, EngineFault>
+) -> Result<StatementResult, EngineFault>
     ensures { Performs image.now tx (outcome_of image.now (record { text = text.now; params = params.now })) result }
 {
     if !params.is_empty() {

@@ -2,7 +2,7 @@ ghost use Rattle.std.specs.Prelude.{[], None};
 ghost use Rattle.sql_engine.specs.declared.kind.EngineKind.TheVariants.{Cells};
 ghost use Rattle.sql_engine.specs.Cells.{cells};
 
-use crate::answer::Ran;
+use crate::answer::StatementResult;
 use crate::cell_answers::run_statement;
 use crate::engine::Engine;
 use crate::fault::EngineFault;
@@ -57,7 +57,7 @@ impl Engine for CellEngine {
         params: &[Value],
         tx: u64,
         _limit: Option<u64>,
-    ) -> Result<Ran, EngineFault> {
+    ) -> Result<StatementResult, EngineFault> {
         run_statement(self.alloc, image, text, params, tx)
     }
 

@@ -1,4 +1,4 @@
-use crate::answer::Ran;
+use crate::answer::StatementResult;
 use crate::fault::EngineFault;
 use crate::image_numbers::ImageNumbers;
 use dq_base::{Image, ImageNumber};
@@ -60,7 +60,7 @@ pub trait Engine: Sized {
         params: &[Value],
         tx: u64,
         limit: Option<u64>,
-    ) -> Result<Ran, EngineFault>
+    ) -> Result<StatementResult, EngineFault>
         requires numbers { MayRun (known self.old) image.now numbers }
         ensures answers { IfOk result (Answers (meaning (kind self.old)) image.now (record { text = text.now; params = params.now }) tx) }
         ensures faults { IfErr result (Faults (meaning (kind self.old)) (kind self.old) image.now (record { text = text.now; params = params.now })) }

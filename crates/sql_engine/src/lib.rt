@@ -15,7 +15,7 @@ mod kind;
 mod laws;
 mod page_bytes;
 
-pub use answer::Ran;
+pub use answer::StatementResult;
 pub use cell_engine::CellEngine;
 pub use cell_statement::CellStatement;
 pub use engine::Engine;

@@ -5,7 +5,7 @@ use Rattle.sql_scan.specs.declared.heading.Keyword.{Keyword}
 use Rattle.sql_scan.specs.declared.heading.Keyword.TheVariants.{Begin, Deferred, AtOnce, Transaction, Commit, Rollback, Write, LeftOut, Plain}
 use Rattle.sql_scan.specs.declared.heading.WordKind.{WordKind}
 use Rattle.sql_scan.specs.declared.heading.WordKind.TheVariants as kinds
-use Rattle.sql_scan.specs.declared.heading.Heading.TheVariants.{Begun, Open, Full, Settled}
+use Rattle.sql_scan.specs.declared.heading.StatementHead.TheVariants.{Begun, Open, Full, Settled}
 use Rattle.sql_scan.specs.Words.{followed_by, kind_so_far}
 use Rattle.sql_scan.specs.Kinds.{with_transaction, begin_kind, kind_of, heading_of}
 

@@ -3,8 +3,8 @@ use Rattle.std.proofs.Common.{◌≡◌, ℕ, zero, suc, ◌+◌, ◌-◌, ◌<�
 use Rattle.std.specs.Option.{option_to_list}
 use Rattle.std.proofs.lemmas.List.{length-take-le}
 use Rattle.sql_scan.specs.declared.token.TokenKind.{TokenKind}
-use Rattle.sql_scan.specs.declared.draft.Draft.{Draft}
-use Rattle.sql_scan.specs.declared.pieces.Piece.{Piece}
+use Rattle.sql_scan.specs.declared.draft.PartialStatement.{PartialStatement}
+use Rattle.sql_scan.specs.declared.pieces.StatementSpan.{StatementSpan}
 use Rattle.sql_scan.specs.declared.fault.ScanFault.{ScanFault}
 use Rattle.sql_scan.specs.declared.fault.ScanFault.TheVariants.{OpenQuote, OpenComment, Named, Number, NoMemory}
 use Rattle.sql_scan.specs.Tokens.{Token, token_of, first_token, tokens_past, tokens_of}
@@ -45,19 +45,19 @@ no_first (b ∷ bytes) e = absurd cc
 
 -- ---- statements so far
 
-front-front : (a b : List Piece) (r : Result (List Piece) ScanFault) → with_front (a ++ b) r ≡ with_front a (with_front b r)
+front-front : (a b : List StatementSpan) (r : Result (List StatementSpan) ScanFault) → with_front (a ++ b) r ≡ with_front a (with_front b r)
 front-front a b (Ok xs) = ap Ok (append_assoc a b xs)
 front-front a b (Err e) = refl
 
-pub front-none : (r : Result (List Piece) ScanFault) → with_front [] r ≡ r
+pub front-none : (r : Result (List StatementSpan) ScanFault) → with_front [] r ≡ r
 front-none (Ok xs) = refl
 front-none (Err e) = refl
 
 -- what follows a token of n bytes
-abbrev behind : ℕ → ℕ → List ℕ → List Piece × Draft → Result (List Piece) ScanFault
+abbrev behind : ℕ → ℕ → List ℕ → List StatementSpan × PartialStatement → Result (List StatementSpan) ScanFault
 behind at n rest m = with_front m.0 (statements_from (at + n) m.1 (tokens_of (drop n rest)))
 
-unrolled : (at n : ℕ) (draft : Draft) (kind : TokenKind) (rest : List ℕ) → first_token rest ≡ Some (kind, n) → 0 < n → n ≤ length rest
+unrolled : (at n : ℕ) (draft : PartialStatement) (kind : TokenKind) (rest : List ℕ) → first_token rest ≡ Some (kind, n) → 0 < n → n ≤ length rest
     → statements_from at draft (tokens_of rest) ≡ (moved draft at kind (take n rest) >>= behind at n rest)
 unfolding statements_from
 unrolled at n draft kind rest first lt le =
@@ -65,23 +65,23 @@ unrolled at n draft kind rest first lt le =
     ∙ ap (λ (k : ℕ). moved draft at kind (take n rest) >>= λ m. with_front m.0 (statements_from (at + k) m.1 (tokens_of (drop n rest)))) (length-take-le n rest le)
 
 -- what was found so far and what is still to be found are all that there is
-pub step : (old new front : List Piece) (at n : ℕ) (draft next : Draft) (kind : TokenKind) (rest token : List ℕ) (total : Result (List Piece) ScanFault)
+pub step : (old new front : List StatementSpan) (at n : ℕ) (draft next : PartialStatement) (kind : TokenKind) (rest token : List ℕ) (total : Result (List StatementSpan) ScanFault)
     → first_token rest ≡ Some (kind, n) → 0 < n → n ≤ length rest → token ≡ take n rest
     → moved draft at kind token ≡ Ok (front, next) → new ≡ old ++ front
     → with_front old (statements_from at draft (tokens_of rest)) ≡ total → with_front new (statements_from (at + n) next (tokens_of (drop n rest))) ≡ total
 step old new front at n draft next kind rest token total first lt le cut moves is so_far =
-    ap (λ (xs : List Piece). with_front xs (statements_from (at + n) next (tokens_of (drop n rest)))) is
+    ap (λ (xs : List StatementSpan). with_front xs (statements_from (at + n) next (tokens_of (drop n rest)))) is
     ∙ front-front old front (statements_from (at + n) next (tokens_of (drop n rest)))
-    ∙ sym (ap (with_front old) (unrolled at n draft kind rest first lt le ∙ ap (λ (r : Result (List Piece × Draft) ScanFault). r >>= behind at n rest) (sym (ap (moved draft at kind) cut) ∙ moves)))
+    ∙ sym (ap (with_front old) (unrolled at n draft kind rest first lt le ∙ ap (λ (r : Result (List StatementSpan × PartialStatement) ScanFault). r >>= behind at n rest) (sym (ap (moved draft at kind) cut) ∙ moves)))
     ∙ so_far
 
-stops : (old : List Piece) (at n : ℕ) (draft : Draft) (kind : TokenKind) (rest token : List ℕ) (total : Result (List Piece) ScanFault) (fault : ScanFault)
+stops : (old : List StatementSpan) (at n : ℕ) (draft : PartialStatement) (kind : TokenKind) (rest token : List ℕ) (total : Result (List StatementSpan) ScanFault) (fault : ScanFault)
     → first_token rest ≡ Some (kind, n) → 0 < n → n ≤ length rest → token ≡ take n rest
     → with_front old (statements_from at draft (tokens_of rest)) ≡ total → moved draft at kind token ≡ Err fault → total ≡ Err fault
 stops old at n draft kind rest token total fault first lt le cut so_far moves =
-    sym so_far ∙ ap (with_front old) (unrolled at n draft kind rest first lt le ∙ ap (λ (r : Result (List Piece × Draft) ScanFault). r >>= behind at n rest) (sym (ap (moved draft at kind) cut) ∙ moves))
+    sym so_far ∙ ap (with_front old) (unrolled at n draft kind rest first lt le ∙ ap (λ (r : Result (List StatementSpan × PartialStatement) ScanFault). r >>= behind at n rest) (sym (ap (moved draft at kind) cut) ∙ moves))
 
-pub fails : (old : List Piece) (at n : ℕ) (draft : Draft) (kind : TokenKind) (rest token : List ℕ) (total : Result (List Piece) ScanFault) (fault : ScanFault)
+pub fails : (old : List StatementSpan) (at n : ℕ) (draft : PartialStatement) (kind : TokenKind) (rest token : List ℕ) (total : Result (List StatementSpan) ScanFault) (fault : ScanFault)
     → first_token rest ≡ Some (kind, n) → 0 < n → n ≤ length rest → token ≡ take n rest
     → with_front old (statements_from at draft (tokens_of rest)) ≡ total → Fails fault (moved draft at kind token) → Fails fault total
 fails old at n draft kind rest token total NoMemory first lt le cut so_far h = tt
@@ -91,13 +91,13 @@ fails old at n draft kind rest token total (Named p) first lt le cut so_far h = 
 fails old at n draft kind rest token total (Number p) first lt le cut so_far h = stops old at n draft kind rest token total (Number p) first lt le cut so_far h
 
 -- no token is left
-pub ends : (old new : List Piece) (at : ℕ) (draft : Draft) (rest : List ℕ) (total : Result (List Piece) ScanFault) → first_token rest ≡ None
+pub ends : (old new : List StatementSpan) (at : ℕ) (draft : PartialStatement) (rest : List ℕ) (total : Result (List StatementSpan) ScanFault) → first_token rest ≡ None
     → new ≡ old ++ option_to_list (finished draft at) → with_front old (statements_from at draft (tokens_of rest)) ≡ total → total ≡ Ok new
 unfolding statements_from tokens_past
 ends old new at draft rest total none is so_far =
     sym so_far ∙ ap (λ (xs : List ℕ). with_front old (statements_from at draft (tokens_of xs))) (no_first rest none) ∙ ap Ok (sym is)
 
 -- nothing was found yet
-pub begins : (found : List Piece) (text : List ℕ) → found ≡ [] → with_front found (statements_from 0 (blank 0) (tokens_of (drop 0 text))) ≡ scan_of text
+pub begins : (found : List StatementSpan) (text : List ℕ) → found ≡ [] → with_front found (statements_from 0 (blank 0) (tokens_of (drop 0 text))) ≡ scan_of text
 unfolding scan_of
-begins found text is = ap (λ (xs : List Piece). with_front xs (statements_from 0 (blank 0) (tokens_of text))) is ∙ front-none (statements_from 0 (blank 0) (tokens_of text))
+begins found text is = ap (λ (xs : List StatementSpan). with_front xs (statements_from 0 (blank 0) (tokens_of text))) is ∙ front-none (statements_from 0 (blank 0) (tokens_of text))

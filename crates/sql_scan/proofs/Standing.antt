@@ -8,8 +8,8 @@ use Rattle.std.proofs.lemmas.List.{append-nil}
 use Rattle.std.proofs.lemmas.Str.{IsCharBoundary-start}
 use Rattle.sql_scan.specs.declared.token.TokenKind.{TokenKind}
 use Rattle.sql_scan.specs.declared.token.TokenKind.TheVariants.{Space, Comment, OpenComment, Quoted, OpenQuote, Word, Parameter, Named, End, Other}
-use Rattle.sql_scan.specs.declared.draft.Draft.{Draft}
-use Rattle.sql_scan.specs.declared.pieces.Piece.{Piece}
+use Rattle.sql_scan.specs.declared.draft.PartialStatement.{PartialStatement}
+use Rattle.sql_scan.specs.declared.pieces.StatementSpan.{StatementSpan}
 use Rattle.sql_scan.specs.declared.fault.ScanFault.{ScanFault}
 use Rattle.sql_scan.specs.Tokens.{Token, tokens_of}
 use Rattle.sql_scan.specs.Grammar.{AreTokens, joined}
@@ -20,40 +20,40 @@ use Rattle.sql_scan.proofs.Cutting.{token_some, cuts}
 use Rattle.sql_scan.proofs.Boundaries.{token_boundary}
 
 -- a statement so far, behind the place where the one before ends
-abbrev Progress : List ℕ → ℕ → ℕ → Draft → Type 0
+abbrev Progress : List ℕ → ℕ → ℕ → PartialStatement → Type 0
 Progress text from at d =
     (from ≤ at) × (is_blank d.heading ≡ false → (from ≤ d.start) × (d.start < d.end) × (d.end ≤ at) × IsCharBoundary text d.start × IsCharBoundary text d.end)
 
 -- statements one behind the other, from a place on
-abbrev Stand : List ℕ → ℕ → List Piece → Type 0
+abbrev Stand : List ℕ → ℕ → List StatementSpan → Type 0
 Stand text from [] = Unit {0}
 Stand text from (p ∷ ps) = StandsIn text p × (from ≤ p.start) × Stand text p.after ps
 
-weaker : (text : List ℕ) (from at : ℕ) (ps : List Piece) → from ≤ at → Stand text at ps → Stand text from ps
+weaker : (text : List ℕ) (from at : ℕ) (ps : List StatementSpan) → from ≤ at → Stand text at ps → Stand text from ps
 weaker text from at [] le h = tt
 weaker text from at (p ∷ ps) le (stands, behind, others) = (stands, omega arith, others)
 
-finished_then : (text : List ℕ) (from at : ℕ) (d : Draft) (others : List Piece) → Progress text from at d → IsCharBoundary text at → at ≤ length text → Stand text at others
+finished_then : (text : List ℕ) (from at : ℕ) (d : PartialStatement) (others : List StatementSpan) → Progress text from at d → IsCharBoundary text at → at ≤ length text → Stand text at others
     → Stand text from (option_to_list (finished d at) ++ others)
 unfolding finished kind_so_far
 finished_then text from at d others progress boundary within h =
-    cond_both (is_blank d.heading) None (Some (record { start = d.start; end = d.end; word = kind_so_far d.heading; params = d.params; after = at })) (λ (o : Option Piece). Stand text from (option_to_list o ++ others))
+    cond_both (is_blank d.heading) None (Some (record { start = d.start; end = d.end; word = kind_so_far d.heading; params = d.params; after = at })) (λ (o : Option StatementSpan). Stand text from (option_to_list o ++ others))
     (λ none. weaker text from at others progress.0 h)
     (λ some. let p = progress.1 some in (record { some = p.1; ordered = p.2; within = within; at_start = p.3; at_end = p.4; at_rest = boundary }, p.0, h))
 
 -- what a token does to the statement so far
-record Goes (text : List ℕ) (from at : ℕ) (front : List Piece) (next : Draft) : Type 0 where
+record Goes (text : List ℕ) (from at : ℕ) (front : List StatementSpan) (next : PartialStatement) : Type 0 where
   pub from' : ℕ
   pub progress : Progress text from' at next
-  pub behind : (others : List Piece) → Stand text from' others → Stand text from (front ++ others)
+  pub behind : (others : List StatementSpan) → Stand text from' others → Stand text from (front ++ others)
 
-draft_is : (x y : Draft) (r : Result Draft ScanFault) → r ≡ Ok x → r ≡ Ok y → x ≡ y
+draft_is : (x y : PartialStatement) (r : Result PartialStatement ScanFault) → r ≡ Ok x → r ≡ Ok y → x ≡ y
 draft_is x y r e f = cc
 
-later : (text : List ℕ) (from at n : ℕ) (d : Draft) → Progress text from at d → Progress text from (at + n) d
+later : (text : List ℕ) (from at n : ℕ) (d : PartialStatement) → Progress text from at d → Progress text from (at + n) d
 later text from at n d progress = (omega arith, λ some. let p = progress.1 some in (p.0, p.1, omega arith, p.3, p.4))
 
-solid_progress : (text : List ℕ) (from at : ℕ) (d : Draft) (kind : TokenKind) (bytes : List ℕ) → Progress text from at d → IsCharBoundary text at → IsCharBoundary text (at + length bytes) → 0 < length bytes
+solid_progress : (text : List ℕ) (from at : ℕ) (d : PartialStatement) (kind : TokenKind) (bytes : List ℕ) → Progress text from at d → IsCharBoundary text at → IsCharBoundary text (at + length bytes) → 0 < length bytes
     → Progress text from (at + length bytes) (solid d at kind bytes)
 unfolding solid
 solid_progress text from at d kind bytes progress here there pos =
@@ -65,11 +65,11 @@ solid_progress text from at d kind bytes progress here there pos =
     )
 
 -- the draft of a parameter stands as the one without its number
-counted_progress : (text : List ℕ) (from at end : ℕ) (s : Draft) (o : Option ℕ) (next : Draft) → Progress text from end s → counted at s o ≡ Ok next → Progress text from end next
+counted_progress : (text : List ℕ) (from at end : ℕ) (s : PartialStatement) (o : Option ℕ) (next : PartialStatement) → Progress text from end s → counted at s o ≡ Ok next → Progress text from end next
 counted_progress text from at end s None next h e = absurd cc
 counted_progress text from at end s (Some n) next h e = subst (Progress text from end) (draft_is (record s { params = max s.params n }) next (counted at s (Some n)) refl e) h
 
-extended_progress : (text : List ℕ) (from at : ℕ) (d : Draft) (kind : TokenKind) (bytes : List ℕ) (next : Draft) → Progress text from at d → IsCharBoundary text at → IsCharBoundary text (at + length bytes) → 0 < length bytes
+extended_progress : (text : List ℕ) (from at : ℕ) (d : PartialStatement) (kind : TokenKind) (bytes : List ℕ) (next : PartialStatement) → Progress text from at d → IsCharBoundary text at → IsCharBoundary text (at + length bytes) → 0 < length bytes
     → extended d at kind bytes ≡ Ok next → Progress text from (at + length bytes) next
 unfolding extended
 extended_progress text from at d Space bytes next progress here there pos e = subst (Progress text from (at + length bytes)) (draft_is d next (Ok d) refl e) (later text from at (length bytes) d progress)
@@ -84,22 +84,22 @@ extended_progress text from at d Word bytes next progress here there pos e = sub
 extended_progress text from at d End bytes next progress here there pos e = subst (Progress text from (at + length bytes)) (draft_is d next (Ok d) refl e) (later text from at (length bytes) d progress)
 extended_progress text from at d Other bytes next progress here there pos e = subst (Progress text from (at + length bytes)) (draft_is (solid d at Other bytes) next (Ok (solid d at Other bytes)) refl e) (solid_progress text from at d Other bytes progress here there pos)
 
-pair_is : (x y : List Piece × Draft) (r : Result (List Piece × Draft) ScanFault) → r ≡ Ok x → r ≡ Ok y → x ≡ y
+pair_is : (x y : List StatementSpan × PartialStatement) (r : Result (List StatementSpan × PartialStatement) ScanFault) → r ≡ Ok x → r ≡ Ok y → x ≡ y
 pair_is x y r e f = cc
 
 -- no statement ends
-still_goes : (text : List ℕ) (from end : ℕ) (r : Result Draft ScanFault) (m : List Piece × Draft) → ((next : Draft) → r ≡ Ok next → Progress text from end next) → still r ≡ Ok m → Goes text from end m.0 m.1
+still_goes : (text : List ℕ) (from end : ℕ) (r : Result PartialStatement ScanFault) (m : List StatementSpan × PartialStatement) → ((next : PartialStatement) → r ≡ Ok next → Progress text from end next) → still r ≡ Ok m → Goes text from end m.0 m.1
 still_goes text from end (Ok next) m progress e =
-    subst (λ (x : List Piece × Draft). Goes text from end x.0 x.1) (pair_is ([], next) m (still (Ok next)) refl e)
+    subst (λ (x : List StatementSpan × PartialStatement). Goes text from end x.0 x.1) (pair_is ([], next) m (still (Ok next)) refl e)
     (record { from' = from; progress = progress next refl; behind = λ others h. h })
 still_goes text from end (Err fault) m progress e = absurd cc
 
-end_goes : (text : List ℕ) (from end : ℕ) (d : Draft) (m : List Piece × Draft) (r : Result (List Piece × Draft) ScanFault) → Progress text from end d → IsCharBoundary text end → end ≤ length text → r ≡ Ok (option_to_list (finished d end), blank end) → r ≡ Ok m → Goes text from end m.0 m.1
+end_goes : (text : List ℕ) (from end : ℕ) (d : PartialStatement) (m : List StatementSpan × PartialStatement) (r : Result (List StatementSpan × PartialStatement) ScanFault) → Progress text from end d → IsCharBoundary text end → end ≤ length text → r ≡ Ok (option_to_list (finished d end), blank end) → r ≡ Ok m → Goes text from end m.0 m.1
 end_goes text from end d m r progress there within is e =
-    subst (λ (x : List Piece × Draft). Goes text from end x.0 x.1) (pair_is (option_to_list (finished d end), blank end) m r is e)
+    subst (λ (x : List StatementSpan × PartialStatement). Goes text from end x.0 x.1) (pair_is (option_to_list (finished d end), blank end) m r is e)
     (record { from' = end; progress = (omega arith, λ some. absurd cc); behind = λ others h. finished_then text from end d others progress there within h })
 
-goes : (text : List ℕ) (from at : ℕ) (d : Draft) (kind : TokenKind) (bytes : List ℕ) (m : List Piece × Draft) → Progress text from at d → IsCharBoundary text at → IsCharBoundary text (at + length bytes) → at + length bytes ≤ length text → 0 < length bytes
+goes : (text : List ℕ) (from at : ℕ) (d : PartialStatement) (kind : TokenKind) (bytes : List ℕ) (m : List StatementSpan × PartialStatement) → Progress text from at d → IsCharBoundary text at → IsCharBoundary text (at + length bytes) → at + length bytes ≤ length text → 0 < length bytes
     → moved d at kind bytes ≡ Ok m → Goes text from (at + length bytes) m.0 m.1
 goes text from at d End bytes m progress here there within pos e = end_goes text from (at + length bytes) d m (moved d at End bytes) (later text from at (length bytes) d progress) there within refl e
 goes text from at d kind bytes m progress here there within pos e =
@@ -109,14 +109,14 @@ bind_ok : {A B : Type 0} (r : Result A ScanFault) (f : A → Result B ScanFault)
 bind_ok (Ok x) f y e = (x, refl, e)
 bind_ok (Err fault) f y e = absurd cc
 
-list_is : (x y : List Piece) (r : Result (List Piece) ScanFault) → r ≡ Ok x → r ≡ Ok y → x ≡ y
+list_is : (x y : List StatementSpan) (r : Result (List StatementSpan) ScanFault) → r ≡ Ok x → r ≡ Ok y → x ≡ y
 list_is x y r e f = cc
 
-front_ok : (front ps : List Piece) (r : Result (List Piece) ScanFault) → with_front front r ≡ Ok ps → (others : List Piece) × (r ≡ Ok others) × (front ++ others ≡ ps)
+front_ok : (front ps : List StatementSpan) (r : Result (List StatementSpan) ScanFault) → with_front front r ≡ Ok ps → (others : List StatementSpan) × (r ≡ Ok others) × (front ++ others ≡ ps)
 front_ok front ps (Ok others) e = (others, refl, list_is (front ++ others) ps (Ok (front ++ others)) refl e)
 front_ok front ps (Err fault) e = absurd cc
 
-stand : (tokens : List Token) (text front : List ℕ) → IsUtf8 text → text ≡ front ++ joined tokens → AreTokens tokens → (from : ℕ) (d : Draft) (ps : List Piece) → Progress text from (length front) d → IsCharBoundary text (length front)
+stand : (tokens : List Token) (text front : List ℕ) → IsUtf8 text → text ≡ front ++ joined tokens → AreTokens tokens → (from : ℕ) (d : PartialStatement) (ps : List StatementSpan) → Progress text from (length front) d → IsCharBoundary text (length front)
     → statements_from (length front) d tokens ≡ Ok ps → Stand text from ps
 unfolding statements_from
 stand [] text front utf8 is each from d ps progress here e =
@@ -128,7 +128,7 @@ stand (t ∷ tokens) text front utf8 is (token, each) from d ps progress here e 
     let len : length (front ++ t.bytes) ≡ length front + length t.bytes = length-append front t.bytes in
     let there : IsCharBoundary text (length (front ++ t.bytes)) = token_boundary text front t.bytes (joined tokens) t.kind utf8 split token in
     let within : length front + length t.bytes ≤ length text = omega (arith, ap length split, length-append (front ++ t.bytes) (joined tokens)) in
-    let moves = bind_ok (moved d (length front) t.kind t.bytes) (λ (m : List Piece × Draft). with_front m.0 (statements_from (length front + length t.bytes) m.1 tokens)) ps e in
+    let moves = bind_ok (moved d (length front) t.kind t.bytes) (λ (m : List StatementSpan × PartialStatement). with_front m.0 (statements_from (length front + length t.bytes) m.1 tokens)) ps e in
     let found = front_ok moves.0.0 ps (statements_from (length front + length t.bytes) moves.0.1 tokens) moves.2 in
     let g : Goes text from (length front + length t.bytes) moves.0.0 moves.0.1 =
     goes text from (length front) d t.kind t.bytes moves.0 progress here (subst (IsCharBoundary text) len there) within (token_some t.kind t.bytes (joined tokens) token) moves.1 in
@@ -139,12 +139,12 @@ stand (t ∷ tokens) text front utf8 is (token, each) from d ps progress here e 
 
 -- ---- each, and any two
 
-all_stand : (text : List ℕ) (from : ℕ) (ps : List Piece) → Stand text from ps → All (StandsIn text) ps
+all_stand : (text : List ℕ) (from : ℕ) (ps : List StatementSpan) → Stand text from ps → All (StandsIn text) ps
 all_stand text from [] h k x lt = absurd (omega arith)
 all_stand text from (p ∷ ps) h zero x lt = h.0
 all_stand text from (p ∷ ps) h (suc k) x lt = all_stand text p.after ps h.2 k x (omega arith)
 
-all_behind : (text : List ℕ) (from : ℕ) (ps : List Piece) → Stand text from ps → All (λ p. from ≤ p.start) ps
+all_behind : (text : List ℕ) (from : ℕ) (ps : List StatementSpan) → Stand text from ps → All (λ p. from ≤ p.start) ps
 all_behind text from [] h k x lt = absurd (omega arith)
 all_behind text from (p ∷ ps) h zero x lt = h.1
 all_behind text from (p ∷ ps) h (suc k) x lt =
@@ -154,19 +154,19 @@ all_behind text from (p ∷ ps) h (suc k) x lt =
     let first = h.1 in
     omega arith
 
-in_turn : (text : List ℕ) (from : ℕ) (ps : List Piece) → Stand text from ps → AllPairs StandsBefore ps
+in_turn : (text : List ℕ) (from : ℕ) (ps : List StatementSpan) → Stand text from ps → AllPairs StandsBefore ps
 in_turn text from [] h i j x lt within = absurd (omega arith)
 in_turn text from (p ∷ ps) h i zero x lt within = absurd (omega arith)
 in_turn text from (p ∷ ps) h zero (suc j) x lt within = all_behind text p.after ps h.2 j x (omega arith)
 in_turn text from (p ∷ ps) h (suc i) (suc j) x lt within = in_turn text p.after ps h.2 i j x (omega arith) (omega arith)
 
-scanned : (text : List ℕ) (ps : List Piece) → IsUtf8 text → scan_of text ≡ Ok ps → Stand text 0 ps
+scanned : (text : List ℕ) (ps : List StatementSpan) → IsUtf8 text → scan_of text ≡ Ok ps → Stand text 0 ps
 unfolding scan_of
 scanned text ps utf8 e =
     stand (tokens_of text) text [] utf8 (sym (cuts text).together) (cuts text).each 0 (blank 0) ps (omega arith, λ some. absurd cc) (IsCharBoundary-start text utf8) e
 
-pub places : (text : List ℕ) (ps : List Piece) → IsUtf8 text → scan_of text ≡ Ok ps → All (StandsIn text) ps
+pub places : (text : List ℕ) (ps : List StatementSpan) → IsUtf8 text → scan_of text ≡ Ok ps → All (StandsIn text) ps
 places text ps utf8 e = all_stand text 0 ps (scanned text ps utf8 e)
 
-pub order : (text : List ℕ) (ps : List Piece) → IsUtf8 text → scan_of text ≡ Ok ps → AllPairs StandsBefore ps
+pub order : (text : List ℕ) (ps : List StatementSpan) → IsUtf8 text → scan_of text ≡ Ok ps → AllPairs StandsBefore ps
 order text ps utf8 e = in_turn text 0 ps (scanned text ps utf8 e)

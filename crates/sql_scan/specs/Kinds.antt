@@ -5,8 +5,8 @@ use Rattle.sql_scan.specs.declared.heading.Keyword.{Keyword}
 use Rattle.sql_scan.specs.declared.heading.Keyword.TheVariants.{Begin, Deferred, AtOnce, Transaction, Commit, Rollback, Write, LeftOut}
 use Rattle.sql_scan.specs.declared.heading.WordKind.{WordKind}
 use Rattle.sql_scan.specs.declared.heading.WordKind.TheVariants as kinds
-use Rattle.sql_scan.specs.declared.heading.Heading.{Heading}
-use Rattle.sql_scan.specs.declared.heading.Heading.TheVariants.{Blank}
+use Rattle.sql_scan.specs.declared.heading.StatementHead.{StatementHead}
+use Rattle.sql_scan.specs.declared.heading.StatementHead.TheVariants.{Blank}
 use Rattle.sql_scan.specs.Words.{followed_by}
 
 -- TRANSACTION may follow, and nothing else
@@ -31,5 +31,5 @@ kind_of (LeftOut ∷ others) = kinds.LeftOut
 kind_of others = kinds.Other
 
 -- the same, one word after the other
-abbrev pub heading_of : List Keyword → Heading
+abbrev pub heading_of : List Keyword → StatementHead
 heading_of words = fold followed_by Blank words

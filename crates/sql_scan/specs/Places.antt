@@ -1,10 +1,10 @@
 -- Where statements stand in a text.
 use Rattle.std.specs.Prelude.{◌<◌, ◌≤◌, ℕ, List, length}
 use Rattle.std.specs.Str.{IsCharBoundary}
-use Rattle.sql_scan.specs.declared.pieces.Piece.{Piece}
+use Rattle.sql_scan.specs.declared.pieces.StatementSpan.{StatementSpan}
 
 -- The places of a statement are in order, and the text may be cut at each of them.
-pub record StandsIn (text : List ℕ) (piece : Piece) : Type 0 where
+pub record StandsIn (text : List ℕ) (piece : StatementSpan) : Type 0 where
   pub some : piece.start < piece.end
   pub ordered : piece.end ≤ piece.after
   pub within : piece.after ≤ length text
@@ -13,5 +13,5 @@ pub record StandsIn (text : List ℕ) (piece : Piece) : Type 0 where
   pub at_rest : IsCharBoundary text piece.after
 
 -- one statement stands wholly before another
-abbrev pub StandsBefore : Piece → Piece → Type 0
+abbrev pub StandsBefore : StatementSpan → StatementSpan → Type 0
 StandsBefore first second = first.after ≤ second.start

@@ -3,7 +3,7 @@ use Rattle.std.specs.Prelude.{◌≡◌, ℕ, ◌+◌, ◌||◌, Bool, true, fal
 use Rattle.sql_scan.specs.declared.token.TokenKind.{TokenKind}
 use Rattle.sql_scan.specs.declared.token.TokenKind.TheVariants.{Space, Comment, Quoted, Word, Parameter, Other}
 use Rattle.sql_scan.specs.declared.heading.Keyword.{Keyword}
-use Rattle.sql_scan.specs.declared.pieces.Piece.{Piece}
+use Rattle.sql_scan.specs.declared.pieces.StatementSpan.{StatementSpan}
 use Rattle.sql_scan.specs.Tokens.{Token}
 use Rattle.sql_scan.specs.Grammar.{joined}
 use Rattle.sql_scan.specs.Kinds.{kind_of}
@@ -82,7 +82,7 @@ pub record IsSentence (s : Sentence) (greatest : ℕ) : Type 0 where
 
 -- The statement that these tokens make from a place on: space and comments around it are left out, the kind is that of
 -- its words, the count the greatest number of its parameters.
-abbrev pub piece_of : ℕ → Sentence → ℕ → ℕ → Piece
+abbrev pub piece_of : ℕ → Sentence → ℕ → ℕ → StatementSpan
 piece_of at s greatest after = record {
   start = at + length (joined s.before);
   end = at + length (joined s.before) + length (joined (own_tokens s));

@@ -4,10 +4,10 @@ use Rattle.sql_scan.specs.declared.token.TokenKind.{TokenKind}
 use Rattle.sql_scan.specs.declared.token.TokenKind.TheVariants as tokens
 use Rattle.sql_scan.specs.declared.heading.Keyword.{Keyword}
 use Rattle.sql_scan.specs.declared.heading.Keyword.TheVariants.{Plain}
-use Rattle.sql_scan.specs.declared.heading.Heading.{Heading}
-use Rattle.sql_scan.specs.declared.heading.Heading.TheVariants.{Blank}
-use Rattle.sql_scan.specs.declared.draft.Draft.{Draft}
-use Rattle.sql_scan.specs.declared.pieces.Piece.{Piece}
+use Rattle.sql_scan.specs.declared.heading.StatementHead.{StatementHead}
+use Rattle.sql_scan.specs.declared.heading.StatementHead.TheVariants.{Blank}
+use Rattle.sql_scan.specs.declared.draft.PartialStatement.{PartialStatement}
+use Rattle.sql_scan.specs.declared.pieces.StatementSpan.{StatementSpan}
 use Rattle.sql_scan.specs.declared.fault.ScanFault.{ScanFault}
 use Rattle.sql_scan.specs.declared.fault.ScanFault.TheVariants.{OpenQuote, OpenComment, Named, Number, NoMemory}
 use Rattle.sql_scan.specs.Tokens.{Token, tokens_of}
@@ -34,12 +34,12 @@ parameter greatest digits = in_range (number_of greatest digits)
 
 -- ---- a statement as far as it was read
 
-abbrev pub is_blank : Heading → Bool
+abbrev pub is_blank : StatementHead → Bool
 is_blank Blank = true
 is_blank _ = false
 
 -- nothing of a statement but the place behind the one before
-abbrev pub blank : ℕ → Draft
+abbrev pub blank : ℕ → PartialStatement
 blank at = record { start = at; end = at; params = 0; heading = Blank }
 
 abbrev pub keyword_in : TokenKind → List ℕ → Keyword
@@ -47,7 +47,7 @@ keyword_in tokens.Word bytes = keyword_of bytes
 keyword_in _ bytes = Plain
 
 -- with a token that is no space: the statement begins with the first, and ends with the last
-unfoldable pub solid : Draft → ℕ → TokenKind → List ℕ → Draft
+unfoldable pub solid : PartialStatement → ℕ → TokenKind → List ℕ → PartialStatement
 solid draft at kind bytes = record {
   start = if is_blank draft.heading then at else draft.start;
   end = at + length bytes;
@@ -56,12 +56,12 @@ solid draft at kind bytes = record {
 }
 
 -- with a parameter, whose number is in range: the count is the greatest number
-abbrev pub counted : ℕ → Draft → Option ℕ → Result Draft ScanFault
+abbrev pub counted : ℕ → PartialStatement → Option ℕ → Result PartialStatement ScanFault
 counted at draft None = Err (Number at)
 counted at draft (Some n) = Ok (record draft { params = max draft.params n })
 
 -- with the token that stands at this place
-unfoldable pub extended : Draft → ℕ → TokenKind → List ℕ → Result Draft ScanFault
+unfoldable pub extended : PartialStatement → ℕ → TokenKind → List ℕ → Result PartialStatement ScanFault
 extended draft at tokens.Space bytes = Ok draft
 extended draft at tokens.Comment bytes = Ok draft
 extended draft at tokens.OpenComment bytes = Err (OpenComment at)
@@ -74,7 +74,7 @@ extended draft at tokens.End bytes = Ok draft
 extended draft at tokens.Other bytes = Ok (solid draft at tokens.Other bytes)
 
 -- the statement, if there is one; the rest of the text begins at the place after
-unfoldable pub finished : Draft → ℕ → Option Piece
+unfoldable pub finished : PartialStatement → ℕ → Option StatementSpan
 finished draft after =
     if is_blank draft.heading then None
     else Some (record { start = draft.start; end = draft.end; word = kind_so_far draft.heading; params = draft.params; after = after })
@@ -82,17 +82,17 @@ finished draft after =
 -- ---- all statements
 
 -- no statement ends here
-abbrev pub still : Result Draft ScanFault → Result (List Piece × Draft) ScanFault
+abbrev pub still : Result PartialStatement ScanFault → Result (List StatementSpan × PartialStatement) ScanFault
 still (Ok draft) = Ok ([], draft)
 still (Err fault) = Err fault
 
 -- the statement that ends with a token, and what there is of the next
-abbrev pub moved : Draft → ℕ → TokenKind → List ℕ → Result (List Piece × Draft) ScanFault
+abbrev pub moved : PartialStatement → ℕ → TokenKind → List ℕ → Result (List StatementSpan × PartialStatement) ScanFault
 moved draft at tokens.End bytes = Ok (option_to_list (finished draft (at + length bytes)), blank (at + length bytes))
 moved draft at kind bytes = still (extended draft at kind bytes)
 
 -- the first statements and then the others, unless there is a fault
-abbrev pub with_front : List Piece → Result (List Piece) ScanFault → Result (List Piece) ScanFault
+abbrev pub with_front : List StatementSpan → Result (List StatementSpan) ScanFault → Result (List StatementSpan) ScanFault
 with_front front (Ok others) = Ok (front ++ others)
 with_front front (Err fault) = Err fault
 
@@ -102,17 +102,17 @@ abbrev pub ◌>>=◌ : {A B : Type 0} → Result A ScanFault → (A → Result B
 (Err e) >>= f = Err e
 
 -- The statements from a place on, where the first of them is this draft so far, and these tokens follow. Or the first fault.
-unfoldable pub statements_from : ℕ → Draft → List Token → Result (List Piece) ScanFault
+unfoldable pub statements_from : ℕ → PartialStatement → List Token → Result (List StatementSpan) ScanFault
 statements_from at draft [] = Ok (option_to_list (finished draft at))
 statements_from at draft (token ∷ others) =
     moved draft at token.kind token.bytes >>= λ m. with_front m.0 (statements_from (at + length token.bytes) m.1 others)
 
 -- the statements that the tokens of a text make, or the first fault among them
-abbrev pub statements_of : List Token → Result (List Piece) ScanFault
+abbrev pub statements_of : List Token → Result (List StatementSpan) ScanFault
 statements_of tokens = statements_from 0 (blank 0) tokens
 
 -- the statements of a text, or its first fault
-unfoldable pub scan_of : List ℕ → Result (List Piece) ScanFault
+unfoldable pub scan_of : List ℕ → Result (List StatementSpan) ScanFault
 scan_of text = statements_of (tokens_of text)
 
 -- A fault is the one that the definition gives, unless memory ran out.
@@ -126,6 +126,6 @@ Gives view result there = MatchResult result (λ x. there ≡ Ok (view x)) (λ e
 
 -- What a token did to the statements that were found: those that it ends stand behind them, or it is a fault, or memory
 -- ran out.
-abbrev pub Moves : Draft → ℕ → TokenKind → List ℕ → List Piece → List Piece → Result Draft ScanFault → Type 0
+abbrev pub Moves : PartialStatement → ℕ → TokenKind → List ℕ → List StatementSpan → List StatementSpan → Result PartialStatement ScanFault → Type 0
 Moves draft at kind bytes old new result =
-    MatchResult result (λ next. (front : List Piece) × (moved draft at kind bytes ≡ Ok (front, next)) × (new ≡ old ++ front)) (λ e. Fails e (moved draft at kind bytes))
+    MatchResult result (λ next. (front : List StatementSpan) × (moved draft at kind bytes ≡ Ok (front, next)) × (new ≡ old ++ front)) (λ e. Fails e (moved draft at kind bytes))

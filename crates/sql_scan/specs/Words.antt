@@ -5,8 +5,8 @@ use Rattle.sql_scan.specs.declared.heading.Keyword.{Keyword}
 use Rattle.sql_scan.specs.declared.heading.Keyword.TheVariants.{Begin, Deferred, AtOnce, Transaction, Commit, Rollback, Write, LeftOut, Plain}
 use Rattle.sql_scan.specs.declared.heading.WordKind.{WordKind}
 use Rattle.sql_scan.specs.declared.heading.WordKind.TheVariants as kinds
-use Rattle.sql_scan.specs.declared.heading.Heading.{Heading}
-use Rattle.sql_scan.specs.declared.heading.Heading.TheVariants.{Blank, Begun, Open, Full, Settled}
+use Rattle.sql_scan.specs.declared.heading.StatementHead.{StatementHead}
+use Rattle.sql_scan.specs.declared.heading.StatementHead.TheVariants.{Blank, Begun, Open, Full, Settled}
 
 -- a word is this name, with letters of either case
 abbrev pub is : List ℕ → List ℕ → Bool
@@ -37,7 +37,7 @@ keyword_of word =
     else if is_left_out word then LeftOut
     else Plain
 
-abbrev pub first_heading : Keyword → Heading
+abbrev pub first_heading : Keyword → StatementHead
 first_heading Begin = Begun
 first_heading Commit = Open kinds.Commit
 first_heading Rollback = Open kinds.Rollback
@@ -45,18 +45,18 @@ first_heading Write = Settled kinds.Write
 first_heading LeftOut = Settled kinds.LeftOut
 first_heading _ = Settled kinds.Other
 
-abbrev pub after_begin : Keyword → Heading
+abbrev pub after_begin : Keyword → StatementHead
 after_begin Deferred = Open (kinds.Begin false)
 after_begin AtOnce = Open (kinds.Begin true)
 after_begin Transaction = Full (kinds.Begin false)
 after_begin _ = Settled kinds.LeftOut
 
-abbrev pub after_open : WordKind → Keyword → Heading
+abbrev pub after_open : WordKind → Keyword → StatementHead
 after_open kind Transaction = Full kind
 after_open kind _ = Settled kinds.LeftOut
 
 -- the first words with one more, or with something that is no word
-unfoldable pub followed_by : Heading → Keyword → Heading
+unfoldable pub followed_by : StatementHead → Keyword → StatementHead
 followed_by Blank keyword = first_heading keyword
 followed_by Begun keyword = after_begin keyword
 followed_by (Open kind) keyword = after_open kind keyword
@@ -64,7 +64,7 @@ followed_by (Full kind) keyword = Settled kinds.LeftOut
 followed_by (Settled kind) keyword = Settled kind
 
 -- what the first words make so far
-unfoldable pub kind_so_far : Heading → WordKind
+unfoldable pub kind_so_far : StatementHead → WordKind
 kind_so_far Blank = kinds.Other
 kind_so_far Begun = kinds.Begin false
 kind_so_far (Open kind) = kind

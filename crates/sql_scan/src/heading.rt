@@ -38,7 +38,7 @@ pub enum Keyword {
 
 /// How much of a statement's first words was read.
 #[derive(Clone, Copy, PartialEq, Eq)]
-pub enum Heading {
+pub enum StatementHead {
     /// Nothing but space and comments.
     Blank,
     /// BEGIN.
@@ -115,59 +115,59 @@ pub fn keyword_of(word: &[u8]) -> Keyword
     }
 }
 
-fn first_heading(keyword: Keyword) -> Heading
+fn first_heading(keyword: Keyword) -> StatementHead
     ensures { result ≡ first_heading keyword }
 {
     match keyword {
-        Keyword::Begin => Heading::Begun,
-        Keyword::Commit => Heading::Open(WordKind::Commit),
-        Keyword::Rollback => Heading::Open(WordKind::Rollback),
-        Keyword::Write => Heading::Settled(WordKind::Write),
-        Keyword::LeftOut => Heading::Settled(WordKind::LeftOut),
-        _ => Heading::Settled(WordKind::Other),
+        Keyword::Begin => StatementHead::Begun,
+        Keyword::Commit => StatementHead::Open(WordKind::Commit),
+        Keyword::Rollback => StatementHead::Open(WordKind::Rollback),
+        Keyword::Write => StatementHead::Settled(WordKind::Write),
+        Keyword::LeftOut => StatementHead::Settled(WordKind::LeftOut),
+        _ => StatementHead::Settled(WordKind::Other),
     }
 }
 
-fn after_begin(keyword: Keyword) -> Heading
+fn after_begin(keyword: Keyword) -> StatementHead
     ensures { result ≡ after_begin keyword }
 {
     match keyword {
-        Keyword::Deferred => Heading::Open(WordKind::Begin { at_once: false }),
-        Keyword::AtOnce => Heading::Open(WordKind::Begin { at_once: true }),
-        Keyword::Transaction => Heading::Full(WordKind::Begin { at_once: false }),
-        _ => Heading::Settled(WordKind::LeftOut),
+        Keyword::Deferred => StatementHead::Open(WordKind::Begin { at_once: false }),
+        Keyword::AtOnce => StatementHead::Open(WordKind::Begin { at_once: true }),
+        Keyword::Transaction => StatementHead::Full(WordKind::Begin { at_once: false }),
+        _ => StatementHead::Settled(WordKind::LeftOut),
     }
 }
 
-impl Heading {
+impl StatementHead {
     /// What the words make so far.
     #[tactic(auto, unfolding(crate::specs::Words::kind_so_far))]
     pub fn kind(self) -> WordKind
         ensures { result ≡ kind_so_far self }
     {
         match self {
-            Heading::Blank => WordKind::Other,
-            Heading::Begun => WordKind::Begin { at_once: false },
-            Heading::Open(kind) => kind,
-            Heading::Full(kind) => kind,
-            Heading::Settled(kind) => kind,
+            StatementHead::Blank => WordKind::Other,
+            StatementHead::Begun => WordKind::Begin { at_once: false },
+            StatementHead::Open(kind) => kind,
+            StatementHead::Full(kind) => kind,
+            StatementHead::Settled(kind) => kind,
         }
     }
 
     /// With one word more, or something that is no word.
     #[tactic(auto, unfolding(crate::specs::Words::followed_by))]
-    pub fn followed_by(self, keyword: Keyword) -> Heading
+    pub fn followed_by(self, keyword: Keyword) -> StatementHead
         ensures { result ≡ followed_by self keyword }
     {
         match self {
-            Heading::Blank => first_heading(keyword),
-            Heading::Begun => after_begin(keyword),
-            Heading::Open(kind) => match keyword {
-                Keyword::Transaction => Heading::Full(kind),
-                _ => Heading::Settled(WordKind::LeftOut),
+            StatementHead::Blank => first_heading(keyword),
+            StatementHead::Begun => after_begin(keyword),
+            StatementHead::Open(kind) => match keyword {
+                Keyword::Transaction => StatementHead::Full(kind),
+                _ => StatementHead::Settled(WordKind::LeftOut),
             },
-            Heading::Full(_) => Heading::Settled(WordKind::LeftOut),
-            Heading::Settled(kind) => Heading::Settled(kind),
+            StatementHead::Full(_) => StatementHead::Settled(WordKind::LeftOut),
+            StatementHead::Settled(kind) => StatementHead::Settled(kind),
         }
     }
 }

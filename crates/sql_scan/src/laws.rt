@@ -1,6 +1,6 @@
 ghost use Rattle.std.specs.Prelude.{◌≡◌, ◌+◌, ℕ, List, [], ◌∷◌, ◌++◌, length, Ok, All, AllPairs, IsUtf8};
 ghost use Rattle.sql_scan.specs.declared.heading.Keyword.{Keyword};
-ghost use Rattle.sql_scan.specs.declared.pieces.Piece.{Piece};
+ghost use Rattle.sql_scan.specs.declared.pieces.StatementSpan.{StatementSpan};
 ghost use Rattle.sql_scan.specs.declared.token.TokenKind.TheVariants.{End};
 ghost use Rattle.sql_scan.specs.Tokens.{Token, tokens_of};
 ghost use Rattle.sql_scan.specs.Grammar.{Cuts, joined};
@@ -24,8 +24,8 @@ pub fn statements_are_of_tokens()
 
 /// The statements of a text stand in it, one behind the other, at places where the text may be cut.
 pub fn statements_stand_in_their_text()
-    ensures places { (text : List ℕ) (pieces : List Piece) → IsUtf8 text → scan_of text ≡ Ok pieces → All (StandsIn text) pieces }
-    ensures order { (text : List ℕ) (pieces : List Piece) → IsUtf8 text → scan_of text ≡ Ok pieces → AllPairs StandsBefore pieces }
+    ensures places { (text : List ℕ) (pieces : List StatementSpan) → IsUtf8 text → scan_of text ≡ Ok pieces → All (StandsIn text) pieces }
+    ensures order { (text : List ℕ) (pieces : List StatementSpan) → IsUtf8 text → scan_of text ≡ Ok pieces → AllPairs StandsBefore pieces }
 {}
 
 /// Reading a statement's words one after the other gives the kind that all of them make: BEGIN may be followed by DEFERRED,

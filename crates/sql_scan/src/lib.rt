@@ -20,5 +20,5 @@ pub use laws::{
     kinds_are_of_all_words, statements_are_of_their_tokens, statements_are_of_tokens,
     statements_stand_in_their_text, texts_are_cut_in_one_way,
 };
-pub use pieces::{Piece, Scan};
+pub use pieces::{Scan, StatementSpan};
 pub use scanner::scan;

@@ -3,7 +3,7 @@ use dq_base::Items;
 
 /// One statement of a text. The places are in bytes.
 #[derive(Clone, Copy, Debug, PartialEq, Eq)]
-pub struct Piece {
+pub struct StatementSpan {
     /// Where it begins.
     pub start: u64,
     /// The place behind its last byte.
@@ -20,5 +20,5 @@ pub struct Piece {
 #[derive(Debug, Drop)]
 pub struct Scan {
     /// One for each `;` and for the text's end, but where nothing but space and comments stands before it.
-    pub statements: Items<Piece>,
+    pub statements: Items<StatementSpan>,
 }

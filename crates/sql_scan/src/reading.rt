@@ -1,30 +1,30 @@
 ghost use Rattle.std.specs.Prelude.{◌≡◌, ◌≤◌, ◌<◌, ◌+◌, ◌++◌, ◌^◌, length, IfOk, OnOk, IfErr, Ok, MatchResult, option_to_list};
 ghost use Rattle.sql_scan.specs.Statements.{is_blank, blank, keyword_in, solid, extended, finished};
 
-use crate::draft::Draft;
+use crate::draft::PartialStatement;
 use crate::fault::ScanFault;
-use crate::heading::{Heading, Keyword, keyword_of};
+use crate::heading::{Keyword, StatementHead, keyword_of};
 use crate::parameters::parameter;
-use crate::pieces::Piece;
+use crate::pieces::StatementSpan;
 use crate::token::TokenKind;
 
 /// Nothing of a statement, at this place.
-pub fn blank(at: u64) -> Draft
+pub fn blank(at: u64) -> PartialStatement
     ensures { result ≡ blank at }
 {
-    Draft {
+    PartialStatement {
         start: at,
         end: at,
         params: 0,
-        heading: Heading::Blank,
+        heading: StatementHead::Blank,
     }
 }
 
-fn is_blank(heading: Heading) -> bool
+fn is_blank(heading: StatementHead) -> bool
     ensures { result ≡ is_blank heading }
 {
     match heading {
-        Heading::Blank => true,
+        StatementHead::Blank => true,
         _ => false,
     }
 }
@@ -40,12 +40,12 @@ fn keyword_in(kind: TokenKind, bytes: &[u8]) -> Keyword
 
 // With a token that is no space.
 #[tactic(auto, unfolding(crate::specs::Statements::solid))]
-fn solid(draft: Draft, at: u64, kind: TokenKind, bytes: &[u8]) -> Draft
+fn solid(draft: PartialStatement, at: u64, kind: TokenKind, bytes: &[u8]) -> PartialStatement
     requires { at + length bytes.now < 2 ^ 64 }
     ensures exact { result ≡ solid draft at kind bytes.now }
     ensures params { result.params ≡ draft.params }
 {
-    Draft {
+    PartialStatement {
         start: if is_blank(draft.heading) {
             at
         } else {
@@ -57,7 +57,11 @@ fn solid(draft: Draft, at: u64, kind: TokenKind, bytes: &[u8]) -> Draft
     }
 }
 
-fn with_parameter(draft: Draft, at: u64, bytes: &[u8]) -> Result<Draft, ScanFault>
+fn with_parameter(
+    draft: PartialStatement,
+    at: u64,
+    bytes: &[u8],
+) -> Result<PartialStatement, ScanFault>
     requires fits { at + length bytes.now < 2 ^ 64 }
     requires numbered { draft.params ≤ 32766 }
     requires some { 0 < length bytes.now }
@@ -66,7 +70,7 @@ fn with_parameter(draft: Draft, at: u64, bytes: &[u8]) -> Result<Draft, ScanFaul
 {
     let with_token = solid(draft, at, TokenKind::Parameter, bytes);
     match parameter(draft.params, &bytes[1..]) {
-        Some(number) => Ok(Draft {
+        Some(number) => Ok(PartialStatement {
             params: draft.params.max(number),
             ..with_token
         }),
@@ -76,7 +80,12 @@ fn with_parameter(draft: Draft, at: u64, bytes: &[u8]) -> Result<Draft, ScanFaul
 
 /// With the token that stands at this place, or the fault that it is. Takes no memory.
 #[tactic(auto, unfolding(crate::specs::Statements::extended))]
-pub fn extended(draft: Draft, at: u64, kind: TokenKind, bytes: &[u8]) -> Result<Draft, ScanFault>
+pub fn extended(
+    draft: PartialStatement,
+    at: u64,
+    kind: TokenKind,
+    bytes: &[u8],
+) -> Result<PartialStatement, ScanFault>
     requires fits { at + length bytes.now < 2 ^ 64 }
     requires numbered { draft.params ≤ 32766 }
     requires some { 0 < length bytes.now }
@@ -95,13 +104,13 @@ pub fn extended(draft: Draft, at: u64, kind: TokenKind, bytes: &[u8]) -> Result<
 
 /// The statement, if there is one, where the rest of the text begins at the place after. Takes no memory.
 #[tactic(auto, unfolding(crate::specs::Statements::finished))]
-pub fn finished(draft: Draft, after: u64) -> Option<Piece>
+pub fn finished(draft: PartialStatement, after: u64) -> Option<StatementSpan>
     ensures { result ≡ finished draft after }
 {
     if is_blank(draft.heading) {
         return None;
     }
-    Some(Piece {
+    Some(StatementSpan {
         start: draft.start,
         end: draft.end,
         word: draft.heading.kind(),

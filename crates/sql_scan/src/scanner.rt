@@ -5,15 +5,15 @@ ghost use Rattle.sql_scan.specs.Tokens.{Token};
 ghost use Rattle.sql_scan.specs.Grammar.{Cuts};
 ghost use Rattle.sql_scan.specs.Places.{StandsIn, StandsBefore};
 
-use crate::draft::Draft;
+use crate::draft::PartialStatement;
 use crate::fault::ScanFault;
-use crate::pieces::{Piece, Scan};
+use crate::pieces::{Scan, StatementSpan};
 use crate::reading::{blank, extended, finished};
 use crate::token::{TokenKind, first_token};
 use dq_base::Items;
 use std::alloc::Global;
 
-fn add(statements: &mut Vec<Piece>, piece: Option<Piece>) -> Result<(), ScanFault>
+fn add(statements: &mut Vec<StatementSpan>, piece: Option<StatementSpan>) -> Result<(), ScanFault>
     ensures ok { OnOk result (statements.new.items ≡ statements.old.items ++ option_to_list piece) }
     ensures memory { IfErr result (λ fault. fault ≡ NoMemory) }
 {
@@ -25,12 +25,12 @@ fn add(statements: &mut Vec<Piece>, piece: Option<Piece>) -> Result<(), ScanFaul
 
 // Takes the token at this place: the statement that it ends, and what there is of the next one then.
 fn advance(
-    statements: &mut Vec<Piece>,
-    draft: Draft,
+    statements: &mut Vec<StatementSpan>,
+    draft: PartialStatement,
     at: u64,
     kind: TokenKind,
     bytes: &[u8],
-) -> Result<Draft, ScanFault>
+) -> Result<PartialStatement, ScanFault>
     requires fits { at + length bytes.now < 2 ^ 64 }
     requires numbered { draft.params ≤ 32766 }
     requires some { 0 < length bytes.now }
@@ -47,7 +47,7 @@ fn advance(
     }
 }
 
-fn statements_of(alloc: Global, bytes: &[u8]) -> Result<Vec<Piece>, ScanFault>
+fn statements_of(alloc: Global, bytes: &[u8]) -> Result<Vec<StatementSpan>, ScanFault>
     ensures exact { Gives (λ statements. statements.items) result (scan_of bytes.now) }
 {
     let mut statements = Vec::new(alloc);

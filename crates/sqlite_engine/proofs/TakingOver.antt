@@ -9,7 +9,7 @@ use Rattle.dq_base.specs.declared.pages.NumberedPage.{NumberedPage}
 use Rattle.dq_base.specs.Applying.{applied}
 use Rattle.dq_base.specs.Changes.{same_image, changed, changed_from, numbers_above_one, sizes_of}
 use Rattle.dq_base.proofs.ChangeLaw.{same_images, changed_is, applied_change}
-use Rattle.record_disk.proofs.TakenPages.{same_change}
+use Rattle.sqlite_files.proofs.TakenPages.{same_change}
 use Rattle.sql_engine.specs.Meanings.{IsShort}
 
 pub nothing_taken : (before after : Image) (pages : List NumberedPage) → length pages ≡ 0 → pages ≡ changed before after → before ≡ after

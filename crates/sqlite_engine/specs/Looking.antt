@@ -5,10 +5,10 @@ use Rattle.dq_base.specs.declared.images.Image.{Image}
 use Rattle.sqlite.specs.Files.{file_state}
 use Rattle.sqlite.specs.Listing.{understood}
 use Rattle.sqlite_schema.specs.declared.schema.Schema.{Schema}
-use Rattle.counts.specs.Counts.{LooksOnly}
+use Rattle.sqlite_read_counts.specs.Counts.{LooksOnly}
 use Rattle.sqlite_resolve.specs.declared.compiled.Compiled.{Compiled}
 use Rattle.sqlite_resolve.specs.declared.error.CompileError.{CompileError}
-use Rattle.sql_engine.specs.declared.answer.Ran.{Ran}
+use Rattle.sql_engine.specs.declared.answer.StatementResult.{StatementResult}
 use Rattle.sqlite_engine.specs.Sql.{Conn, Finds}
 
 -- a text with RETURNING, and one without
@@ -25,7 +25,7 @@ abbrev pub ReturnsNothing : Image → List ℕ → Type 0
 ReturnsNothing image text = (limit : Option ℕ) (c : Conn) → Finds image limit (file_state c) → HasNoReturning (understood (file_state c).now.schema text)
 
 -- a text that shows rows, and has no RETURNING, leaves the image as it is
-abbrev pub LeavesLooked : Image → List ℕ → Ran → Type 0
+abbrev pub LeavesLooked : Image → List ℕ → StatementResult → Type 0
 LeavesLooked image text ran = 0 < length ran.columns → ReturnsNothing image text → ran.after.pages ≡ []
 
 -- each of these texts changes nothing where it shows rows, under this schema

@@ -8,7 +8,7 @@ use Rattle.sqlite.specs.declared.error.ErrorCode.TheVariants as code
 use Rattle.sqlite.specs.declared.file.Leftover.{Leftover}
 use Rattle.sqlite.specs.Files.{image_of, FailsToOpenFiles}
 use Rattle.dq_base.specs.declared.images.Image.{Image}
-use Rattle.record_disk.specs.Recording.{Recorded}
+use Rattle.sqlite_files.specs.Recording.{Recorded}
 use Rattle.sqlite_engine.specs.Sql.{files_of, over_memory}
 
 -- whether an error of an opening is want of memory: over memory a call of a disk fails for it alone

@@ -3,14 +3,14 @@
 ghost use Rattle.std.specs.Prelude.{◌≡◌, false, IsTrue, IfSome};
 ghost use Rattle.sqlite.specs.Files.{file_state};
 
-use crate::connection::{Conn, execute, let_go, query};
-use crate::trail::Write;
+use crate::connection::{Conn, drop_connection, execute, query};
+use crate::image_history::Write;
 use crate::values::bind;
 use sqlite::types::ValueRef;
 use std::alloc::Global;
 
 /// How many steps a statement may take that is run once more: some 20 ms.
-const MOST_STEPS: u64 = 40_000;
+const MAX_STEPS: u64 = 40_000;
 
 /// The connection once these statements have run on it, one behind the other. `None` is that one of them isn't run, or has begun a
 /// transaction.
@@ -23,7 +23,7 @@ pub(crate) fn led_along(alloc: Global, conn: Conn, writes: &[Write]) -> Option<C
     let mut conn = conn;
     for write in writes {
         if !ran_again(alloc, &mut conn, write) {
-            let_go(conn);
+            drop_connection(conn);
             return None;
         }
     }
@@ -36,7 +36,7 @@ fn ran_again(alloc: Global, conn: &mut Conn, write: &Write) -> bool
     ensures open { IsTrue result → IsTrue (file_state conn.new).is_open }
     ensures autocommit { IsTrue result → (file_state conn.new).in_transaction ≡ false }
 {
-    conn.set_step_limit(Some(MOST_STEPS));
+    conn.set_step_limit(Some(MAX_STEPS));
     if !is_run(alloc, conn, write) {
         return false;
     }

@@ -9,14 +9,14 @@ ghost use Rattle.std.specs.List.{All, Contains};
 ghost use Rattle.sql_engine.specs.Known.{MayKnowBeside};
 ghost use Rattle.sqlite_engine.specs.Keeping.{known_in};
 
+use crate::image_history::{ImageHistory, Past};
 use crate::kept::Kept;
 use crate::open_images::{OpenImage, add, has_number, take_numbered};
-use crate::trail::{Past, Trail};
 use dq_base::{Image, ImageNumber};
 use std::alloc::Global;
 
 /// How often a connection follows that no statement wanted meanwhile.
-const MOST_UNASKED: u8 = 8;
+const MAX_UNASKED: u8 = 8;
 
 /// Has the connection that stayed where this one went on from follow it to this image, and keeps it by the image's number. Gives this one.
 pub(crate) fn with_follower(
@@ -43,7 +43,7 @@ fn follow(
     list: &mut Vec<OpenImage>,
     image: &Image,
     number: ImageNumber,
-    trail: &Trail,
+    trail: &ImageHistory,
 )
     ensures { All (MayKnowBeside image.now number (known_in list.old.items)) (known_in list.new.items) }
 {
@@ -55,7 +55,11 @@ fn follow(
 
 /// A connection without how it came to the newest image, which is told beside it; over another image it keeps that. Where it is alone over
 /// its image the statement wants it.
-fn without_trail(one: OpenImage, number: ImageNumber, is_alone: bool) -> (OpenImage, Option<Trail>)
+fn without_trail(
+    one: OpenImage,
+    number: ImageNumber,
+    is_alone: bool,
+) -> (OpenImage, Option<ImageHistory>)
     ensures { result.0.kept ≡ one.kept }
 {
     let OpenImage {
@@ -101,7 +105,7 @@ fn follower(
     alloc: Global,
     list: &mut Vec<OpenImage>,
     image: &Image,
-    trail: &Trail,
+    trail: &ImageHistory,
 ) -> Option<(Kept, Past)>
     ensures over { IfSome result (λ r. r.0.base ≡ image.now) }
     ensures keeps { All (Contains list.old.items) list.new.items }
@@ -118,7 +122,7 @@ fn follower(
 
 /// The past of a connection that follows once more. `None` is that it has followed often with nobody wanting it.
 fn once_more(past: Past) -> Option<Past> {
-    if past.unasked >= MOST_UNASKED {
+    if past.unasked >= MAX_UNASKED {
         return None;
     }
     Some(Past {

@@ -1,11 +1,11 @@
 ghost use Rattle.std.specs.Prelude.{◌≡◌, ◌↔◌, true, false, [], Some, IsTrue, IfOk, IfErr, IfSome, Err};
-ghost use Rattle.counts.specs.Counts.{LooksOnly};
+ghost use Rattle.sqlite_read_counts.specs.Counts.{LooksOnly};
 ghost use Rattle.dq_base.specs.Changes.{changed};
 ghost use Rattle.sql_engine.specs.Meanings.{IsShort};
 ghost use Rattle.sqlite.specs.Files.{file_state};
 ghost use Rattle.sqlite_store.specs.FileStore.{files};
-ghost use Rattle.open_files.specs.Held.{image_in};
-ghost use Rattle.same_pages.specs.Alike.{HoldAlike};
+ghost use Rattle.sqlite_open_files.specs.Held.{image_in};
+ghost use Rattle.sqlite_same_pages.specs.Alike.{HoldAlike};
 ghost use Rattle.sqlite.specs.Listing.{understood};
 ghost use Rattle.sqlite.specs.State.{Executes, FailsToQuery};
 ghost use Rattle.sqlite.specs.Values.{bound};
@@ -17,18 +17,18 @@ ghost use Rattle.sqlite_engine.specs.Settling.{files_beneath, Asked, Settled};
 ghost use Rattle.sqlite_engine.specs.Shows.{showing, FailsSomehow};
 
 use crate::again::led_along;
-use crate::connection::{Conn, OpenFault, close, execute, let_go, open, outline, query};
+use crate::connection::{Conn, OpenFault, close, drop_connection, execute, open, prepare, query};
 use crate::errors::is_of_store;
+use crate::image_history::Write;
 use crate::plan::looks_only;
 use crate::shows::Shows;
 use crate::texts::{has_text, note_text};
-use crate::trail::Write;
 use dq_base::{Bytes, Image, PAGE_SIZE, PageSet, apply};
-use open_files::{connected, held, log_of, main_of};
-use record_disk::changes_between;
-use same_pages::same_pages;
 use sqlite::types::ValueRef;
 use sqlite::{Error, ErrorCode, Row, Statement};
+use sqlite_files::changes_between;
+use sqlite_open_files::{connected, held, log_of, main_of};
+use sqlite_same_pages::same_pages;
 use std::alloc::{AllocError, Global};
 
 /// A connection that is kept open over an image. But for what it has counted, and its limit of steps, it stands to that image as
@@ -50,7 +50,7 @@ impl Drop for Kept {
             conn,
             looking: _,
         } = self;
-        let_go(conn);
+        drop_connection(conn);
     }
 }
 
@@ -191,7 +191,7 @@ impl Kept {
             mut conn,
             looking,
         } = self;
-        match outline(&mut conn, text) {
+        match prepare(&mut conn, text) {
             Ok(statement) => Ok((kept_over(base, conn, looking), statement)),
             Err(error) => Err(Failure {
                 left: left_after(base, conn, looking, error),
@@ -288,10 +288,10 @@ fn settled(alloc: Global, base: Image, conn: Conn, tx: u64) -> Option<(Option<Ke
 
 /// The longest log with which a connection goes on. It keeps the length that its largest commit gave it, and each look at the
 /// files goes through it; a close cuts it.
-const LONGEST_LOG: usize = 32 * PAGE_SIZE;
+const MAX_LOG_LENGTH: usize = 32 * PAGE_SIZE;
 
 fn has_short_log(conn: &Conn) -> bool {
-    log_of(conn).bytes().len() <= LONGEST_LOG
+    log_of(conn).bytes().len() <= MAX_LOG_LENGTH
 }
 
 /// The pages that lead to what the files of a connection are now, and the connection over these files. It has no copy of them
@@ -310,7 +310,7 @@ fn followed(alloc: Global, base: Image, conn: Conn, tx: u64) -> Option<(Option<K
             Some((left, set))
         }
         Err(_) => {
-            let_go(conn);
+            drop_connection(conn);
             None
         }
     }
@@ -340,7 +340,7 @@ fn moved_on(alloc: Global, base: Image, conn: Conn, set: &PageSet) -> Option<Kep
     if takes_over(&mut base, set) {
         Some(kept_anew(alloc, base, conn))
     } else {
-        let_go(conn);
+        drop_connection(conn);
         None
     }
 }
@@ -354,13 +354,13 @@ fn kept_alike(alloc: Global, base: Image, conn: Conn, image: &Image) -> Option<K
     connected(&conn);
     held(&conn);
     if !holds_alike(alloc, &conn, image) {
-        let_go(conn);
+        drop_connection(conn);
         return None;
     }
     match brought_to(alloc, base, image) {
         Some(base) => Some(kept_anew(alloc, base, conn)),
         None => {
-            let_go(conn);
+            drop_connection(conn);
             None
         }
     }
@@ -453,7 +453,7 @@ fn left_after(base: Image, conn: Conn, looking: Vec<Bytes>, error: Error) -> Opt
     ensures { IfSome result (λ left. left.base ≡ base) }
 {
     if is_of_store(error) {
-        let_go(conn);
+        drop_connection(conn);
         None
     } else {
         Some(kept_over(base, conn, looking))

@@ -3,16 +3,16 @@ ghost use Rattle.std.specs.List.{All, Contains, sum_by};
 ghost use Rattle.sql_engine.specs.Known.{Knows, MayKnowBeside};
 ghost use Rattle.sqlite_engine.specs.Keeping.{images_in, known_in, bytes_of, bytes_in, HasRoom};
 
+use crate::image_history::Past;
 use crate::kept::Kept;
-use crate::trail::Past;
 use dq_base::{Image, ImageNumber};
 
 /// The most connections that an engine keeps.
-const MOST_OPEN: usize = 20;
+const MAX_OPEN: usize = 20;
 
 /// The most bytes that the images of the connections have together that an engine keeps, but for the one that was used last. It is as
 /// many as the two longest files of an image have.
-const MOST_OPEN_BYTES: usize = 134_217_728;
+const MAX_OPEN_BYTES: usize = 134_217_728;
 
 /// A connection, and the number that the image has which it is over, where that is known.
 #[derive(Drop)]
@@ -176,7 +176,7 @@ fn has_room(list: &[OpenImage], image: &Image) -> bool
     ensures { IsTrue result → HasRoom list.now image.now }
 {
     match left_beside(list) {
-        Some(left) => list.len() < MOST_OPEN && is_within(left, image),
+        Some(left) => list.len() < MAX_OPEN && is_within(left, image),
         None => false,
     }
 }
@@ -185,7 +185,7 @@ fn has_room(list: &[OpenImage], image: &Image) -> bool
 fn left_beside(list: &[OpenImage]) -> Option<usize>
     ensures { IfSome result (λ left. left + sum_by bytes_in list.now ≡ 134217728) }
 {
-    let mut left = MOST_OPEN_BYTES;
+    let mut left = MAX_OPEN_BYTES;
     for one in list {
         match without(left, &one.kept.base) {
             Some(rest) => left = rest,

@@ -7,10 +7,10 @@ use dq_base::Bytes;
 use std::alloc::Global;
 
 /// How many texts are noted at most.
-const MOST_TEXTS: usize = 16;
+const MAX_TEXTS: usize = 16;
 
 /// The most bytes that a text has which is noted.
-const LONGEST_TEXT: usize = 1_024;
+const MAX_TEXT_LENGTH: usize = 1_024;
 
 /// Whether a text is one of these.
 pub(crate) fn has_text(texts: &[Bytes], text: &str) -> bool
@@ -37,7 +37,7 @@ pub(crate) fn note_text(alloc: Global, texts: &mut Vec<Bytes>, text: &str)
 fn own_text(alloc: Global, text: &str) -> Option<Bytes>
     ensures { IfSome result (λ own. own ≡ text.now) }
 {
-    if text.len() > LONGEST_TEXT {
+    if text.len() > MAX_TEXT_LENGTH {
         return None;
     }
     match Vec::from_slice(alloc, text.as_bytes()) {
@@ -58,7 +58,7 @@ fn add_text(texts: &mut Vec<Bytes>, own: Bytes)
 fn make_room(texts: &mut Vec<Bytes>)
     ensures { All (Contains texts.old.items) texts.new.items }
 {
-    if texts.len() >= MOST_TEXTS {
+    if texts.len() >= MAX_TEXTS {
         let _first = texts.remove(0);
     }
 }

@@ -5,7 +5,7 @@ use Rattle.std.proofs.lemmas.List.Elements.{All-weaker, All-contains}
 use Rattle.dq_base.specs.declared.images.Image.{Image}
 use Rattle.dq_base.specs.declared.image_number.ImageNumber.{ImageNumber}
 use Rattle.dq_base.specs.declared.image_number.ImageNumber.TheVariants.{Newest, Working}
-use Rattle.sql_engine.specs.declared.answer.Ran.{Ran}
+use Rattle.sql_engine.specs.declared.answer.StatementResult.{StatementResult}
 use Rattle.sql_engine.specs.declared.fault.EngineFault.{EngineFault}
 use Rattle.sql_engine.specs.declared.image_numbers.ImageNumbers.{ImageNumbers}
 use Rattle.sql_engine.specs.Known.{Known, Knows, IsBelow, MayRun, MayKnow, MayKnowBeside, was, handed, left}
@@ -33,7 +33,7 @@ may_run newest commits works known told = record {
   after = All-weaker (IsTold newest commits works) (λ (k : Known). IsBelow works k.number) (λ k h. is_below newest commits works k.image k.number h) known told;
 }
 
-pub told_by_run : (newest : Image) (commits works : ℕ) (result : Result Ran EngineFault) (old now : List Known) → AreTold newest commits works old → All (MayKnow newest (numbers_of commits works) result old) now
+pub told_by_run : (newest : Image) (commits works : ℕ) (result : Result StatementResult EngineFault) (old now : List Known) → AreTold newest commits works old → All (MayKnow newest (numbers_of commits works) result old) now
     → AreTold newest commits (works + 1) now
 told_by_run newest commits works result old now told h = All-weaker (MayKnow newest (numbers_of commits works) result old) (IsTold newest commits (works + 1)) go now h
   where

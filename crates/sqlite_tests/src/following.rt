@@ -2,7 +2,7 @@ ghost use Rattle.std.specs.Prelude.{◌+◌, ◌*◌, ◌<◌, IfOk};
 ghost use Rattle.sqlite_tests.specs.Told.{AreTold};
 
 use dq_base::{Image, ImageNumber, apply};
-use sql_engine::{Engine, EngineFault, ImageNumbers, Ran};
+use sql_engine::{Engine, EngineFault, ImageNumbers, StatementResult};
 use sqlite_engine::SqliteEngine;
 use std::alloc::Global;
 use std::test::Fail;
@@ -15,7 +15,7 @@ fn run(
     commits: u64,
     works: u64,
     text: &str,
-) -> Result<Ran, EngineFault>
+) -> Result<StatementResult, EngineFault>
     requires { AreTold newest.now commits works engine.old.known }
     ensures { AreTold newest.now commits (works + 1) engine.new.known }
 {
@@ -40,7 +40,7 @@ fn tell(engine: &mut SqliteEngine, before: &Image, newest: &Image, commits: u64,
 }
 
 /// The integer of an answer with one row of one column, and else 0.
-fn first_integer(ran: &Ran) -> i64 {
+fn first_integer(ran: &StatementResult) -> i64 {
     match ran.rows.as_slice() {
         [row] => match row.values() {
             [Value::Integer(number)] => *number,
@@ -80,7 +80,7 @@ fn counted(
 }
 
 /// An image behind a write.
-fn behind(alloc: Global, image: &Image, ran: &Ran) -> Result<Image, Fail> {
+fn behind(alloc: Global, image: &Image, ran: &StatementResult) -> Result<Image, Fail> {
     let mut image = image.try_clone(alloc)?;
     if !ran.after.pages.is_empty() {
         apply(&mut image, &ran.after)?;

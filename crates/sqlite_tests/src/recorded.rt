@@ -1,6 +1,6 @@
 use dq_base::{Bytes, Image};
-use record_disk::{PairDisk, PairFiles};
 use sqlite_disk::Disk;
+use sqlite_files::{PairDisk, PairFiles};
 use std::alloc::{AllocError, Global};
 use std::io;
 use std::test::Fail;

@@ -1,5 +1,5 @@
 use dq_base::{Bytes, Image, ImageNumber, PageSet, apply};
-use sql_engine::{CellEngine, Engine, EngineFault, ImageNumbers, Ran};
+use sql_engine::{CellEngine, Engine, EngineFault, ImageNumbers, StatementResult};
 use sqlite_engine::{AnyEngine, SqliteEngine};
 use std::alloc::{AllocError, Global};
 use std::test::Fail;
@@ -18,7 +18,7 @@ fn answer<E: Engine>(
     text: &str,
     params: &[Value],
     tx: u64,
-) -> Result<Ran, EngineFault> {
+) -> Result<StatementResult, EngineFault> {
     engine.forget();
     engine.run(image, NUMBERS, text, params, tx, None)
 }
@@ -55,7 +55,7 @@ impl Database {
 }
 
 /// The values of the one row of an answer with an integer and a text.
-fn row_of(ran: &Ran) -> Option<(i64, &str)> {
+fn row_of(ran: &StatementResult) -> Option<(i64, &str)> {
     match ran.rows.as_slice() {
         [row] => match row.values() {
             [Value::Integer(number), Value::Text(text)] => Some((*number, text.as_str())),
@@ -66,7 +66,7 @@ fn row_of(ran: &Ran) -> Option<(i64, &str)> {
 }
 
 /// The name of the first column of an answer.
-fn first_name(ran: &Ran) -> Option<&str> {
+fn first_name(ran: &StatementResult) -> Option<&str> {
     match ran.columns.as_slice() {
         [name, ..] => Some(name.as_str()),
         [] => None,
@@ -127,7 +127,7 @@ fn a_chain_of_writes_opens_once(rt: HostRuntime) -> Result<(), Fail> {
 
 /// The pages that a statement changes.
 fn pages_of(database: &mut Database, text: &str, params: &[Value]) -> Result<PageSet, Fail> {
-    let Ran {
+    let StatementResult {
         after,
         affected: _,
         columns: _,

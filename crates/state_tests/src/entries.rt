@@ -1,10 +1,10 @@
 //! Entries that are applied, one after another.
 
-ghost use Rattle.raft_vote.specs.Servers.{IsConfiguration};
+ghost use Rattle.raft_messages.specs.Servers.{IsConfiguration};
 
+use applied_state::{Applied, AppliedEffect};
 use dq_base::Items;
-use node_state::{Applied, Effect};
-use raft_vote::{Entry, EntryKind, Servers, SharedBytes};
+use raft_messages::{Entry, EntryKind, Servers, SharedBytes};
 use std::alloc::{AllocError, Global};
 use std::test::Fail;
 
@@ -56,11 +56,11 @@ pub(crate) fn entry_of(alloc: Global, kind: EntryKind, bytes: &[u8]) -> Result<E
     })
 }
 
-fn told_of(effect: &Effect) -> Told {
+fn told_of(effect: &AppliedEffect) -> Told {
     match effect {
-        Effect::Committed(_) => Told::Committed,
-        Effect::Configured => Told::Configured,
-        Effect::Other => Told::Unmarked,
+        AppliedEffect::Committed(_) => Told::Committed,
+        AppliedEffect::Configured => Told::Configured,
+        AppliedEffect::Other => Told::Unmarked,
     }
 }
 

@@ -1,10 +1,10 @@
 //! A leader from its barrier on: what it appends, and when it serves.
 
 use crate::entries::{CHECKPOINT, OPEN_DB, applies, entry_of, nobody};
+use applied_state::{Applied, AppliedEffect, Leadership, LeadershipPhase};
 use dq_base::{Items, Name, NumberedPage, Page, PageSet};
-use frame_commands::{can_split, split, write_command};
-use node_state::{Applied, Effect, Office, Phase};
-use raft_vote::EntryKind;
+use log_commands::{can_split, split, write_command};
+use raft_messages::EntryKind;
 use std::alloc::{AllocError, Global};
 use std::test::Fail;
 
@@ -58,24 +58,30 @@ fn after(alloc: Global, pages: u16, commands: usize) -> Option<Applied> {
 }
 
 /// How many entries an office appends when an entry was applied that was none of a kind, and the phase behind it.
-fn appends(alloc: Global, office: &mut Office, applied: &Applied) -> Option<(usize, Phase)> {
-    let entries = office.on_applied(alloc, applied, &Effect::Other, &[]).ok()?;
+fn appends(
+    alloc: Global,
+    office: &mut Leadership,
+    applied: &Applied,
+) -> Option<(usize, LeadershipPhase)> {
+    let entries = office
+        .on_applied(alloc, applied, &AppliedEffect::Other, &[])
+        .ok()?;
     Some((entries.len(), office.phase))
 }
 
 /// What a leader appends at its barrier, where so many commands of a set of 65 pages were applied, of which the last stands
 /// for the barrier or the one before it.
-fn at_barrier(alloc: Global, commands: usize, barrier: u64) -> Option<(usize, Phase)> {
+fn at_barrier(alloc: Global, commands: usize, barrier: u64) -> Option<(usize, LeadershipPhase)> {
     let applied = after(alloc, 64, commands)?;
-    appends(alloc, &mut Office::won(1, barrier), &applied)
+    appends(alloc, &mut Leadership::won(1, barrier), &applied)
 }
 
 /// Commands that were applied, the index of the barrier, how many Undos are appended, and the phase behind it.
-const BARRIERS: &[(usize, u64, usize, Phase)] = &[
-    (0, 1, 0, Phase::Barrier(1)),
-    (1, 1, 1, Phase::Undos(2)),
-    (2, 2, 0, Phase::Serving),
-    (2, 3, 0, Phase::Barrier(3)),
+const BARRIERS: &[(usize, u64, usize, LeadershipPhase)] = &[
+    (0, 1, 0, LeadershipPhase::Barrier(1)),
+    (1, 1, 1, LeadershipPhase::Undos(2)),
+    (2, 2, 0, LeadershipPhase::Serving),
+    (2, 3, 0, LeadershipPhase::Barrier(3)),
 ];
 
 #[test]
@@ -90,11 +96,11 @@ fn a_leader_undoes_what_is_pending(rt: HostRuntime) -> Result<(), Fail> {
 }
 
 /// A leader with pages that are pending at its barrier: the phase once its Undo is applied, and what is pending then.
-fn after_undo(alloc: Global) -> Option<(usize, Phase, Option<u64>)> {
+fn after_undo(alloc: Global) -> Option<(usize, LeadershipPhase, Option<u64>)> {
     let mut applied = after(alloc, 64, 1)?;
-    let mut office = Office::won(1, 1);
+    let mut office = Leadership::won(1, 1);
     let entries = office
-        .on_applied(alloc, &applied, &Effect::Other, &[])
+        .on_applied(alloc, &applied, &AppliedEffect::Other, &[])
         .ok()?;
     let undo = entries.as_slice().first()?;
     applies(alloc, &mut applied, undo.kind, undo.bytes.as_slice())?;
@@ -104,21 +110,24 @@ fn after_undo(alloc: Global) -> Option<(usize, Phase, Option<u64>)> {
 
 #[test]
 fn a_leader_serves_behind_its_undos(rt: HostRuntime) -> Result<(), Fail> {
-    assert_eq!(rt; after_undo(rt.alloc()), Some((0, Phase::Serving, None)));
+    assert_eq!(rt;
+        after_undo(rt.alloc()),
+        Some((0, LeadershipPhase::Serving, None))
+    );
     Ok(())
 }
 
 /// How many entries a serving leader appends behind a commit of so many pages and the sizes page, where this command waits.
 fn behind_commit(alloc: Global, pages: u16, waits: &[u8]) -> Option<usize> {
     let applied = after(alloc, pages, 16)?;
-    let mut office = Office {
+    let mut office = Leadership {
         term: 1,
-        phase: Phase::Serving,
+        phase: LeadershipPhase::Serving,
     };
     let name = Name::new(String::from_str(alloc, "d").ok()?)?;
     let waiting = [entry_of(alloc, EntryKind::Command, waits).ok()?];
     let entries = office
-        .on_applied(alloc, &applied, &Effect::Committed(name), &waiting)
+        .on_applied(alloc, &applied, &AppliedEffect::Committed(name), &waiting)
         .ok()?;
     Some(entries.len())
 }

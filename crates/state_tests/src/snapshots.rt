@@ -1,11 +1,11 @@
 //! A node's snapshot, both ways, and what is no snapshot of a node.
 
 ghost use Rattle.std.specs.Prelude.{IfSome};
-ghost use Rattle.raft_vote.specs.Servers.{IsConfiguration};
+ghost use Rattle.raft_messages.specs.Servers.{IsConfiguration};
 
 use crate::entries::{CHECKPOINT, ONE_VOTER, OPEN_DB, applies, nobody};
-use node_state::Applied;
-use raft_vote::EntryKind;
+use applied_state::Applied;
+use raft_messages::EntryKind;
 use std::alloc::Global;
 use std::test::Fail;
 

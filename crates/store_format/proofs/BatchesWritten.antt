@@ -6,9 +6,9 @@ use Rattle.std.proofs.lemmas.Bool.{cond-true, cond-false, le-ltb, lt-ltb}
 use Rattle.std.proofs.lemmas.List.{append-nil, take_at, drop_at, take_all}
 use Rattle.wire_words.specs.Items.{word}
 use Rattle.wire_words.specs.Reading.{Unread, unread}
-use Rattle.raft_vote.specs.Entries.{heads_at, heads_bytes, contents_bytes}
+use Rattle.raft_messages.specs.Entries.{heads_at, heads_bytes, contents_bytes}
 use Rattle.wire_words.proofs.Passing.{Passed, between, passed_first, passed_second, word_stood}
-use Rattle.raft_vote.proofs.EntryLaws.{heads_of, heads_are, heads_fit, as_many, heads_stood, contents_stood}
+use Rattle.raft_messages.proofs.EntryLaws.{heads_of, heads_are, heads_fit, as_many, heads_stood, contents_stood}
 use Rattle.store_laws.specs.Store.{Log, is_whole, torn}
 use Rattle.store_format.specs.Sums.{sum8_of}
 use Rattle.store_format.specs.Words.{format_in}

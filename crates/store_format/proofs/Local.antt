@@ -4,15 +4,15 @@ use Rattle.std.specs.List.{list_all}
 use Rattle.std.proofs.lemmas.Bool.{ltb-false, le-ltb}
 use Rattle.std.proofs.lemmas.List.{take-append-drop, take-append-le, drop-append-le, length-take-le, drop-drop, drop_at, take_at, drop-take}
 use Rattle.byteorder.specs.Endian.{little_number}
-use Rattle.raft_rules.specs.Log.{Entry}
+use Rattle.raft_spec.specs.Log.{Entry}
 use Rattle.wire_words.specs.declared.fault.WordFault.{WordFault}
 use Rattle.wire_words.specs.declared.fault.WordFault.TheVariants.{Short, Pad}
 use Rattle.wire_words.specs.Items.{gap, is_zero}
 use Rattle.wire_words.specs.Reading.{◌>>=◌, Unread, past, word_at, pair_at, raw_at, are_zeros}
 use Rattle.wire_words.proofs.ReadBack.{refused_not, passed, ok_is, bind_ok, same_unread, take_parts}
-use Rattle.raft_vote.specs.declared.entries.EntryHead.{EntryHead}
-use Rattle.raft_vote.specs.Kinds.{kind_value, kind_with}
-use Rattle.raft_vote.specs.Entries.{known_kind, head_at, heads_at, entry_at, contents_at}
+use Rattle.raft_messages.specs.declared.entries.EntryHead.{EntryHead}
+use Rattle.raft_messages.specs.Kinds.{kind_value, kind_with}
+use Rattle.raft_messages.specs.Entries.{known_kind, head_at, heads_at, entry_at, contents_at}
 use Rattle.store_format.specs.declared.batch_reading.Body.{Body}
 use Rattle.store_format.specs.Batches.{body_at}
 use Rattle.store_format.proofs.Places.{little_front}

@@ -2,7 +2,7 @@
 use Rattle.std.proofs.Common.{◌≡◌, ℕ, ◌-◌, ◌≤◌, ◌<◌, Bool, List, length, take, drop, length-drop, Option, Some, None, sym, ap, ◌∙◌, subst, arith}
 use Rattle.std.proofs.lemmas.Bool.{cond-true, cond-false, lt-ltb, le-ltb}
 use Rattle.std.proofs.lemmas.List.{length-take-le}
-use Rattle.raft_vote.specs.declared.message.Snapshot.{Snapshot}
+use Rattle.raft_messages.specs.declared.message.Snapshot.{Snapshot}
 use Rattle.store_laws.specs.Store.{Meta, Snap, Log, no_snap}
 use Rattle.store_laws.specs.WholeLoad.{is_stale}
 use Rattle.store_format.specs.Snapshots.{size_in, snap_of, snap_of_found, IsNewer}

@@ -5,7 +5,7 @@ use Rattle.std.specs.Str.{bytes_eq}
 use Rattle.std.proofs.lemmas.Bool.{cases_Bool, cases_eq, cond-true, cond-false, and_parts, ltb-true}
 use Rattle.wire_words.specs.declared.fault.WordFault.{WordFault}
 use Rattle.wire_words.specs.Reading.{Unread, unread}
-use Rattle.raft_rules.specs.Log.{Entry}
+use Rattle.raft_spec.specs.Log.{Entry}
 use Rattle.store_laws.specs.Names.{NodeFiles}
 use Rattle.store_laws.specs.Store.{Read, Log, empty_log, put_batch, log_of, batches, batches_in, all_batches, opens, reader, segments}
 use Rattle.store_laws.specs.Settled.{file_log}

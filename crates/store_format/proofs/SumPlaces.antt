@@ -2,8 +2,8 @@
 use Rattle.std.proofs.Common.{◌≡◌, ℕ, ◌+◌, ◌*◌, ◌-◌, ◌≤◌, ◌<◌, List, [], ◌∷◌, ◌++◌, length, take, drop, get_or, refl, sym, ap, ◌∙◌, arith, append_assoc, length-append, length-drop}
 use Rattle.std.proofs.lemmas.List.{append-nil, take_at, drop_at, drop-append-le, take_all, drop_all, drop-drop, take_more, length-replicate}
 use Rattle.wire_words.specs.Items.{word, raw, gap, zeros_after}
-use Rattle.raft_rules.specs.Log.{Entry}
-use Rattle.raft_vote.specs.Entries.{heads_bytes, contents_bytes}
+use Rattle.raft_spec.specs.Log.{Entry}
+use Rattle.raft_messages.specs.Entries.{heads_bytes, contents_bytes}
 use Rattle.store_laws.specs.Store.{Log}
 use Rattle.store_format.specs.Sums.{sum8_of}
 use Rattle.store_format.specs.Batches.{numbers_bytes, header_bytes, with_sums, batch_bytes}

@@ -1,7 +1,7 @@
 -- The term of an entry at a place.
 use Rattle.std.proofs.Common.{◌≡◌, ℕ, zero, suc, ◌<◌, List, [], ◌∷◌, length, refl, arith}
 use Rattle.std.specs.Prelude.{slice_index_or}
-use Rattle.raft_rules.specs.Log.{Entry}
+use Rattle.raft_spec.specs.Log.{Entry}
 use Rattle.store_laws.specs.Store.{nth_term}
 
 pub nth_entry : (es : List Entry) (k : ℕ) (e : Entry) → k < length es → nth_term es k ≡ (slice_index_or es k e).term

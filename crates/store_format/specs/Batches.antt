@@ -6,7 +6,7 @@ use Rattle.byteorder.specs.Endian.{little_bytes}
 use Rattle.wire_words.specs.declared.fault.WordFault.{WordFault}
 use Rattle.wire_words.specs.Items.{word}
 use Rattle.wire_words.specs.Reading.{◌>>=◌, Unread, unread, word_at}
-use Rattle.raft_vote.specs.Entries.{heads_at, contents_at, heads_bytes, contents_bytes}
+use Rattle.raft_messages.specs.Entries.{heads_at, contents_at, heads_bytes, contents_bytes}
 use Rattle.store_laws.specs.Store.{Log, Read, Reader}
 use Rattle.store_format.specs.Sums.{crc32_of, sum8_of}
 use Rattle.store_format.specs.declared.batch_reading.Body.{Body}

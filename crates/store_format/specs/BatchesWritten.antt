@@ -1,7 +1,7 @@
 -- A batch that is written reads back.
 use Rattle.std.specs.Prelude.{ℕ, ◌<◌, ◌^◌, List, length}
 use Rattle.wire_words.specs.Items.{word}
-use Rattle.raft_vote.specs.Entries.{HaveHeads}
+use Rattle.raft_messages.specs.Entries.{HaveHeads}
 use Rattle.store_laws.specs.Store.{Log}
 use Rattle.store_laws.specs.Append.{Writes}
 use Rattle.store_format.specs.Batches.{batch_bytes}

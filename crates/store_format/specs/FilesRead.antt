@@ -1,6 +1,6 @@
 -- What is read of all files of a node, and what they stand for by it.
 use Rattle.std.specs.Prelude.{◌≡◌, ◌<◌, suc, Bool, true, cond, ◌&&◌, ◌==◌, nat_lt, Option, Some, None, is_some, Result, Ok, Err}
-use Rattle.raft_vote.specs.declared.message.Snapshot.{Snapshot as SnapshotOf}
+use Rattle.raft_messages.specs.declared.message.Snapshot.{Snapshot as SnapshotOf}
 use Rattle.store_laws.specs.Store.{Meta, Snap, no_meta, no_snap, newest, Kept, Outcome, Loaded, Damaged, NoMeta, Gap, behind}
 use Rattle.store_format.specs.SegmentLog.{SegmentsRead, none_read}
 use Rattle.store_format.specs.declared.segment_log.Damage.{Damage as DamageOf}

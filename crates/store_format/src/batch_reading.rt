@@ -7,7 +7,7 @@ ghost use Rattle.store_format.specs.Batches.{sum_size, sums_size, batch_sum, bod
 use crate::sums::{crc32, sum8};
 use byteorder::{ByteOrder, LittleEndian};
 use dq_base::Items;
-use raft_vote::{Entries, read_entry_contents, read_entry_heads};
+use raft_messages::{Entries, read_entry_contents, read_entry_heads};
 use std::alloc::{AllocError, Global};
 use wire_words::{WordFault, Words};
 

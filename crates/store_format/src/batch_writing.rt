@@ -1,10 +1,10 @@
 ghost use Rattle.std.specs.Prelude.{◌≡◌, ◌<◌, ◌^◌, ◌≤◌, ◌+◌, ◌*◌, ◌++◌, min, length, take, drop, IfOk};
-ghost use Rattle.raft_vote.specs.Entries.{contents_bytes, HaveHeads};
+ghost use Rattle.raft_messages.specs.Entries.{contents_bytes, HaveHeads};
 ghost use Rattle.store_format.specs.Sums.{sum8_of};
 ghost use Rattle.store_format.specs.Batches.{numbers_bytes, header_bytes, with_sums, batch_bytes};
 
 use crate::sums::sum8;
-use raft_vote::{Entry, write_entry_contents, write_entry_heads};
+use raft_messages::{Entry, write_entry_contents, write_entry_heads};
 use std::alloc::{AllocError, Global};
 use wire_words::Writer;
 

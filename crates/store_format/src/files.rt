@@ -14,7 +14,7 @@ use crate::kept::Kept;
 use crate::metadata::{Metadata, read_metadata};
 use crate::segment_log::{LastSegment, SegmentLog};
 use crate::snapshot::read_snapshot;
-use raft_vote::{SharedBytes, Snapshot};
+use raft_messages::{SharedBytes, Snapshot};
 use std::alloc::{AllocError, Global};
 use std::marker::Model;
 use wire_words::WireBytes;

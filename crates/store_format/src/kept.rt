@@ -1,4 +1,4 @@
-use raft_vote::{Entries, Snapshot};
+use raft_messages::{Entries, Snapshot};
 use std::marker::Model;
 
 /// What a node has kept.

@@ -2,7 +2,7 @@ ghost use Rattle.std.specs.Prelude.{◌≡◌, ◌≤◌, ◌<◌, ◌+◌, ◌-
 ghost use Rattle.store_laws.specs.Store.{empty_log, put_batch, behind, nth_term};
 ghost use Rattle.store_laws.specs.WholeLoad.{is_stale};
 
-use raft_vote::{Entries, Entry};
+use raft_messages::{Entries, Entry};
 use std::alloc::{AllocError, Global};
 use std::marker::Model;
 

@@ -3,7 +3,7 @@ use Rattle.std.proofs.Common.{◌≡◌, inl, inr, ℕ, zero, suc, ◌+◌, ◌-
 use Rattle.std.specs.Prelude.{◌==◌, ◌&&◌, nat_le, nat_lt}
 use Rattle.std.proofs.lemmas.List.{length-take-le}
 use Rattle.std.proofs.lemmas.Bool.{cases_Bool, cond-true, cond-false, cases_lt, and_parts, ltb-true, ltb-false, leb-true, leb-false}
-use Rattle.raft_rules.specs.Log.{Entry}
+use Rattle.raft_spec.specs.Log.{Entry}
 use Rattle.store_laws.specs.Store.{Log, Snap, put_batch, behind, nth_term, log_of}
 use Rattle.store_laws.specs.Append.{wanted, Takes}
 use Rattle.store_laws.specs.Settled.{Steady, fits, ends_before}

@@ -3,7 +3,7 @@ use Rattle.std.proofs.Common.{◌≡◌, inl, inr, ℕ, suc, ◌+◌, ◌-◌, �
 use Rattle.std.specs.Prelude.{◌==◌}
 use Rattle.std.proofs.lemmas.Bool.{cases_Bool, cases_lt}
 use Rattle.std.proofs.lemmas.List.{take-append-drop}
-use Rattle.raft_rules.specs.Log.{Entry}
+use Rattle.raft_spec.specs.Log.{Entry}
 use Rattle.store_laws.specs.Store.{Log, Snap, put_batch, behind, nth_term, log_of, empty_log}
 use Rattle.store_laws.specs.Settled.{Steady, fits, ends_before}
 use Rattle.store_laws.specs.Snapshots.{Longer, Stays, part, nothing, Left, given, earlier, SnapshotLog}

@@ -1,6 +1,6 @@
 -- What the files of a node stand for.
 use Rattle.std.specs.Prelude.{ℕ, zero, suc, ◌+◌, ◌-◌, Bool, true, false, cond, ◌&&◌, ◌==◌, nat_le, nat_lt, List, [], ◌∷◌, ◌++◌, length, take, drop}
-use Rattle.raft_rules.specs.Log.{Entry}
+use Rattle.raft_spec.specs.Log.{Entry}
 use Rattle.store_laws.specs.Names.{First, Second, Segment, Snapshot, NodeFiles}
 use Rattle.disk_model.specs.Disk.{Found}
 

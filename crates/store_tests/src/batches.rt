@@ -1,5 +1,5 @@
 use dq_base::Items;
-use raft_vote::{Entry, EntryKind, SharedBytes};
+use raft_messages::{Entry, EntryKind, SharedBytes};
 use std::alloc::{AllocError, Global};
 use std::test::Fail;
 use store_format::{batch_bytes, read_batch};

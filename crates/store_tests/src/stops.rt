@@ -1,6 +1,6 @@
 use disk_model::{Disk, MemDisk, Stop};
 use dq_base::Items;
-use raft_vote::{Entry, EntryKind, SharedBytes, Snapshot};
+use raft_messages::{Entry, EntryKind, SharedBytes, Snapshot};
 use segment_store::Store;
 use std::alloc::Global;
 use store_format::Kept;

@@ -2,7 +2,7 @@
 use Rattle.std.proofs.Common.{◌≡◌, ◌+◌, ◌≤◌, ℕ, List, length, Ok, Err, ap, ◌∙◌, arith}
 use Rattle.dq_base.specs.declared.faults.Failed.{Failed}
 use Rattle.dq_base.specs.Faults.{one_more, last_count}
-use Rattle.dq_client.specs.Net.{Dials, Writes, Reads}
+use Rattle.client.specs.Net.{Dials, Writes, Reads}
 use Rattle.tcp_dialer.specs.Untold.{Counts, net_of}
 
 -- one more call that failed, and one more dial

@@ -1,6 +1,6 @@
 -- A dialer that tells its counts and not its calls.
 use Rattle.std.specs.Prelude.{ℕ, None}
-use Rattle.dq_client.specs.Net.{Net}
+use Rattle.client.specs.Net.{Net}
 
 -- how often a call failed, an address was dialled, and one could not be
 pub record Counts : Type 0 where

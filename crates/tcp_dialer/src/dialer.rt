@@ -3,8 +3,8 @@ ghost use Rattle.dq_base.specs.Faults.{one_more, last_count};
 ghost use Rattle.tcp_dialer.specs.Untold.{net_of};
 
 use crate::link::{connect, read_some, write_whole};
+use client::Dialer;
 use dq_base::Failed;
-use dq_client::Dialer;
 use std::io;
 use std::io::ErrorKind;
 use std::marker::Model;

@@ -6,7 +6,7 @@ ghost use Rattle.wire_rows.specs.Answering.{held};
 
 use crate::row::Row;
 use crate::sizes::{head_size, row_size, with_rows};
-use crate::writing::PART_LIMIT;
+use crate::writing::MAX_PART_BYTES;
 use wire_words::WireText;
 
 /// The columns of an answer, and how many bytes their number and their names have in the body of each part.
@@ -38,7 +38,7 @@ impl<'a> Columns<'a> {
         let mut size = self.head_size.saturating_add(END_SIZE);
         for (count, row) in rows.iter().enumerate() {
             size = size.saturating_add(row_size(row.values()));
-            if size > PART_LIMIT {
+            if size > MAX_PART_BYTES {
                 return count.max(1);
             }
         }

@@ -20,4 +20,4 @@ pub use laws::{end_words_begin_no_row, parts_read_back, parts_take_all_rows};
 pub use part::{More, Part};
 pub use reading::read_part;
 pub use row::Row;
-pub use writing::{ANSWER_LIMIT, PART_LIMIT, parts};
+pub use writing::{MAX_ANSWER_BYTES, MAX_PART_BYTES, parts};

@@ -16,10 +16,10 @@ use std::alloc::{AllocError, Global};
 use wire_words::{WireBytes, WireText, Writer};
 
 /// How many bytes the body of a part may have, unless it has one row alone.
-pub const PART_LIMIT: u64 = 65_536;
+pub const MAX_PART_BYTES: u64 = 65_536;
 
 /// How many bytes all bodies of an answer may have together.
-pub const ANSWER_LIMIT: u64 = 16_777_216;
+pub const MAX_ANSWER_BYTES: u64 = 16_777_216;
 
 /// The end word as a number.
 fn end_number(more: More) -> u64
@@ -125,7 +125,7 @@ pub fn parts(alloc: Global, columns: &[WireText], rows: &[Row]) -> Result<Vec<Wi
     }
     let columns = Columns::new(columns);
     let size = columns.total_size(rows);
-    if size > ANSWER_LIMIT {
+    if size > MAX_ANSWER_BYTES {
         return Err(RowFault::TooBig(size));
     }
     let parts = all_bodies(alloc, &columns, rows)?;

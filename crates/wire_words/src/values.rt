@@ -153,7 +153,7 @@ impl<'a> Words<'a> {
         requires { width + count < 2 ^ 64 }
         ensures { Gives (λ values. values.items) (tuple_with width count) self.old self.new result }
     {
-        let mut ahead = self.ahead();
+        let mut ahead = self.fork();
         let types = tuple_head(alloc, &mut ahead, width, count)?;
         let values = values_of(alloc, &mut ahead, Dialect::Client, &types)?;
         *self = ahead;
@@ -177,7 +177,7 @@ impl<'a> Words<'a> {
     fn blob_value(&mut self, alloc: Global, dialect: Dialect) -> Result<Value, WordFault>
         ensures { Gives (λ value. value) (blob_value_at dialect) self.old self.new result }
     {
-        let mut ahead = self.ahead();
+        let mut ahead = self.fork();
         let bytes = Vec::from_slice(alloc, ahead.blob_in(dialect)?)?;
         *self = ahead;
         Ok(Value::Blob(WireBytes::new(bytes)))
@@ -187,7 +187,7 @@ impl<'a> Words<'a> {
         ensures { Gives (λ value. value) null_at self.old self.new result }
     {
         let at = self.place();
-        let mut ahead = self.ahead();
+        let mut ahead = self.fork();
         if ahead.u64()? != 0 {
             return Err(WordFault::Pad(at));
         }
@@ -226,7 +226,7 @@ impl<'a> Words<'a> {
     ) -> Result<Vec<Value>, WordFault>
         ensures { Gives (λ values. values.items) (values_at dialect types.now) self.old self.new result }
     {
-        let mut ahead = self.ahead();
+        let mut ahead = self.fork();
         let values = values_of(alloc, &mut ahead, dialect, types)?;
         *self = ahead;
         Ok(values)
@@ -269,7 +269,7 @@ impl<'a> Words<'a> {
     pub fn row(&mut self, alloc: Global, count: u64) -> Result<Vec<Value>, WordFault>
         ensures { Gives (λ values. values.items) (row_at count) self.old self.new result }
     {
-        let mut ahead = self.ahead();
+        let mut ahead = self.fork();
         let types = row_head(alloc, &mut ahead, count)?;
         let values = values_of(alloc, &mut ahead, Dialect::Exact, &types)?;
         *self = ahead;

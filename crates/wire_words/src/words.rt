@@ -143,7 +143,7 @@ impl<'a> Words<'a> {
     }
 
     // A second reader at the same place.
-    pub(crate) fn ahead(&self) -> Words<'a>
+    pub(crate) fn fork(&self) -> Words<'a>
         ensures { result ≡ self.now }
     {
         Words {
@@ -200,7 +200,7 @@ impl<'a> Words<'a> {
         ensures size { IfOk result (λ bytes. length bytes ≡ size) }
         ensures memory { IsErrOf result WordFault.NoMemory → IsOk (raw_at size self.old) }
     {
-        let mut ahead = self.ahead();
+        let mut ahead = self.fork();
         let bytes = Vec::from_slice(alloc, ahead.raw_slice(size)?)?;
         *self = ahead;
         Ok(WireBytes::new(bytes))
@@ -237,7 +237,7 @@ impl<'a> Words<'a> {
         ensures exact { Gives (λ text. text) text_at self.old self.new result }
         ensures memory { IsErrOf result WordFault.NoMemory → IsOk (text_at self.old) }
     {
-        let mut ahead = self.ahead();
+        let mut ahead = self.fork();
         let text = String::from_str(alloc, ahead.text_str()?)?;
         *self = ahead;
         Ok(WireText::new(text))
@@ -250,7 +250,7 @@ impl<'a> Words<'a> {
         ensures memory { IsErrOf result WordFault.NoMemory → ⊥ }
     {
         let at = self.place();
-        let mut ahead = self.ahead();
+        let mut ahead = self.fork();
         let size = ahead.u64()?;
         let bytes = ahead.filled_slice(dialect, at, size)?;
         *self = ahead;
@@ -272,7 +272,7 @@ impl<'a> Words<'a> {
         ensures exact { Gives (λ bytes. bytes) (blob_at Dialect.Exact) self.old self.new result }
         ensures memory { IsErrOf result WordFault.NoMemory → IsOk (blob_at Dialect.Exact self.old) }
     {
-        let mut ahead = self.ahead();
+        let mut ahead = self.fork();
         let bytes = Vec::from_slice(alloc, ahead.blob_slice()?)?;
         *self = ahead;
         Ok(WireBytes::new(bytes))

@@ -1,7 +1,7 @@
 use Rattle.std.proofs.Common.{[], refl}
-use Rattle.gateway.specs.Seen.{seen}
+use Rattle.session_gateway.specs.Seen.{seen}
 use Rattle.client_sessions.proofs.Resuming.{done_sends, done_sound}
-use Rattle.session_rules.specs.Sessions.{lent_query}
+use Rattle.session_spec.specs.Sessions.{lent_query}
 use Rattle.client_sessions.proofs.Idle.{done_closed}
 use Rattle.client_sessions.proofs.Writable.{read_sent}
 use Rattle.client_sessions.proofs.answering.finish.Goals as goal

@@ -1,5 +1,5 @@
 use Rattle.std.proofs.Common.{refl}
-use Rattle.gateway.specs.Seen.{seen}
+use Rattle.session_gateway.specs.Seen.{seen}
 use Rattle.client_sessions.proofs.Resuming.{later_opened, resumed_sends, resumed_sound}
 use Rattle.client_sessions.proofs.Idle.{resumed_closed}
 use Rattle.client_sessions.proofs.answering.resume.Goals as goal

@@ -1,4 +1,4 @@
-use Rattle.gateway.proofs.Numbering.{acted_agree}
+use Rattle.session_gateway.proofs.Numbering.{acted_agree}
 use Rattle.client_sessions.proofs.Standing.{clients_stay, still_stand}
 use Rattle.client_sessions.proofs.laws.commands_keep_clients.Goals as goal
 

@@ -1,5 +1,5 @@
 use Rattle.std.proofs.Common.{ap}
-use Rattle.dir_check.specs.declared.ends.CheckEnd.TheVariants as ends
+use Rattle.folder_check.specs.declared.ends.CheckEnd.TheVariants as ends
 use Rattle.dqnode.proofs.Telling.{all_told, cut_told, disk_failed, no_room, damaged, no_snapshot, fault_told}
 use Rattle.dqnode.proofs.checks.tell.Goals as goal
 

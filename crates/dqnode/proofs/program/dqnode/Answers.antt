@@ -1,5 +1,5 @@
 use Rattle.std.proofs.Common.{◌⊎◌, inl, Option, ◌∙◌, sym, subst}
-use Rattle.program_words.specs.declared.asked.Asked.{Asked}
+use Rattle.arguments.specs.declared.invocation.Invocation.{Invocation}
 use Rattle.script_runner.proofs.Agreement.{keeps_alike}
 use Rattle.dqnode.specs.Asks.{IsScript, IsRun, IsStatement, IsCheck, IsServed}
 use Rattle.cell_scripts.proofs.Deciding.{cells_broken, cells_compare}
@@ -21,18 +21,18 @@ pub returns-in-Ok-clause-made : goal.returns-in-Ok-clause-made
 returns-in-Ok-clause-made g c = λ number writes asked. c.run.ensures.made number writes (c.in-Ok.ensures.asked ∙ asked)
 
 pub returns-in-Ok-clause-faulty : goal.returns-in-Ok-clause-faulty
-returns-in-Ok-clause-faulty g c = λ e. subst (λ (a : Option Asked). IsScript a ⊎ IsRun a) c.in-Ok.ensures.asked (c.run.ensures.faulty e)
+returns-in-Ok-clause-faulty g c = λ e. subst (λ (a : Option Invocation). IsScript a ⊎ IsRun a) c.in-Ok.ensures.asked (c.run.ensures.faulty e)
 
 pub returns-in-Ok-clause-dialer : goal.returns-in-Ok-clause-dialer
 returns-in-Ok-clause-dialer g c = λ other. c.run.ensures.dialer (λ (s : IsStatement c.in-Ok.asked). other (subst IsStatement c.in-Ok.ensures.asked s))
 
 pub returns-in-Ok-clause-of_check : goal.returns-in-Ok-clause-of_check
-returns-in-Ok-clause-of_check g c = λ e. subst (λ (a : Option Asked). IsCheck a ⊎ IsServed a) c.in-Ok.ensures.asked (c.run.ensures.of_check e)
+returns-in-Ok-clause-of_check g c = λ e. subst (λ (a : Option Invocation). IsCheck a ⊎ IsServed a) c.in-Ok.ensures.asked (c.run.ensures.of_check e)
 
 pub returns-in-Ok-clause-disk_fault : goal.returns-in-Ok-clause-disk_fault
 returns-in-Ok-clause-disk_fault g c = λ e.
     let fault = c.run.ensures.disk_fault e in
-    (subst (λ (a : Option Asked). IsCheck a ⊎ IsServed a) c.in-Ok.ensures.asked fault.0, fault.1)
+    (subst (λ (a : Option Invocation). IsCheck a ⊎ IsServed a) c.in-Ok.ensures.asked fault.0, fault.1)
 
 pub returns-in-Ok-clause-disk : goal.returns-in-Ok-clause-disk
 returns-in-Ok-clause-disk g c = λ checks serves. c.run.ensures.disk (λ (s : IsCheck c.in-Ok.asked). checks (subst IsCheck c.in-Ok.ensures.asked s))

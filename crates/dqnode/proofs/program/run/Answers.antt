@@ -1,12 +1,12 @@
 use Rattle.std.proofs.Common.{◌≡◌, ◌⊎◌, inl, inr, true, Some, None, sym, ap, subst, ◌∙◌}
 use Rattle.dq_base.specs.Faults.{Rose}
-use Rattle.program_words.specs.declared.asked.Asked.TheVariants as asks
+use Rattle.arguments.specs.declared.invocation.Invocation.TheVariants as asks
 use Rattle.dqnode.specs.declared.status.Status.{Status}
 use Rattle.dqnode.specs.Status.{status_code, IsScriptCode, IsStatementCode, IsCheckCode}
-use Rattle.node_service.specs.Rules.{GoesWell}
+use Rattle.serve_node.specs.Rules.{GoesWell}
 use Rattle.dqnode.specs.Checks.{CheckEnds}
 use Rattle.dqnode.specs.Generating.{RunEnds}
-use Rattle.dqnode.specs.Serving.{ServedBy}
+use Rattle.dqnode.specs.Serving.{WasServed}
 use Rattle.dqnode.proofs.Asked.{statement_code}
 use Rattle.dqnode.proofs.Generated.{generated_code, made_code, made_by}
 use Rattle.dqnode.proofs.ServeEnds.{statement_not_three, check_not_three, serve_not_three, words_not_three, generated_not_three, made_not_three, read_status, script_not_eight, statement_not_eight, words_not_eight, script_not_ten, statement_not_ten, check_not_ten, words_not_ten, script_not_six, statement_not_six, check_not_six, words_not_six, script_not_five, statement_not_five, words_not_five, host_status, disk_status, moved, served_for}
@@ -72,7 +72,7 @@ returns-clause-serves g c = λ served asked. elim c.match-asked.branch [
   | in-Some-Generate-default-default-true w ↦ let bad : Some (asks.Generate _ _ _) ≡ Some (asks.Serve served) = sym (w.in-Some-Generate-default-default-true.is ∙ ap Some w.in-Some-Generate-default-default-true.field-0-is) ∙ asked in absurd cc
   | in-Some-Serve w ↦ served_for _ _ _ _ w.in-Some-Serve.words _ _ _ _ _ _
       (moved _ _ _ _ _ _ _ w.disk-is w.network-is w.status-is c.code.ensures
-      (λ disk network code. ServedBy g.D.Disk.tells g.D.Disk.states g.D.Disk.faults g.H.Host.done w.in-Some-Serve.words c.args.network.now.host c.args.disk.now disk
+      (λ disk network code. WasServed g.D.Disk.tells g.D.Disk.states g.D.Disk.faults g.H.Host.done w.in-Some-Serve.words c.args.network.now.host c.args.disk.now disk
       (record { left = g.H.Inbox.left c.args.network.now.host; count = g.H.Inbox.taken c.args.network.now.host })
       (record { left = g.H.Inbox.left network.host; count = g.H.Inbox.taken network.host }) code)
       w.serve_node-status.ensures.served)

@@ -1,7 +1,7 @@
 use Rattle.std.proofs.Common.{None, ap, subst}
 use Rattle.sql_engine.specs.declared.kind.EngineKind.{EngineKind}
 use Rattle.sqlite_engine.specs.Any.{any_meaning}
-use Rattle.node_service.specs.Rules.{IsRunOfRules}
+use Rattle.serve_node.specs.Rules.{IsRunOfRules}
 use Rattle.dqnode.specs.Status.{status_code}
 use Rattle.dqnode.proofs.ServeEnds.{serve_code, end_disk, end_host, end_spent, well_code}
 use Rattle.dqnode.proofs.serving.serve_node.Goals as goal

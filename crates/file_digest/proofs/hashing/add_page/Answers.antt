@@ -2,7 +2,7 @@ use Rattle.std.proofs.Common.{◌≡◌, ℕ, ◌++◌, ◌*◌, ◌<◌, List, 
 use Rattle.std.specs.Option.{IsSome}
 use Rattle.sha2.specs.Hashers.{Holds256}
 use Rattle.dq_base.specs.Images.{page_at, page_from}
-use Rattle.checkpoint_core.specs.Store.{newest_image}
+use Rattle.page_store.specs.Store.{newest_image}
 use Rattle.file_digest.specs.Pages.{bytes_of}
 use Rattle.file_digest.proofs.FilePages.{page_is, first_bytes}
 use Rattle.file_digest.proofs.hashing.add_page.Goals as goal

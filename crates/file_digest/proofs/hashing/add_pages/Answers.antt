@@ -1,7 +1,7 @@
 use Rattle.std.proofs.Common.{◌≡◌, ℕ, ◌++◌, ◌*◌, ◌+◌, ◌-◌, ◌<◌, ◌≤◌, min, List, take, drop, length, ap, subst, ◌∙◌, append_assoc, arith}
 use Rattle.std.specs.Int.{div_ceil}
 use Rattle.sha2.specs.Hashers.{Holds256}
-use Rattle.checkpoint_core.specs.Store.{newest_image}
+use Rattle.page_store.specs.Store.{newest_image}
 use Rattle.file_digest.specs.Pages.{bytes_of}
 use Rattle.file_digest.proofs.FilePages.{page_in, pages_past, page_more, pages_all}
 use Rattle.file_digest.proofs.hashing.add_pages.Goals as goal

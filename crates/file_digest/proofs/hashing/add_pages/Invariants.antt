@@ -1,6 +1,6 @@
 use Rattle.std.proofs.Common.{ℕ, ◌*◌, ◌++◌, List, take}
 use Rattle.sha2.specs.Hashers.{Holds256}
-use Rattle.checkpoint_core.specs.Store.{newest_image}
+use Rattle.page_store.specs.Store.{newest_image}
 use Rattle.file_digest.specs.Pages.{bytes_of}
 use Rattle.file_digest.proofs.hashing.add_pages.Given as goal
 

@@ -1,6 +1,6 @@
 use Rattle.std.proofs.Common.{take}
 use Rattle.sha2.specs.Hashers.{Holds256}
-use Rattle.page_apply.specs.Databases.{contents_of}
+use Rattle.database_state.specs.Databases.{contents_of}
 use Rattle.file_digest.specs.Digest.{message}
 use Rattle.file_digest.proofs.hashing.digest.Given as goal
 

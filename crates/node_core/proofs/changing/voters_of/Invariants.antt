@@ -1,5 +1,5 @@
 use Rattle.std.proofs.Common.{◌≡◌, take}
-use Rattle.raft_rules.specs.Node.{voters}
+use Rattle.raft_spec.specs.Node.{voters}
 use Rattle.node_core.proofs.changing.voters_of.Given as goal
 
 abbrev pub invariant-loop-server : goal.invariant-loop-server

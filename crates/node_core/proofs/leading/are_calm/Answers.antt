@@ -1,6 +1,6 @@
 use Rattle.std.proofs.Common.{◌≡◌, ℕ, List, sym, ap, ◌∙◌}
-use Rattle.page_apply.specs.declared.database.Database.{Database}
-use Rattle.page_apply.specs.Databases.{named, tx_pending}
+use Rattle.database_state.specs.declared.database.Database.{Database}
+use Rattle.database_state.specs.Databases.{named, tx_pending}
 use Rattle.node_core.proofs.Duties.{calm_more, all_calm}
 use Rattle.node_core.proofs.CoreEntries.{not_calm, calm_is}
 use Rattle.node_core.proofs.leading.are_calm.Goals as goal

@@ -1,5 +1,5 @@
 use Rattle.std.proofs.Common.{sym, ◌∙◌}
-use Rattle.page_apply.proofs.First.{none_yet, first_here, not_here, never}
+use Rattle.database_state.proofs.First.{none_yet, first_here, not_here, never}
 use Rattle.node_core.specs.Carrying.{is_of}
 use Rattle.node_core.proofs.links.place_of.Goals as goal
 

@@ -1,4 +1,4 @@
-use Rattle.page_apply.proofs.First.{NoneBefore}
+use Rattle.database_state.proofs.First.{NoneBefore}
 use Rattle.node_core.specs.Carrying.{is_of}
 use Rattle.node_core.proofs.links.place_of.Given as goal
 

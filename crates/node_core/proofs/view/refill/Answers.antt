@@ -1,4 +1,4 @@
-use Rattle.raft_rules.specs.NodeValues.{node_of}
+use Rattle.raft_spec.specs.NodeValues.{node_of}
 use Rattle.node_core.proofs.RaftExactly.{evens_more}
 use Rattle.node_core.proofs.view.refill.Goals as goal
 

@@ -1,5 +1,5 @@
 use Rattle.std.proofs.Common.{◌≡◌, take}
-use Rattle.raft_rules.specs.NodeValues.{node_of}
+use Rattle.raft_spec.specs.NodeValues.{node_of}
 use Rattle.node_core.specs.Core.{evens}
 use Rattle.node_core.proofs.view.refill.Given as goal
 

@@ -1,5 +1,5 @@
 use Rattle.std.proofs.Common.{◌≡◌, take}
-use Rattle.raft_rules.specs.Node.{voters}
+use Rattle.raft_spec.specs.Node.{voters}
 use Rattle.raft_core.proofs.membership.voter_ids.Given as goal
 
 abbrev pub invariant-loop-server : goal.invariant-loop-server

@@ -1,5 +1,5 @@
 use Rattle.std.proofs.Common.{◌∙◌, arith}
-use Rattle.raft_vote.specs.Messages.{message_value}
+use Rattle.raft_messages.specs.Messages.{message_value}
 use Rattle.raft_core.proofs.MessageRules.{in_range_is, without_term, without_sender}
 use Rattle.raft_core.proofs.receiving.is_in_range.Goals as goal
 

@@ -1,7 +1,7 @@
 use Rattle.std.proofs.Common.{◌≡◌, ◌∙◌, length, drop, sym, ap, arith, ⊎_elim, length-drop}
 use Rattle.std.specs.Prelude.{true, false, not}
 use Rattle.std.proofs.lemmas.Bool.{cases_Bool}
-use Rattle.raft_rules.specs.Log.{Entry, nth_term}
+use Rattle.raft_spec.specs.Log.{Entry, nth_term}
 use Rattle.raft_log.specs.Agreeing.{has_term, agreeing_front}
 use Rattle.raft_log.proofs.Places.{nth_entry}
 use Rattle.raft_log.proofs.Agreeing.{front_more, front_here, front_short, front_within}

@@ -1,5 +1,5 @@
 use Rattle.std.proofs.Common.{ap, ◌∙◌, sym}
-use Rattle.raft_rules.specs.Log.{Entry}
+use Rattle.raft_spec.specs.Log.{Entry}
 use Rattle.raft_log.proofs.Places.{nth_entry}
 use Rattle.raft_log.proofs.queue.term_of.Goals as goal
 

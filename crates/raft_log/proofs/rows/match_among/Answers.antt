@@ -1,5 +1,5 @@
 use Rattle.std.proofs.Common.{◌∙◌, ap}
-use Rattle.raft_rules.specs.Progress.{PeerProgress}
+use Rattle.raft_spec.specs.Progress.{PeerProgress}
 use Rattle.raft_log.proofs.PeerTables.{match_found, match_unknown}
 use Rattle.raft_log.proofs.rows.match_among.Goals as goal
 

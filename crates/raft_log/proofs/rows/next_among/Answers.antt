@@ -1,5 +1,5 @@
 use Rattle.std.proofs.Common.{◌∙◌, ap}
-use Rattle.raft_rules.specs.Progress.{PeerProgress}
+use Rattle.raft_spec.specs.Progress.{PeerProgress}
 use Rattle.raft_log.proofs.PeerTables.{next_found, next_unknown}
 use Rattle.raft_log.proofs.rows.next_among.Goals as goal
 

@@ -1,5 +1,5 @@
 use Rattle.std.proofs.Common.{◌≢◌, ◌∙◌, ap, add-one}
-use Rattle.raft_rules.specs.Progress.{PeerProgress}
+use Rattle.raft_spec.specs.Progress.{PeerProgress}
 use Rattle.raft_log.proofs.PeerTables.{passes}
 use Rattle.raft_log.proofs.rows.place_of.Goals as goal
 

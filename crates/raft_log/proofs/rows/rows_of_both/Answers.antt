@@ -1,6 +1,6 @@
 use Rattle.std.proofs.Common.{◌++◌, ◌∙◌, sym, ap}
-use Rattle.raft_rules.specs.Node.{others}
-use Rattle.raft_rules.specs.Progress.{rows_for}
+use Rattle.raft_spec.specs.Node.{others}
+use Rattle.raft_spec.specs.Progress.{rows_for}
 use Rattle.raft_log.proofs.PeerTables.{rows_both}
 use Rattle.raft_log.proofs.rows.rows_of_both.Goals as goal
 

@@ -1,7 +1,7 @@
 use Rattle.std.proofs.Common.{◌∙◌}
 use Rattle.std.proofs.lemmas.List.{get_or_default}
 use Rattle.std.proofs.lemmas.Result.{err_from_is_err_and}
-use Rattle.script_pages.specs.Printed.{printed_line}
+use Rattle.script_machines.specs.Printed.{printed_line}
 use Rattle.script_runner.proofs.Printed.{printed_so_far, printed_in_part}
 use Rattle.script_runner.proofs.printing.print_machines.Goals as goal
 

@@ -1,6 +1,6 @@
 use Rattle.std.proofs.Common.{take, ◌≤◌}
 use Rattle.std.specs.Io.KnownBytes.{Appends}
-use Rattle.script_pages.specs.Printed.{printed}
+use Rattle.script_machines.specs.Printed.{printed}
 use Rattle.script_runner.proofs.printing.print_machines.Given as goal
 
 abbrev pub invariant-loop-say : goal.invariant-loop-say

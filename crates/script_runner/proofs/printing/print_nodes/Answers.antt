@@ -1,6 +1,6 @@
 use Rattle.std.proofs.Common.{◌∙◌}
 use Rattle.std.proofs.lemmas.Result.{err_from_is_err_and}
-use Rattle.script_nodes.specs.Printed.{printed_line}
+use Rattle.script_cluster.specs.Printed.{printed_line}
 use Rattle.script_runner.proofs.Printed.{printed_so_far, printed_in_part}
 use Rattle.script_runner.proofs.printing.print_nodes.Goals as goal
 

@@ -1,6 +1,6 @@
 use Rattle.std.proofs.Common.{take, ◌≤◌}
 use Rattle.std.specs.Io.KnownBytes.{Appends}
-use Rattle.script_nodes.specs.Printed.{printed}
+use Rattle.script_cluster.specs.Printed.{printed}
 use Rattle.script_runner.proofs.printing.print_nodes.Given as goal
 
 abbrev pub invariant-loop-say : goal.invariant-loop-say

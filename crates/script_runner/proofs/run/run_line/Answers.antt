@@ -1,6 +1,6 @@
 use Rattle.std.proofs.Common.{refl}
 use Rattle.std.proofs.lemmas.Result.{err_from_is_err_and}
-use Rattle.script_nodes.specs.Run.{Line, Large}
+use Rattle.script_cluster.specs.Run.{Line, Large}
 use Rattle.script_runner.specs.Run.{Stage, step}
 use Rattle.script_runner.specs.Scenes.{holds, said_in}
 use Rattle.script_runner.proofs.Finishing.{ran_ok, ran_out, ran_part, ended_part, nothing_ran, breaks_printing}

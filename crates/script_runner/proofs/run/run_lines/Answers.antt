@@ -1,6 +1,6 @@
 use Rattle.std.proofs.Common.{◌≡◌, ℕ, subst, arith}
 use Rattle.std.proofs.lemmas.Result.{err_from_is_err_and}
-use Rattle.script_lines.specs.Lines.{to_come}
+use Rattle.script_grammar.specs.Lines.{to_come}
 use Rattle.script_runner.specs.Scenes.{holds}
 use Rattle.script_runner.specs.Ending.{Reached}
 use Rattle.script_runner.proofs.run.run_lines.Goals as goal

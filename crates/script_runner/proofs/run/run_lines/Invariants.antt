@@ -1,5 +1,5 @@
 use Rattle.std.proofs.Common.{ℕ, Option, List, ◌≤◌}
-use Rattle.script_lines.specs.Lines.{to_come}
+use Rattle.script_grammar.specs.Lines.{to_come}
 use Rattle.script_runner.specs.Scenes.{holds}
 use Rattle.script_runner.specs.Ending.{Reached}
 use Rattle.script_runner.proofs.run.run_lines.Given as goal

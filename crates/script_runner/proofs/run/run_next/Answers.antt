@@ -1,7 +1,7 @@
 use Rattle.std.proofs.Common.{sym, ◌∙◌, add-one, length}
 use Rattle.std.proofs.lemmas.Bool.{eqb-true}
 use Rattle.std.proofs.lemmas.Result.{err_from_is_err_and}
-use Rattle.script_lines.specs.Lines.{to_come}
+use Rattle.script_grammar.specs.Lines.{to_come}
 use Rattle.script_runner.specs.Scenes.{holds, journal_of}
 use Rattle.script_runner.proofs.Lining.{some_bytes}
 use Rattle.script_runner.proofs.Running.{reached_line, whole_none, whole_last, settles_long, short_reading}

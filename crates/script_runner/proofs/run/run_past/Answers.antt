@@ -1,5 +1,5 @@
 use Rattle.std.proofs.Common.{arith}
-use Rattle.script_lines.specs.Lines.{to_come}
+use Rattle.script_grammar.specs.Lines.{to_come}
 use Rattle.script_runner.proofs.Running.{whole_past, settles_past, short_past}
 use Rattle.script_runner.proofs.run.run_past.Goals as goal
 

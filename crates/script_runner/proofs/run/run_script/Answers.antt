@@ -1,6 +1,6 @@
 use Rattle.std.proofs.Common.{List, refl, sym, subst}
-use Rattle.script_lines.specs.Lines.{Cursor, to_come}
-use Rattle.script_nodes.specs.Outcomes.{Item}
+use Rattle.script_grammar.specs.Lines.{Cursor, to_come}
+use Rattle.script_cluster.specs.Outcomes.{Item}
 use Rattle.script_runner.specs.Stages.{AtStart}
 use Rattle.script_runner.specs.Scenes.{Nodes}
 use Rattle.script_runner.specs.Ending.{Reached, Stopped}

@@ -1,6 +1,6 @@
 use Rattle.std.proofs.Common.{◌≡◌, ℕ, List, IfOk, subst}
 use Rattle.dq_base.specs.declared.images.Image.{Image}
-use Rattle.session_rules.specs.Machine.{machine_of}
+use Rattle.session_spec.specs.Machine.{machine_of}
 use Rattle.session_table.proofs.bases.newest_image_of.Goals as goal
 
 pub returns : goal.returns

@@ -1,5 +1,5 @@
 use Rattle.std.proofs.Common.{ℕ, List, ap, ◌∙◌}
-use Rattle.session_rules.specs.Machine.{machine_of}
+use Rattle.session_spec.specs.Machine.{machine_of}
 use Rattle.session_table.proofs.bases.newest_of.Goals as goal
 
 pub returns : goal.returns

@@ -1,6 +1,6 @@
 use Rattle.std.proofs.Common.{ℕ, List, subst}
-use Rattle.page_apply.specs.Databases.{named}
-use Rattle.page_apply.specs.Pins.{IsRefused}
+use Rattle.database_state.specs.Databases.{named}
+use Rattle.database_state.specs.Pins.{IsRefused}
 use Rattle.session_table.proofs.Roomy.{refused_blank}
 use Rattle.session_table.proofs.Gaining.{gained_one}
 use Rattle.session_table.proofs.beginning.pin_of_name.Goals as goal

@@ -1,6 +1,6 @@
 use Rattle.std.proofs.Common.{ℕ, List, option_map, ap, ◌∙◌}
-use Rattle.page_apply.specs.Databases.{named}
-use Rattle.page_apply.specs.ImageNumbers.{number_of}
+use Rattle.database_state.specs.Databases.{named}
+use Rattle.database_state.specs.ImageNumbers.{number_of}
 use Rattle.session_table.proofs.Works.{newest_work}
 use Rattle.session_table.proofs.beginning.transaction_over.Goals as goal
 

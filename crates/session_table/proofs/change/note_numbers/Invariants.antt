@@ -1,5 +1,5 @@
 use Rattle.std.proofs.Common.{◌≡◌, ◌≤◌, ◌+◌, ◌-◌, ◌++◌, length, drop, vec_len, vec_capacity}
-use Rattle.session_rules.specs.Touched.{numbers_of}
+use Rattle.session_spec.specs.Touched.{numbers_of}
 use Rattle.session_table.proofs.change.note_numbers.Given as goal
 
 abbrev pub invariant-loop-page : goal.invariant-loop-page

@@ -1,5 +1,5 @@
 use Rattle.std.proofs.Common.{◌≡◌, ◌++◌, ℕ, List, true, Option, Some, option_map, refl, sym, ap, subst, ◌∙◌}
-use Rattle.session_rules.specs.Touched.{numbers_of}
+use Rattle.session_spec.specs.Touched.{numbers_of}
 use Rattle.session_table.specs.declared.session.Transaction.{Transaction}
 use Rattle.session_table.specs.Table.{image_pinned, transaction_of}
 use Rattle.session_table.specs.Changing.{worked_on}

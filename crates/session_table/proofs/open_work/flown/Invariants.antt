@@ -1,5 +1,5 @@
 use Rattle.std.proofs.Common.{◌≡◌, max, map, drop}
-use Rattle.session_rules.specs.Limits.{most}
+use Rattle.session_spec.specs.Limits.{most}
 use Rattle.session_table.specs.Table.{flown_in}
 use Rattle.session_table.proofs.open_work.flown.Given as goal
 

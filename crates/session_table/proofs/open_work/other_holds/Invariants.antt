@@ -1,6 +1,6 @@
 use Rattle.std.proofs.Common.{◌≡◌, List, drop}
 use Rattle.std.specs.List.{list_any}
-use Rattle.page_apply.specs.declared.database.Database.{Database}
+use Rattle.database_state.specs.declared.database.Database.{Database}
 use Rattle.session_table.specs.Table.{holds_beside}
 use Rattle.session_table.proofs.open_work.other_holds.Given as goal
 

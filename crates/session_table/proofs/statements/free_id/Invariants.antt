@@ -1,5 +1,5 @@
 use Rattle.std.proofs.Common.{◌≡◌, ◌+◌, drop}
-use Rattle.session_rules.specs.Statements.{free_id}
+use Rattle.session_spec.specs.Statements.{free_id}
 use Rattle.session_table.proofs.statements.free_id.Given as goal
 
 abbrev pub invariant-loop-id : goal.invariant-loop-id

@@ -1,6 +1,6 @@
 use Rattle.std.proofs.Common.{◌≡◌, ◌<◌, ◌≤◌, length, Some, sym, ap, ◌∙◌, arith}
 use Rattle.std.specs.Prelude.{slice_set}
-use Rattle.session_rules.specs.Statements.{free_id}
+use Rattle.session_spec.specs.Statements.{free_id}
 use Rattle.session_table.proofs.Numbered.{put_inside, put_behind}
 use Rattle.session_table.proofs.statements.prepare.Goals as goal
 

@@ -1,5 +1,5 @@
 use Rattle.std.proofs.Common.{◌≡◌, ◌+◌, ◌≤◌, drop}
-use Rattle.session_rules.specs.Statements.{prepared_count}
+use Rattle.session_spec.specs.Statements.{prepared_count}
 use Rattle.session_table.proofs.statements.prepared_count.Given as goal
 
 abbrev pub invariant-loop-statement : goal.invariant-loop-statement

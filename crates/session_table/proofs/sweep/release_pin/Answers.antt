@@ -1,5 +1,5 @@
 use Rattle.std.proofs.Common.{Option, sym, subst}
-use Rattle.page_apply.specs.Pins.{Pinning}
+use Rattle.database_state.specs.Pins.{Pinning}
 use Rattle.session_table.specs.Table.{mark_of}
 use Rattle.session_table.specs.Marks.{Released}
 use Rattle.session_table.proofs.Releasing.{released_one}

@@ -1,6 +1,6 @@
 use Rattle.std.proofs.Common.{None, sym, ap, ◌∙◌}
-use Rattle.session_rules.specs.Requests.{with_session, with_later}
-use Rattle.session_rules.specs.Sessions.{Session as RuleSession, later_query}
+use Rattle.session_spec.specs.Requests.{with_session, with_later}
+use Rattle.session_spec.specs.Sessions.{Session as RuleSession, later_query}
 use Rattle.session_table.specs.declared.session.Session.{Session}
 use Rattle.session_table.specs.Table.{session_of, table_of, pin_of}
 use Rattle.session_table.proofs.Placing.{put_table, keep_pins, was_own, set_is_table, session_there, its_own}

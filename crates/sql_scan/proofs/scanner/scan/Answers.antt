@@ -1,11 +1,11 @@
 use Rattle.std.proofs.Common.{List}
-use Rattle.sql_scan.specs.declared.pieces.Piece.{Piece}
+use Rattle.sql_scan.specs.declared.pieces.StatementSpan.{StatementSpan}
 use Rattle.sql_scan.specs.declared.pieces.Scan.{Scan}
 use Rattle.sql_scan.specs.Statements.{Gives, scan_of}
 use Rattle.sql_scan.proofs.Public.{scan_gives, gives_cut, gives_places, gives_order}
 use Rattle.sql_scan.proofs.scanner.scan.Goals as goal
 
-abbrev found : Scan → List Piece
+abbrev found : Scan → List StatementSpan
 found scan = scan.statements
 
 pub returns : goal.returns

@@ -2,8 +2,8 @@ use Rattle.std.proofs.Common.{◌≡◌, ℕ, ◌+◌, ◌-◌, ◌≤◌, List,
 use Rattle.std.specs.Option.{option_to_list}
 use Rattle.std.proofs.lemmas.List.{drop-drop, length-drop, take_rest}
 use Rattle.std.proofs.lemmas.Result.{err_from_is_err_and}
-use Rattle.sql_scan.specs.declared.draft.Draft.{Draft}
-use Rattle.sql_scan.specs.declared.pieces.Piece.{Piece}
+use Rattle.sql_scan.specs.declared.draft.PartialStatement.{PartialStatement}
+use Rattle.sql_scan.specs.declared.pieces.StatementSpan.{StatementSpan}
 use Rattle.sql_scan.specs.Tokens.{first_token, tokens_of}
 use Rattle.sql_scan.specs.Statements.{with_front, statements_from, scan_of}
 use Rattle.sql_scan.proofs.Scanning.{step, fails, ends, begins}
@@ -11,8 +11,8 @@ use Rattle.sql_scan.proofs.scanner.statements_of.Goals as goal
 
 pub tokens-init : goal.tokens-init
 tokens-init c =
-    let params : c.blank-draft.result.params ≡ 0 = ap (λ (d : Draft). d.params) c.blank-draft.ensures in (
-      ap (λ (d : Draft). with_front c.new-statements.result.items (statements_from 0 d (tokens_of c.args.bytes.now))) c.blank-draft.ensures
+    let params : c.blank-draft.result.params ≡ 0 = ap (λ (d : PartialStatement). d.params) c.blank-draft.ensures in (
+      ap (λ (d : PartialStatement). with_front c.new-statements.result.items (statements_from 0 d (tokens_of c.args.bytes.now))) c.blank-draft.ensures
           ∙ begins c.new-statements.result.items c.args.bytes.now c.new-statements.ensures.items,
       omega arith,
       omega arith,
@@ -55,6 +55,6 @@ returns c = record {
   exact =
       ends c.tokens.statements.items c.add.new.statements.items c.tokens.place c.tokens.draft (drop c.tokens.place c.args.bytes.now) (scan_of c.args.bytes.now)
       (sym (ap first_token (take_rest c.args.bytes.now c.tokens.place)) ∙ sym c.first_token.ensures.exact ∙ c.in_default.is)
-      (c.in_ok-add.ensures.ok ∙ ap (λ (o : Option Piece). c.tokens.statements.items ++ option_to_list o) c.finished.ensures)
+      (c.in_ok-add.ensures.ok ∙ ap (λ (o : Option StatementSpan). c.tokens.statements.items ++ option_to_list o) c.finished.ensures)
       c.tokens.invariant.0;
 }

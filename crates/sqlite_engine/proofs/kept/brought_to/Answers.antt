@@ -1,7 +1,7 @@
 use Rattle.std.proofs.Common.{◌≡◌, ap, ◌∙◌}
 use Rattle.dq_base.specs.declared.pages.PageSet.{PageSet}
 use Rattle.dq_base.specs.Changes.{changed}
-use Rattle.record_disk.specs.Pairs.{both}
+use Rattle.sqlite_files.specs.Pairs.{both}
 use Rattle.sqlite_engine.proofs.kept.brought_to.Goals as goal
 
 pub returns-then-takes_over : goal.returns-then-takes_over

@@ -1,9 +1,9 @@
 use Rattle.std.proofs.Common.{◌≡◌, ap, subst, ◌∙◌}
 use Rattle.sqlite_wal.specs.Recovery as raw
 use Rattle.sqlite_store.specs.FileStore.{files}
-use Rattle.record_disk.specs.Recording.{Recorded}
-use Rattle.open_files.specs.Held.{image_in}
-use Rattle.same_pages.specs.Alike.{HoldAlike}
+use Rattle.sqlite_files.specs.Recording.{Recorded}
+use Rattle.sqlite_open_files.specs.Held.{image_in}
+use Rattle.sqlite_same_pages.specs.Alike.{HoldAlike}
 use Rattle.sqlite_engine.specs.Sql.{files_of}
 use Rattle.sqlite_engine.proofs.kept.holds_alike.Goals as goal
 

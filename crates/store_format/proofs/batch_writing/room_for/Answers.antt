@@ -1,5 +1,5 @@
 use Rattle.std.proofs.Common.{◌≤◌, ◌+◌, length, take, arith}
-use Rattle.raft_vote.specs.Entries.{contents_bytes}
+use Rattle.raft_messages.specs.Entries.{contents_bytes}
 use Rattle.store_format.proofs.SumPlaces.{contents_more}
 use Rattle.store_format.proofs.batch_writing.room_for.Goals as goal
 

@@ -1,6 +1,6 @@
 use Rattle.std.proofs.Common.{◌≤◌, ◌+◌, ◌*◌, length, take}
 use Rattle.std.specs.Prelude.{min}
-use Rattle.raft_vote.specs.Entries.{contents_bytes}
+use Rattle.raft_messages.specs.Entries.{contents_bytes}
 use Rattle.store_format.proofs.batch_writing.room_for.Given as goal
 
 abbrev pub invariant-loop-entry : goal.invariant-loop-entry

@@ -1,5 +1,5 @@
 use Rattle.std.proofs.Common.{List, ℕ, ◌++◌, drop, ap, ◌∙◌}
-use Rattle.raft_vote.specs.Entries.{contents_bytes}
+use Rattle.raft_messages.specs.Entries.{contents_bytes}
 use Rattle.store_laws.specs.Store.{Log}
 use Rattle.store_format.proofs.SumPlaces.{behind_room}
 use Rattle.store_format.proofs.batch_writing.without_sums.Goals as goal

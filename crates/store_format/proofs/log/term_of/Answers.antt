@@ -1,5 +1,5 @@
 use Rattle.std.proofs.Common.{ap, ◌∙◌, sym}
-use Rattle.raft_rules.specs.Log.{Entry}
+use Rattle.raft_spec.specs.Log.{Entry}
 use Rattle.store_format.proofs.Terms.{nth_entry}
 use Rattle.store_format.proofs.log.term_of.Goals as goal
 

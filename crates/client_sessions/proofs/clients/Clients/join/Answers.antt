@@ -1,6 +1,6 @@
 use Rattle.std.proofs.Common.{rules, ◌≡◌, true, false, refl}
-use Rattle.session_rules.specs.Events.{connects}
-use Rattle.gateway.specs.Seen.{seen}
+use Rattle.session_spec.specs.Events.{connects}
+use Rattle.session_gateway.specs.Seen.{seen}
 use Rattle.client_sessions.specs.declared.clients.Clients.{Clients as Held}
 use Rattle.client_sessions.proofs.Connecting.{told_held, joined_held, refused_sessions, refused_held}
 use Rattle.client_sessions.proofs.Standing.{entries_alike, on_err}

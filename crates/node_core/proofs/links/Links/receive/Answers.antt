@@ -1,5 +1,5 @@
 use Rattle.std.proofs.Common.{◌≡◌, List, None, subst}
-use Rattle.page_apply.specs.ByName.{FirstAt}
+use Rattle.database_state.specs.ByName.{FirstAt}
 use Rattle.node_core.specs.declared.links.Link.{Link}
 use Rattle.node_core.specs.Carrying.{is_of, link_on}
 use Rattle.node_core.proofs.Looping.{on_ok_then}

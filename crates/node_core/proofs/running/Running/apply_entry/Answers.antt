@@ -1,6 +1,6 @@
 use Rattle.std.proofs.Common.{◌≡◌, ◌-◌, refl, ap, subst, ◌∙◌}
 use Rattle.std.specs.Prelude.{IfSome, is_some, slice_index_or}
-use Rattle.raft_member.specs.Members.{settled}
+use Rattle.raft_membership.specs.Members.{settled}
 use Rattle.node_core.specs.declared.running.Running.{Running}
 use Rattle.node_core.proofs.CoreEntries.{next_found, takes_other, takes_servers}
 use Rattle.node_core.proofs.running.Running.apply_entry.Goals as goal

@@ -2,12 +2,12 @@ use Rattle.node_core.proofs.ConnStreams.{conns_both, kept_on}
 use Rattle.node_core.proofs.Carried.{kept_moves}
 use Rattle.std.proofs.Common.{[], Option, sym, ap, subst, ◌∙◌}
 use Rattle.sql_engine.specs.Meanings.{Told}
-use Rattle.raft_member.specs.Members.{read_setup}
-use Rattle.node_replica.specs.Replicas.{ReplicaValue, IsKept}
-use Rattle.node_rules.specs.Accounts.{MayEnd}
+use Rattle.raft_membership.specs.Members.{read_setup}
+use Rattle.raft_on_disk.specs.Replicas.{ReplicaValue, IsKept}
+use Rattle.node_spec.specs.Accounts.{MayEnd}
 use Rattle.node_core.specs.declared.running.Running.{Running}
-use Rattle.node_core.specs.Account.{moment_of, AtRest, Underway, StopsBy}
-use Rattle.raft_rules.specs.Node.{Local, Snapped}
+use Rattle.node_core.specs.Account.{moment_of, AtRest, Underway, AccountsForStop}
+use Rattle.raft_spec.specs.Node.{Local, Snapped}
 use Rattle.node_core.proofs.Besides.{may_plain}
 use Rattle.node_core.proofs.Causes.{always_ok}
 use Rattle.node_core.proofs.Led.{led_closes}
@@ -149,7 +149,7 @@ returns-in_err-run_due-clause-stops g c = λ opening start event told u has.
     let m = g.E.Engine.meaning kind in
     let setup = read_setup opening in
     let law = c.raft_steps_are_kept.ensures.stops in
-    let P = StopsBy m kind setup start event in
+    let P = AccountsForStop m kind setup start event in
     kept_finds g.D.Disk.tells (g.D.Disk.states c.args.disk.now) c.args.self.now.replica P (stopped_here law m kind setup start event c.args.self.now u) has
     )
 
@@ -161,7 +161,7 @@ returns-in_err-take_message-clause-stops g c = λ opening start event told u has
     let m = g.E.Engine.meaning kind in
     let setup = read_setup opening in
     let law = c.raft_steps_are_kept.ensures.stops in
-    let P = StopsBy m kind setup start event in
+    let P = AccountsForStop m kind setup start event in
     kept_finds g.D.Disk.tells (g.D.Disk.states c.args.disk.now) c.args.self.now.replica P (stopped_here law m kind setup start event c.args.self.now u) has
     )
 
@@ -173,7 +173,7 @@ returns-in_err-compact-clause-stops g c = λ opening start event told u has.
     let m = g.E.Engine.meaning kind in
     let setup = read_setup opening in
     let law = c.raft_steps_are_kept.ensures.stops in
-    let P = StopsBy m kind setup start event in
+    let P = AccountsForStop m kind setup start event in
     let behind = further_at g.E.Engine.meaning setup start event told kind (g.E.Engine.kind c.run_due.new.engine) c.run_due.new.self c.take_message.new.self c.run_due.ensures.engine.kind
     (subst (λ (t : Option Told). Underway m kind setup start c.run_due.new.self event told t) (sym (c.in_ok-run_due.ensures.untold c.if-branch.false))
     (subst (λ (n : Running). Underway m kind setup start n event told (g.E.Engine.told c.args.engine.now)) (sym (c.in_ok-run_due.ensures.none c.if-branch.false)) u))
@@ -194,7 +194,7 @@ returns-in_err-take_letter-clause-stops g c = λ opening start event told u has.
     let m = g.E.Engine.meaning kind in
     let setup = read_setup opening in
     let law = c.raft_steps_are_kept.ensures.stops in
-    let P = StopsBy m kind setup start event in
+    let P = AccountsForStop m kind setup start event in
     let behind = further_at g.E.Engine.meaning setup start event told kind (g.E.Engine.kind c.run_due.new.engine) c.run_due.new.self c.take_message.new.self c.run_due.ensures.engine.kind
     (subst (λ (t : Option Told). Underway m kind setup start c.run_due.new.self event told t) (sym (c.in_ok-run_due.ensures.untold c.if-branch.false))
     (subst (λ (n : Running). Underway m kind setup start n event told (g.E.Engine.told c.args.engine.now)) (sym (c.in_ok-run_due.ensures.none c.if-branch.false)) u))
@@ -217,7 +217,7 @@ returns-clause-stops g c = λ opening start event told u has.
     let m = g.E.Engine.meaning kind in
     let setup = read_setup opening in
     let law = c.raft_steps_are_kept.ensures.stops in
-    let P = StopsBy m kind setup start event in
+    let P = AccountsForStop m kind setup start event in
     let behind = further_at g.E.Engine.meaning setup start event told kind (g.E.Engine.kind c.run_due.new.engine) c.run_due.new.self c.take_message.new.self c.run_due.ensures.engine.kind
     (subst (λ (t : Option Told). Underway m kind setup start c.run_due.new.self event told t) (sym (c.in_ok-run_due.ensures.untold c.if-branch.false))
     (subst (λ (n : Running). Underway m kind setup start n event told (g.E.Engine.told c.args.engine.now)) (sym (c.in_ok-run_due.ensures.none c.if-branch.false)) u))

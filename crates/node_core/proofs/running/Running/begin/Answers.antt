@@ -2,12 +2,12 @@ use Rattle.node_core.specs.Conns.{ConnsBegin}
 use Rattle.node_core.proofs.ConnStreams.{timeout_begins, beat_begins, peer_begins, read_begins}
 use Rattle.std.proofs.Common.{ℕ, List, sym, subst}
 use Rattle.raft_core.specs.declared.event.RaftEvent.TheVariants as raft_events
-use Rattle.raft_member.specs.Members.{read_setup}
-use Rattle.node_replica.specs.Replicas.{ReplicaValue, IsKept, kept_of}
+use Rattle.raft_membership.specs.Members.{read_setup}
+use Rattle.raft_on_disk.specs.Replicas.{ReplicaValue, IsKept, kept_of}
 use Rattle.node_core.specs.declared.event.Event.{Event}
 use Rattle.node_core.specs.declared.event.Event.TheVariants as happens
 use Rattle.node_core.specs.Account.{Happens, SoFar, Stopped}
-use Rattle.node_core.specs.Performing.{HearsSo}
+use Rattle.node_core.specs.Performing.{ReceivesBytes}
 use Rattle.node_core.proofs.Beginning.{begins_raft, with_timeout, with_beat, with_peer, begins_connect, begins_hangup, begins_bytes}
 use Rattle.node_core.proofs.Led.{led_comes, led_goes, led_hears}
 use Rattle.node_core.proofs.Finding.{more, kept_finds, failed as always_err}
@@ -15,7 +15,7 @@ use Rattle.node_core.specs.Finding.{BeganStops}
 use Rattle.node_core.proofs.StopsOfStep.{began_stopped, client_stopped}
 use Rattle.std.proofs.Common.{◌≡◌, [], refl}
 use Rattle.node_core.specs.Core.{core_of, hearing}
-use Rattle.node_core.specs.Exact.{BeginsBy}
+use Rattle.node_core.specs.Exact.{ExactBegin}
 use Rattle.node_core.specs.ExactParts.{Answered}
 use Rattle.node_core.proofs.ExactTurns.{unanswered}
 use Rattle.node_core.proofs.running.Running.begin.Goals as goal
@@ -61,7 +61,7 @@ returns-in_ok-receive-in-Bytes-clause-begun g c = λ opening.
     let m = g.E.Engine.meaning kind in
     subst (λ (e : Event). SoFar m kind setup c.args.self.now c.receive.new.self (Happens e) (g.E.Engine.told c.args.engine.now) (g.E.Engine.told c.args.engine.now)) (sym c.in-Bytes.is)
     (begins_bytes m kind setup c.args.self.now c.receive.new.self c.in-Bytes.conn c.in-Bytes.bytes
-    (subst (λ (b : List ℕ). HearsSo c.args.self.now c.receive.new.self c.in-Bytes.conn b) c.as_slice.ensures c.in_ok-receive-in-Bytes.ensures.goes)
+    (subst (λ (b : List ℕ). ReceivesBytes c.args.self.now c.receive.new.self c.in-Bytes.conn b) c.as_slice.ensures c.in_ok-receive-in-Bytes.ensures.goes)
     c.receive.ensures.quiet c.receive.ensures.replica)
 
 pub returns-in_ok-read_done-in-ReadDone-clause-begun : goal.returns-in_ok-read_done-in-ReadDone-clause-begun
@@ -178,36 +178,36 @@ returns-in_err-take_raft-in-Peer-clause-stops g c = λ opening stood has.
 
 pub returns-in_ok-take_raft-in-Timeout-clause-exact : goal.returns-in_ok-take_raft-in-Timeout-clause-exact
 returns-in_ok-take_raft-in-Timeout-clause-exact g c =
-    subst (λ (e : Event). Answered (g.E.Engine.told c.args.engine.now) (g.E.Engine.told c.take_raft.new.engine) (BeginsBy e (core_of c.args.self.now) (core_of c.take_raft.new.self))) (sym c.in-Timeout.is)
-    (unanswered (BeginsBy happens.Timeout (core_of c.args.self.now) (core_of c.take_raft.new.self)) (g.E.Engine.told c.args.engine.now) (g.E.Engine.told c.take_raft.new.engine) c.in_ok-take_raft-in-Timeout.ensures.untold (c.in_ok-take_raft-in-Timeout.ensures.exact, refl))
+    subst (λ (e : Event). Answered (g.E.Engine.told c.args.engine.now) (g.E.Engine.told c.take_raft.new.engine) (ExactBegin e (core_of c.args.self.now) (core_of c.take_raft.new.self))) (sym c.in-Timeout.is)
+    (unanswered (ExactBegin happens.Timeout (core_of c.args.self.now) (core_of c.take_raft.new.self)) (g.E.Engine.told c.args.engine.now) (g.E.Engine.told c.take_raft.new.engine) c.in_ok-take_raft-in-Timeout.ensures.untold (c.in_ok-take_raft-in-Timeout.ensures.exact, refl))
 
 pub returns-in_ok-take_raft-in-Beat-clause-exact : goal.returns-in_ok-take_raft-in-Beat-clause-exact
 returns-in_ok-take_raft-in-Beat-clause-exact g c =
-    subst (λ (e : Event). Answered (g.E.Engine.told c.args.engine.now) (g.E.Engine.told c.take_raft-in-Beat.new.engine) (BeginsBy e (core_of c.args.self.now) (core_of c.take_raft-in-Beat.new.self))) (sym c.in-Beat.is)
-    (unanswered (BeginsBy happens.Beat (core_of c.args.self.now) (core_of c.take_raft-in-Beat.new.self)) (g.E.Engine.told c.args.engine.now) (g.E.Engine.told c.take_raft-in-Beat.new.engine) c.in_ok-take_raft-in-Beat.ensures.untold (c.in_ok-take_raft-in-Beat.ensures.exact, refl))
+    subst (λ (e : Event). Answered (g.E.Engine.told c.args.engine.now) (g.E.Engine.told c.take_raft-in-Beat.new.engine) (ExactBegin e (core_of c.args.self.now) (core_of c.take_raft-in-Beat.new.self))) (sym c.in-Beat.is)
+    (unanswered (ExactBegin happens.Beat (core_of c.args.self.now) (core_of c.take_raft-in-Beat.new.self)) (g.E.Engine.told c.args.engine.now) (g.E.Engine.told c.take_raft-in-Beat.new.engine) c.in_ok-take_raft-in-Beat.ensures.untold (c.in_ok-take_raft-in-Beat.ensures.exact, refl))
 
 pub returns-in_ok-take_raft-in-Peer-clause-exact : goal.returns-in_ok-take_raft-in-Peer-clause-exact
 returns-in_ok-take_raft-in-Peer-clause-exact g c =
-    subst (λ (e : Event). Answered (g.E.Engine.told c.args.engine.now) (g.E.Engine.told c.take_raft-in-Peer.new.engine) (BeginsBy e (core_of c.args.self.now) (core_of c.take_raft-in-Peer.new.self))) (sym c.in-Peer.is)
-    (unanswered (BeginsBy (happens.Peer c.in-Peer.message) (core_of c.args.self.now) (core_of c.take_raft-in-Peer.new.self)) (g.E.Engine.told c.args.engine.now) (g.E.Engine.told c.take_raft-in-Peer.new.engine) c.in_ok-take_raft-in-Peer.ensures.untold (c.in_ok-take_raft-in-Peer.ensures.exact, refl))
+    subst (λ (e : Event). Answered (g.E.Engine.told c.args.engine.now) (g.E.Engine.told c.take_raft-in-Peer.new.engine) (ExactBegin e (core_of c.args.self.now) (core_of c.take_raft-in-Peer.new.self))) (sym c.in-Peer.is)
+    (unanswered (ExactBegin (happens.Peer c.in-Peer.message) (core_of c.args.self.now) (core_of c.take_raft-in-Peer.new.self)) (g.E.Engine.told c.args.engine.now) (g.E.Engine.told c.take_raft-in-Peer.new.engine) c.in_ok-take_raft-in-Peer.ensures.untold (c.in_ok-take_raft-in-Peer.ensures.exact, refl))
 
 pub returns-in_ok-connect-in-Connect-clause-exact : goal.returns-in_ok-connect-in-Connect-clause-exact
 returns-in_ok-connect-in-Connect-clause-exact g c =
-    subst (λ (e : Event). Answered (g.E.Engine.told c.args.engine.now) (g.E.Engine.told c.args.engine.now) (BeginsBy e (core_of c.args.self.now) (core_of c.connect.new.self))) (sym c.in-Connect.is)
-    (unanswered (BeginsBy (happens.Connect c.in-Connect.conn) (core_of c.args.self.now) (core_of c.connect.new.self)) (g.E.Engine.told c.args.engine.now) (g.E.Engine.told c.args.engine.now) refl (c.in_ok-connect-in-Connect.ensures.exact, refl))
+    subst (λ (e : Event). Answered (g.E.Engine.told c.args.engine.now) (g.E.Engine.told c.args.engine.now) (ExactBegin e (core_of c.args.self.now) (core_of c.connect.new.self))) (sym c.in-Connect.is)
+    (unanswered (ExactBegin (happens.Connect c.in-Connect.conn) (core_of c.args.self.now) (core_of c.connect.new.self)) (g.E.Engine.told c.args.engine.now) (g.E.Engine.told c.args.engine.now) refl (c.in_ok-connect-in-Connect.ensures.exact, refl))
 
 pub returns-in-Hangup-clause-exact : goal.returns-in-Hangup-clause-exact
 returns-in-Hangup-clause-exact g c =
-    subst (λ (e : Event). Answered (g.E.Engine.told c.args.engine.now) (g.E.Engine.told c.args.engine.now) (BeginsBy e (core_of c.args.self.now) (core_of c.hang_up.new.self))) (sym c.in-Hangup.is)
-    (unanswered (BeginsBy (happens.Hangup c.in-Hangup.conn) (core_of c.args.self.now) (core_of c.hang_up.new.self)) (g.E.Engine.told c.args.engine.now) (g.E.Engine.told c.args.engine.now) refl (c.hang_up.ensures.exact, refl))
+    subst (λ (e : Event). Answered (g.E.Engine.told c.args.engine.now) (g.E.Engine.told c.args.engine.now) (ExactBegin e (core_of c.args.self.now) (core_of c.hang_up.new.self))) (sym c.in-Hangup.is)
+    (unanswered (ExactBegin (happens.Hangup c.in-Hangup.conn) (core_of c.args.self.now) (core_of c.hang_up.new.self)) (g.E.Engine.told c.args.engine.now) (g.E.Engine.told c.args.engine.now) refl (c.hang_up.ensures.exact, refl))
 
 pub returns-in_ok-receive-in-Bytes-clause-exact : goal.returns-in_ok-receive-in-Bytes-clause-exact
 returns-in_ok-receive-in-Bytes-clause-exact g c =
-    subst (λ (e : Event). Answered (g.E.Engine.told c.args.engine.now) (g.E.Engine.told c.args.engine.now) (BeginsBy e (core_of c.args.self.now) (core_of c.receive.new.self))) (sym c.in-Bytes.is)
-    (unanswered (BeginsBy (happens.Bytes c.in-Bytes.conn c.in-Bytes.bytes) (core_of c.args.self.now) (core_of c.receive.new.self)) (g.E.Engine.told c.args.engine.now) (g.E.Engine.told c.args.engine.now) refl (subst (λ (b : List ℕ). (core_of c.args.self.now).links ≡ [] → core_of c.receive.new.self ≡ hearing c.in-Bytes.conn b (core_of c.args.self.now)) c.as_slice.ensures c.in_ok-receive-in-Bytes.ensures.exact, refl))
+    subst (λ (e : Event). Answered (g.E.Engine.told c.args.engine.now) (g.E.Engine.told c.args.engine.now) (ExactBegin e (core_of c.args.self.now) (core_of c.receive.new.self))) (sym c.in-Bytes.is)
+    (unanswered (ExactBegin (happens.Bytes c.in-Bytes.conn c.in-Bytes.bytes) (core_of c.args.self.now) (core_of c.receive.new.self)) (g.E.Engine.told c.args.engine.now) (g.E.Engine.told c.args.engine.now) refl (subst (λ (b : List ℕ). (core_of c.args.self.now).links ≡ [] → core_of c.receive.new.self ≡ hearing c.in-Bytes.conn b (core_of c.args.self.now)) c.as_slice.ensures c.in_ok-receive-in-Bytes.ensures.exact, refl))
 
 pub returns-in_ok-read_done-in-ReadDone-clause-exact : goal.returns-in_ok-read_done-in-ReadDone-clause-exact
 returns-in_ok-read_done-in-ReadDone-clause-exact g c =
     let so_far = c.in_ok-read_done-in-ReadDone.ensures.begun (read_setup []) in
-    subst (λ (e : Event). Answered (g.E.Engine.told c.args.engine.now) (g.E.Engine.told c.read_done.new.engine) (BeginsBy e (core_of c.args.self.now) (core_of c.read_done.new.self))) (sym c.in-ReadDone.is)
+    subst (λ (e : Event). Answered (g.E.Engine.told c.args.engine.now) (g.E.Engine.told c.read_done.new.engine) (ExactBegin e (core_of c.args.self.now) (core_of c.read_done.new.self))) (sym c.in-ReadDone.is)
     (record { answers = so_far.since.piece.answers; told = so_far.since.heard; by = tt })

@@ -1,5 +1,5 @@
 use Rattle.node_core.proofs.CoreMoves.{heard_closes, none_heard}
-use Rattle.node_core.specs.declared.outs.Outs.{Outs}
+use Rattle.node_core.specs.declared.outs.StepOutputs.{StepOutputs}
 use Rattle.std.proofs.Common.{ap, refl, ◌++◌, ◌∙◌}
 use Rattle.node_core.specs.Carrying.{close_of}
 use Rattle.node_core.proofs.Carried.{looks_moves, no_moves}
@@ -25,7 +25,7 @@ returns-in_default-clause-conns c = conns_same c.args.self.now
 pub returns-clause-exact : goal.returns-clause-exact
 returns-clause-exact c =
     heard_closes c.args.self.now c.closing-reason.new.self (record c.closing-reason.new.self { outs = c.close.new.self }) c.in-Some.conn c.closing-reason.result c.in-Some.is c.closing-reason.ensures.exact
-    c.in_ok-close.ensures.said (ap (λ (o : Outs). o.replies.items) c.close.ensures.rest) refl
+    c.in_ok-close.ensures.said (ap (λ (o : StepOutputs). o.replies.items) c.close.ensures.rest) refl
 
 pub returns-in_default-clause-exact : goal.returns-in_default-clause-exact
 returns-in_default-clause-exact c = none_heard c.args.self.now c.in_default.is

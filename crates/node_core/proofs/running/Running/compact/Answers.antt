@@ -1,15 +1,15 @@
 use Rattle.node_core.proofs.CoreEntries.{compacts_exact, none_due_yet, servers_differ}
 use Rattle.std.proofs.Common.{sym, ap, subst, ◌∙◌, refl}
-use Rattle.raft_rules.specs.Node.{Node, Local, Snapped}
-use Rattle.raft_rules.specs.NodeValues.{node_of}
-use Rattle.node_state.specs.Snapshot.{SpellsSnapshot, made_by}
-use Rattle.node_replica.specs.Replicas.{ReplicaValue, IsKept}
+use Rattle.raft_spec.specs.Node.{Node, Local, Snapped}
+use Rattle.raft_spec.specs.NodeValues.{node_of}
+use Rattle.applied_state.specs.Snapshot.{SpellsSnapshot, made_by}
+use Rattle.raft_on_disk.specs.Replicas.{ReplicaValue, IsKept}
 use Rattle.node_core.specs.declared.running.Running.{Running}
 use Rattle.node_core.proofs.Compacting.{compacts_so, compact_led, is_past, spells_so}
 use Rattle.node_core.proofs.SnapshotOffice.{snapped_office, office_kept}
-use Rattle.raft_member.specs.Members.{read_setup}
+use Rattle.raft_membership.specs.Members.{read_setup}
 use Rattle.store_laws.specs.Store.{Snap, Kept}
-use Rattle.node_rules.specs.RaftTurns.{at_first}
+use Rattle.node_spec.specs.RaftTurns.{at_first}
 use Rattle.node_core.specs.Account.{KnowsServers}
 use Rattle.node_core.specs.Finding.{StopsIn}
 use Rattle.node_core.proofs.Finding.{failed, kept_finds, own_finds, own_left}

@@ -1,7 +1,7 @@
 use Rattle.node_core.proofs.CoreMoves.{carried_exact, comes_exact}
 use Rattle.node_core.proofs.ConnStreams.{not_full, comes_begins, carried_begins}
 use Rattle.std.proofs.Common.{◌++◌, refl, sym, ap, ◌∙◌}
-use Rattle.client_sessions.specs.declared.joining.Joining.{Joining}
+use Rattle.client_sessions.specs.declared.connect_result.ConnectResult.{ConnectResult}
 use Rattle.node_core.specs.Carrying.{full_for}
 use Rattle.node_core.proofs.PeerLinks.{link_there, link_not}
 use Rattle.client_sessions.specs.Seen.{clients_of}
@@ -45,4 +45,4 @@ returns-in_ok-push-in-Full-clause-exact c = λ links.
     let machine = c.args.self.now.applied.machine in
     let stand = c.requires.going.holds.clients in
     comes_exact c.args.self.now _ c.args.conn c.in_ok-connect.field-0 (c.in_ok-connect.ensures.joined machine stand) (c.in_ok-connect.ensures.told machine stand)
-    (c.in_ok-push-in-Full.ensures.items ∙ ap (λ (how : Joining). c.args.self.now.outs.closed.items ++ full_for c.args.conn how) (sym c.in-Full.is)) refl refl
+    (c.in_ok-push-in-Full.ensures.items ∙ ap (λ (how : ConnectResult). c.args.self.now.outs.closed.items ++ full_for c.args.conn how) (sym c.in-Full.is)) refl refl

@@ -1,8 +1,8 @@
 use Rattle.node_core.proofs.CoreEntries.{duty_none, duty_serves, duty_gives, tail_is}
 use Rattle.std.proofs.Common.{Some, sym, ap, ◌∙◌}
-use Rattle.node_state.specs.Office.{serves}
-use Rattle.session_rules.specs.Seen.{log_seen}
-use Rattle.node_state.specs.declared.office.Office.{Office}
+use Rattle.applied_state.specs.Office.{serves}
+use Rattle.session_spec.specs.Seen.{log_seen}
+use Rattle.applied_state.specs.declared.leadership.Leadership.{Leadership}
 use Rattle.node_core.specs.declared.running.Running.{Running}
 use Rattle.node_core.proofs.Duties.{duty_owed}
 use Rattle.node_core.proofs.Looping.{on_ok_then}
@@ -14,7 +14,7 @@ returns-clause-duties c =
     let mid : Running = record old { office = Some c.on_applied.new.self } in
     on_ok_then c.give.result
     (λ due. duty_owed old c.in-Some.office c.in-Some.is c.requires.going c.requires.led c.args.effect.now (log_seen c.tail-waiting.result.now) c.in_ok-entries.entries mid c.give.new.self c.databases_stand.ensures
-    (ap (λ (o : Office). record old { office = Some o }) c.in_ok-entries.ensures.office) c.in_ok-entries.ensures.owed c.in_ok-entries.ensures.spelled due c.give.ensures.is)
+    (ap (λ (o : Leadership). record old { office = Some o }) c.in_ok-entries.ensures.office) c.in_ok-entries.ensures.owed c.in_ok-entries.ensures.spelled due c.give.ensures.is)
     c.give.ensures.due
 
 pub returns-in_default-clause-exact : goal.returns-in_default-clause-exact
@@ -26,8 +26,8 @@ returns-then-is_empty-clause-exact c =
     let mid : Running = record old { office = Some c.on_applied.new.self } in
     duty_serves old mid c.begin_service.new.self c.in-Some.office c.args.effect.now c.tail-waiting.result.now c.in_ok-entries.entries c.in-Some.is
     (tail_is c.tail-waiting.result.now _ old.applied.index c.in_ok-next.next c.tail-waiting.ensures c.in_ok-next.ensures)
-    (ap (λ (o : Office). record old { office = Some o }) c.in_ok-entries.ensures.office) c.in_ok-entries.ensures.owed
-    c.serves-serves.result (sym c.is_empty.ensures ∙ c.if-is_empty.true) (c.serves-serves.ensures ∙ ap (λ (o : Office). serves o.phase) c.in_ok-entries.ensures.office) c.begin_service.ensures.exact
+    (ap (λ (o : Leadership). record old { office = Some o }) c.in_ok-entries.ensures.office) c.in_ok-entries.ensures.owed
+    c.serves-serves.result (sym c.is_empty.ensures ∙ c.if-is_empty.true) (c.serves-serves.ensures ∙ ap (λ (o : Leadership). serves o.phase) c.in_ok-entries.ensures.office) c.begin_service.ensures.exact
 
 pub returns-clause-exact : goal.returns-clause-exact
 returns-clause-exact c =
@@ -36,6 +36,6 @@ returns-clause-exact c =
     on_ok_then c.give.result
     (λ gives. duty_gives old mid c.give.new.self c.in-Some.office c.args.effect.now c.tail-waiting.result.now c.in_ok-entries.entries c.in-Some.is
     (tail_is c.tail-waiting.result.now _ old.applied.index c.in_ok-next.next c.tail-waiting.ensures c.in_ok-next.ensures)
-    (ap (λ (o : Office). record old { office = Some o }) c.in_ok-entries.ensures.office) c.in_ok-entries.ensures.owed
+    (ap (λ (o : Leadership). record old { office = Some o }) c.in_ok-entries.ensures.office) c.in_ok-entries.ensures.owed
     (sym c.is_empty.ensures ∙ c.if-is_empty.false) gives)
     c.give.ensures.exact

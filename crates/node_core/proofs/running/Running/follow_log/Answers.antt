@@ -1,8 +1,8 @@
 use Rattle.node_core.proofs.RaftExactly.{followed_untold, followed_told}
 use Rattle.std.proofs.Common.{sym, ap, subst}
-use Rattle.node_replica.specs.Replicas.{ReplicaValue, IsKept}
+use Rattle.raft_on_disk.specs.Replicas.{ReplicaValue, IsKept}
 use Rattle.node_core.specs.declared.running.Running.{Running}
-use Rattle.raft_member.specs.Members.{read_setup}
+use Rattle.raft_membership.specs.Members.{read_setup}
 use Rattle.std.proofs.lemmas.Result.{on_ok_weaker, on_err_weaker}
 use Rattle.node_core.specs.Posting.{same_members}
 use Rattle.node_core.proofs.Followed.{ok_both, tells_behind, follows_behind}

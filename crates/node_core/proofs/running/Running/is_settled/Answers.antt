@@ -1,6 +1,6 @@
 use Rattle.std.proofs.Common.{◌≡◌, List, false, sym, ap, subst, ◌∙◌}
-use Rattle.page_apply.specs.declared.database.Database.{Database}
-use Rattle.session_rules.specs.Machine.{machine_of}
+use Rattle.database_state.specs.declared.database.Database.{Database}
+use Rattle.session_spec.specs.Machine.{machine_of}
 use Rattle.node_core.specs.declared.running.Running.{Running}
 use Rattle.node_core.specs.Core.{core_of, is_calm, is_settled}
 use Rattle.node_core.proofs.CoreEntries.{unsettled_queue, unsettled_last, settled_queue}

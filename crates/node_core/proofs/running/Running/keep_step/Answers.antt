@@ -1,8 +1,8 @@
 use Rattle.node_core.specs.Core.{core_of}
 use Rattle.std.proofs.Common.{sym, subst}
-use Rattle.node_replica.specs.Replicas.{ReplicaValue, IsKept}
+use Rattle.raft_on_disk.specs.Replicas.{ReplicaValue, IsKept}
 use Rattle.node_core.proofs.Posting.{offices_so, free_so}
-use Rattle.raft_member.specs.Members.{read_setup}
+use Rattle.raft_membership.specs.Members.{read_setup}
 use Rattle.raft_core.specs.Events.{input_of}
 use Rattle.node_core.specs.Finding.{StopsIn}
 use Rattle.node_core.specs.Taking.{bytes_with}

@@ -1,7 +1,7 @@
 use Rattle.std.proofs.Common.{refl, ap, ◌∙◌}
 use Rattle.std.proofs.lemmas.Result.{on_ok_weaker}
-use Rattle.raft_rules.specs.NodeValues.{node_of}
-use Rattle.session_rules.specs.Sessions.{View}
+use Rattle.raft_spec.specs.NodeValues.{node_of}
+use Rattle.session_spec.specs.Sessions.{View}
 use Rattle.node_core.specs.Core.{evens}
 use Rattle.node_core.specs.declared.running.Running.{Running}
 use Rattle.node_core.proofs.RaftExactly.{ends_at, looked_is}

@@ -1,6 +1,6 @@
 use Rattle.node_core.proofs.RaftExactly.{step_by}
 use Rattle.node_core.proofs.Posting.{posts_so}
-use Rattle.raft_member.specs.Members.{read_setup}
+use Rattle.raft_membership.specs.Members.{read_setup}
 use Rattle.raft_core.specs.Events.{input_of}
 use Rattle.node_core.specs.Finding.{StopsIn}
 use Rattle.node_core.specs.Taking.{bytes_with}

@@ -1,6 +1,6 @@
 use Rattle.std.proofs.Common.{sym, ap, ◌∙◌}
-use Rattle.raft_rules.specs.Node.{is_leader}
-use Rattle.raft_rules.specs.NodeValues.{node_of}
+use Rattle.raft_spec.specs.Node.{is_leader}
+use Rattle.raft_spec.specs.NodeValues.{node_of}
 use Rattle.raft_core.specs.Roles.{role_value}
 use Rattle.node_core.proofs.RaftExactly.{ends_at, win_kept, win_not, win_so}
 use Rattle.node_core.proofs.running.Running.note_win.Goals as goal

@@ -1,5 +1,5 @@
 use Rattle.std.proofs.Common.{refl, ap}
-use Rattle.session_rules.specs.Sessions.{View}
+use Rattle.session_spec.specs.Sessions.{View}
 use Rattle.node_core.proofs.running.Running.of_parts.Goals as goal
 
 pub returns : goal.returns

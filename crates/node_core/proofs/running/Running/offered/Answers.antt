@@ -2,7 +2,7 @@ use Rattle.node_core.proofs.RaftExactly.{brings_is, brings_nothing, brings_so, p
 use Rattle.node_core.specs.Core.{core_of}
 use Rattle.std.proofs.Common.{option_map, sym, ap, subst, ◌∙◌}
 use Rattle.std.specs.Prelude.{None}
-use Rattle.node_state.specs.Snapshot.{IsRestoredIf, snapshot_value}
+use Rattle.applied_state.specs.Snapshot.{IsRestoredIf, snapshot_value}
 use Rattle.node_core.proofs.Installed.{lost_other}
 use Rattle.node_core.proofs.running.Running.offered.Goals as goal
 

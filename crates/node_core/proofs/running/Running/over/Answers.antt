@@ -1,10 +1,10 @@
 use Rattle.std.proofs.Common.{◌≡◌, List, [], None, false, sym, ap, subst, ◌∙◌}
-use Rattle.raft_rules.specs.Log.{LogEnd, log_end}
-use Rattle.raft_rules.specs.Node.{Node, Server}
-use Rattle.raft_member.specs.Members.{read_setup}
+use Rattle.raft_spec.specs.Log.{LogEnd, log_end}
+use Rattle.raft_spec.specs.Node.{Node, Server}
+use Rattle.raft_membership.specs.Members.{read_setup}
 use Rattle.store_laws.specs.Store.{Kept}
-use Rattle.node_replica.specs.Replicas.{ReplicaValue}
-use Rattle.node_rules.specs.Steps.{StartsSo}
+use Rattle.raft_on_disk.specs.Replicas.{ReplicaValue}
+use Rattle.node_spec.specs.Steps.{CompletesStart}
 use Rattle.node_core.specs.ExactStart.{AppliesExactly}
 use Rattle.node_core.specs.Starting.{AppliesKept}
 use Rattle.node_core.specs.Values.{seen}
@@ -37,7 +37,7 @@ returns-clause-stands c =
     let p = parts c in
     let h = c.in_ok-of_parts.ensures.started in
     let told : c.in_ok-of_parts.field-0.replica.raft.servers ≡ c.current.result.now = ap (λ (r : ReplicaValue). r.raft.servers) h.replica_is ∙ ap (λ (s : Node). s.servers) p.raft in
-    subst (λ (servers : List Server). StartsSo (read_setup c.args.spec.servers) c.args.kept (seen c.in_ok-of_parts.field-0) servers) (sym told)
+    subst (λ (servers : List Server). CompletesStart (read_setup c.args.spec.servers) c.args.kept (seen c.in_ok-of_parts.field-0) servers) (sym told)
     (c.starts_stand.ensures c.args.spec.servers c.current.result.now c.args.kept (seen c.in_ok-of_parts.field-0) c.keep_whole.new.self
     (started_begun c.args.spec.servers c.current.result.now c.args.kept c.in_ok-replica.replica c.in_ok-members.members c.keep_whole.new.self c.starting_view-view.result c.in_ok-of_parts.field-0 p h))
 

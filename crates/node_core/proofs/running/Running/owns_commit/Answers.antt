@@ -1,5 +1,5 @@
 use Rattle.std.proofs.Common.{◌≡◌, true, false, nat_eq, refl, ap, subst}
-use Rattle.raft_rules.specs.Log.{Entry}
+use Rattle.raft_spec.specs.Log.{Entry}
 use Rattle.node_core.proofs.OneChange.{owns_so, owns_not}
 use Rattle.node_core.proofs.running.Running.owns_commit.Goals as goal
 

@@ -3,7 +3,7 @@ use Rattle.node_core.specs.Core.{core_of}
 use Rattle.client_sessions.specs.declared.act.Act.TheVariants as acts
 use Rattle.std.proofs.Common.{refl, sym, ap, subst}
 use Rattle.client_sessions.specs.declared.act.Act.{Act}
-use Rattle.node_core.specs.Conns.{ConnsBehind}
+use Rattle.node_core.specs.Conns.{StreamsAfterMessage}
 use Rattle.client_sessions.specs.Clients.{Clients}
 use Rattle.node_core.specs.declared.running.Running.{Running}
 use Rattle.node_core.proofs.Performing.{performed_propose, performed_transfer}
@@ -23,7 +23,7 @@ returns-in_ok-give-in-Transfer-clause-performed c =
 
 pub returns-in_ok-hand_over-in-Peer-clause-conns : goal.returns-in_ok-hand_over-in-Peer-clause-conns
 returns-in_ok-hand_over-in-Peer-clause-conns c =
-    subst (λ (a : Act). ConnsBehind a c.args.self.now c.hand_over.new.self) (sym c.in-Peer.is)
+    subst (λ (a : Act). StreamsAfterMessage a c.args.self.now c.hand_over.new.self) (sym c.in-Peer.is)
     (record {
       streams = ap (λ (k : Clients). k.streams) c.in_ok-hand_over-in-Peer.ensures.gone;
       links = c.in_ok-hand_over-in-Peer.ensures.joined;

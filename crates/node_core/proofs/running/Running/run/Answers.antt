@@ -1,8 +1,8 @@
 use Rattle.node_core.proofs.ConnStreams.{conns_both}
 use Rattle.node_core.proofs.Turning.{none_turned, turned_on, under_kind}
-use Rattle.raft_member.specs.Members.{read_setup}
+use Rattle.raft_membership.specs.Members.{read_setup}
 use Rattle.node_core.proofs.Finding.{more, kept_finds, failed as always_err}
-use Rattle.node_core.specs.Account.{StopsBy, Underway}
+use Rattle.node_core.specs.Account.{AccountsForStop, Underway}
 use Rattle.node_core.proofs.StopsOfStep.{stopped_here}
 use Rattle.std.proofs.Common.{sym, subst}
 use Rattle.node_core.specs.Core.{core_of}
@@ -37,8 +37,8 @@ returns-in_err-turn-clause-stops g c = λ opening start event told u has.
     let k = g.E.Engine.kind c.args.engine.now in
     let l = g.E.Engine.kind c.loop.engine in
     let same = c.loop.invariant.same_kind in
-    more g.D.Disk.tells (g.D.Disk.states c.turn.new.disk) (StopsBy (g.E.Engine.meaning l) l (read_setup opening) start event) (StopsBy (g.E.Engine.meaning k) k (read_setup opening) start event)
-    (λ kept s. subst (λ z. StopsBy (g.E.Engine.meaning z) z (read_setup opening) start event kept) same s)
+    more g.D.Disk.tells (g.D.Disk.states c.turn.new.disk) (AccountsForStop (g.E.Engine.meaning l) l (read_setup opening) start event) (AccountsForStop (g.E.Engine.meaning k) k (read_setup opening) start event)
+    (λ kept s. subst (λ z. AccountsForStop (g.E.Engine.meaning z) z (read_setup opening) start event kept) same s)
     (c.in_err-turn.ensures.stops opening start event told
     (subst (λ z. Underway (g.E.Engine.meaning z) z (read_setup opening) start c.loop.self event told (g.E.Engine.told c.loop.engine)) (sym same) (c.loop.invariant.on opening start event told u)) (c.loop.invariant.stored has))
     )
@@ -47,7 +47,7 @@ pub returns-clause-stops : goal.returns-clause-stops
 returns-clause-stops g c = λ opening start event told u has.
     let k = g.E.Engine.kind c.args.engine.now in
     let m = g.E.Engine.meaning k in
-    kept_finds g.D.Disk.tells (g.D.Disk.states c.loop.disk) c.loop.self.replica (StopsBy m k (read_setup opening) start event)
+    kept_finds g.D.Disk.tells (g.D.Disk.states c.loop.disk) c.loop.self.replica (AccountsForStop m k (read_setup opening) start event)
     (stopped_here c.raft_steps_are_kept.ensures.stops m k (read_setup opening) start event c.loop.self (c.loop.invariant.on opening start event told u)) (c.loop.invariant.stored has)
 
 pub returns-then-not-branch-clause-exact : goal.returns-then-not-branch-clause-exact

@@ -1,10 +1,10 @@
 use Rattle.node_core.proofs.Carried.{lines_counted}
 use Rattle.node_core.proofs.ConnStreams.{outs_conns}
 use Rattle.std.proofs.Common.{refl, sym, ap, subst, ◌∙◌}
-use Rattle.raft_member.specs.Members.{read_setup}
-use Rattle.node_replica.specs.Replicas.{ReplicaValue, IsKept}
+use Rattle.raft_membership.specs.Members.{read_setup}
+use Rattle.raft_on_disk.specs.Replicas.{ReplicaValue, IsKept}
 use Rattle.node_core.specs.declared.running.Running.{Running}
-use Rattle.node_core.specs.Account.{moment_of, StopsBy, Stopped, Happens, Between, Underway}
+use Rattle.node_core.specs.Account.{moment_of, AccountsForStop, Stopped, Happens, Between, Underway}
 use Rattle.node_core.specs.Values.{seen}
 use Rattle.node_core.proofs.Accounting.{underway_starts}
 use Rattle.node_core.proofs.Causes.{always_ok}
@@ -61,7 +61,7 @@ returns-in_err-begin-clause-stops g c = λ opening has.
     let going = counted_anew old from c.requires.rests.going counted in
     let rest = at_rest from going (c.requires.rests.applied ∙ ap (λ (n : Running). n.replica.raft.commit) (sym counted)) c.requires.rests.idle in
     let between : Between old from = record { same = ap seen counted; links = refl; mail = refl; replies = refl; reads = refl } in
-    let P = StopsBy m kind setup old c.args.event in
+    let P = AccountsForStop m kind setup old c.args.event in
     more g.D.Disk.tells (g.D.Disk.states c.begin.new.disk) (Stopped m kind setup from (Happens c.args.event)) P
     (λ kept s. first_stopped m kind setup old from c.args.event kept between s) (c.in_err-begin.ensures.stops opening rest (subst (λ (r : ReplicaValue). IsKept g.D.Disk.tells (g.D.Disk.states c.args.disk.now) r) (sym c.count_keeps.ensures) has))
     )
@@ -79,12 +79,12 @@ returns-in_err-run-clause-stops g c = λ opening has.
     let going = counted_anew old from c.requires.rests.going counted in
     let rest = at_rest from going (c.requires.rests.applied ∙ ap (λ (n : Running). n.replica.raft.commit) (sym counted)) c.requires.rests.idle in
     let between : Between old from = record { same = ap seen counted; links = refl; mail = refl; replies = refl; reads = refl } in
-    let P = StopsBy m kind setup old c.args.event in
+    let P = AccountsForStop m kind setup old c.args.event in
     let started = underway_starts m kind setup old from c.begin.new.self c.args.event between refl rest (lines_counted old c.count_keeps.new.self c.args.event c.begin.new.self c.in_ok-begin.ensures.conns.lines) (c.in_ok-begin.ensures.begun opening) in
     let same = c.begin.ensures.engine.kind in
     let k1 = g.E.Engine.kind c.begin.new.engine in
-    more g.D.Disk.tells (g.D.Disk.states c.run.new.disk) (StopsBy (g.E.Engine.meaning k1) k1 setup old c.args.event) P
-    (λ kept s. subst (λ z. StopsBy (g.E.Engine.meaning z) z setup old c.args.event kept) same s)
+    more g.D.Disk.tells (g.D.Disk.states c.run.new.disk) (AccountsForStop (g.E.Engine.meaning k1) k1 setup old c.args.event) P
+    (λ kept s. subst (λ z. AccountsForStop (g.E.Engine.meaning z) z setup old c.args.event kept) same s)
     (c.in_err-run.ensures.stops opening old c.args.event (g.E.Engine.told c.args.engine.now)
     (subst (λ z. Underway (g.E.Engine.meaning z) z setup old c.begin.new.self c.args.event (g.E.Engine.told c.args.engine.now) (g.E.Engine.told c.begin.new.engine)) (sym same) started)
     (c.in_ok-begin.ensures.stored (subst (λ (r : ReplicaValue). IsKept g.D.Disk.tells (g.D.Disk.states c.args.disk.now) r) (sym c.count_keeps.ensures) has)))
@@ -101,7 +101,7 @@ returns-clause-stops g c = λ opening has.
     let going = counted_anew old from c.requires.rests.going counted in
     let rest = at_rest from going (c.requires.rests.applied ∙ ap (λ (n : Running). n.replica.raft.commit) (sym counted)) c.requires.rests.idle in
     let between : Between old from = record { same = ap seen counted; links = refl; mail = refl; replies = refl; reads = refl } in
-    let P = StopsBy m kind setup old c.args.event in
+    let P = AccountsForStop m kind setup old c.args.event in
     let started = underway_starts m kind setup old from c.begin.new.self c.args.event between refl rest (lines_counted old c.count_keeps.new.self c.args.event c.begin.new.self c.in_ok-begin.ensures.conns.lines) (c.in_ok-begin.ensures.begun opening) in
     let same = c.begin.ensures.engine.kind in
     let k1 = g.E.Engine.kind c.begin.new.engine in

@@ -1,12 +1,12 @@
 use Rattle.node_core.proofs.RaftExactly.{installs_exactly}
 use Rattle.std.proofs.Common.{sym, ap, subst, ◌∙◌}
-use Rattle.node_replica.specs.Replicas.{ReplicaValue, IsKept, kept_of}
+use Rattle.raft_on_disk.specs.Replicas.{ReplicaValue, IsKept, kept_of}
 use Rattle.node_core.specs.declared.running.Running.{Running}
 use Rattle.node_core.specs.Waiting.{HasTurns}
 use Rattle.node_core.proofs.Followed.{tells_or, beside_installed}
 use Rattle.node_core.proofs.Installed.{installs_so, installs_on, installed_led, placed_clients, brings_intake, follows_behind_snapshot}
 use Rattle.node_core.proofs.Installing.{holds_installed}
-use Rattle.raft_member.specs.Members.{read_setup}
+use Rattle.raft_membership.specs.Members.{read_setup}
 use Rattle.raft_core.specs.Events.{input_of}
 use Rattle.node_core.specs.Finding.{StopsIn, StopsTelling, StopsInstalling, in_install}
 use Rattle.node_core.specs.Taking.{bytes_with}

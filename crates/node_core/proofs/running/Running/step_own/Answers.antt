@@ -1,10 +1,10 @@
 use Rattle.node_core.proofs.RaftExactly.{own_exactly}
 use Rattle.std.proofs.Common.{sym, ap, subst, ◌∙◌}
-use Rattle.node_replica.specs.Replicas.{ReplicaValue, IsKept}
+use Rattle.raft_on_disk.specs.Replicas.{ReplicaValue, IsKept}
 use Rattle.node_core.specs.declared.running.Running.{Running}
 use Rattle.node_core.proofs.Followed.{told_by, beside_own, own_may}
 use Rattle.node_core.proofs.OwnTurns.{own_office_behind, own_led, owns_so}
-use Rattle.raft_member.specs.Members.{read_setup}
+use Rattle.raft_membership.specs.Members.{read_setup}
 use Rattle.raft_core.specs.Events.{input_of}
 use Rattle.node_core.specs.Finding.{StopsIn, StopsChanging, StopsOwn}
 use Rattle.node_core.specs.Taking.{bytes_with}

@@ -1,10 +1,10 @@
 use Rattle.node_core.proofs.RaftExactly.{follows_exactly}
 use Rattle.std.proofs.Common.{sym, ap, subst, ◌∙◌}
-use Rattle.node_replica.specs.Replicas.{ReplicaValue, IsKept}
+use Rattle.raft_on_disk.specs.Replicas.{ReplicaValue, IsKept}
 use Rattle.node_core.specs.declared.running.Running.{Running}
 use Rattle.node_core.proofs.Followed.{told_or, beside_followed}
 use Rattle.node_core.proofs.Stepped.{began_so, fresh_won, follows_step}
-use Rattle.raft_member.specs.Members.{read_setup}
+use Rattle.raft_membership.specs.Members.{read_setup}
 use Rattle.raft_core.specs.Events.{input_of}
 use Rattle.node_core.specs.Finding.{StopsIn, StopsBehind, StopsFollowing, in_step}
 use Rattle.node_core.specs.Taking.{bytes_with}

@@ -9,7 +9,7 @@ use Rattle.node_core.specs.Taking.{came, none_came}
 use Rattle.node_core.proofs.Led.{led_same}
 use Rattle.node_core.proofs.Finding.{more, kept_finds, failed as always_err}
 use Rattle.node_core.specs.Finding.{BeganStops, StopsLetter, letter_stopped, no_letter}
-use Rattle.raft_member.specs.Members.{read_setup}
+use Rattle.raft_membership.specs.Members.{read_setup}
 use Rattle.raft_core.specs.declared.event.RaftEvent.TheVariants as raft_events
 use Rattle.node_core.proofs.running.Running.take_letter.Goals as goal
 

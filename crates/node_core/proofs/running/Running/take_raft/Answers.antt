@@ -1,14 +1,14 @@
 use Rattle.node_core.specs.Core.{core_of}
-use Rattle.node_core.specs.ExactRaft.{BringsBy, OffersBy}
+use Rattle.node_core.specs.ExactRaft.{ExactSnapshot, ExactOffers}
 use Rattle.node_core.proofs.RaftExactly.{takes_plain, takes_snapshot, takes_none}
 use Rattle.std.proofs.lemmas.Result.{on_ok_weaker, on_err_weaker}
 use Rattle.sql_engine.specs.Meanings.{Told}
-use Rattle.raft_member.specs.Members.{read_setup}
-use Rattle.node_core.specs.Taking.{BeganBy, bytes_with}
+use Rattle.raft_membership.specs.Members.{read_setup}
+use Rattle.node_core.specs.Taking.{BeganStep, bytes_with}
 use Rattle.node_core.proofs.Besides.{may_outside}
 use Rattle.node_core.proofs.RaftAccounts.{began_following, began_installing}
 use Rattle.std.proofs.Common.{Option, refl, sym, subst}
-use Rattle.node_rules.specs.RaftTurns.{at_first}
+use Rattle.node_spec.specs.RaftTurns.{at_first}
 use Rattle.node_core.specs.Finding.{StopsFollowing, StopsInstalling, BeganStops, at_once}
 use Rattle.node_core.proofs.Finding.{failed, more, kept_finds}
 use Rattle.node_core.proofs.StopsOfTurns.{following_stops, installing_stops}
@@ -24,7 +24,7 @@ pub returns-in_ok-step_install-in-Snapshot-clause-began : goal.returns-in_ok-ste
 returns-in_ok-step_install-in-Snapshot-clause-began g c = λ opening.
     let kind = g.E.Engine.kind c.args.engine.now in
     let m = g.E.Engine.meaning kind in
-    subst (λ (told : Option Told). BeganBy m kind (read_setup opening) c.args.self.now c.step_install.new.self c.args.event (g.E.Engine.told c.args.engine.now) told) (sym c.forget.ensures.told)
+    subst (λ (told : Option Told). BeganStep m kind (read_setup opening) c.args.self.now c.step_install.new.self c.args.event (g.E.Engine.told c.args.engine.now) told) (sym c.forget.ensures.told)
     (began_installing m kind (read_setup opening) c.args.self.now c.step_install.new.self c.args.event (c.in_ok-step_install-in-Snapshot.ensures.began opening))
 
 pub returns-in_err-offered-clause-stops : goal.returns-in_err-offered-clause-stops
@@ -47,12 +47,12 @@ returns-in-Nothing-clause-stops g c = λ opening has.
 pub returns-in-Nothing-clause-exact : goal.returns-in-Nothing-clause-exact
 returns-in-Nothing-clause-exact g c =
     on_ok_weaker c.step_raft.result
-    (takes_plain c.args.event (core_of c.args.self.now) (core_of c.step_raft.new.self) (subst (OffersBy c.args.event (core_of c.args.self.now)) c.in-Nothing.is c.in_ok-offered.ensures.exact)) c.step_raft.ensures.exact
+    (takes_plain c.args.event (core_of c.args.self.now) (core_of c.step_raft.new.self) (subst (ExactOffers c.args.event (core_of c.args.self.now)) c.in-Nothing.is c.in_ok-offered.ensures.exact)) c.step_raft.ensures.exact
 
 pub returns-in_ok-step_install-in-Snapshot-clause-exact : goal.returns-in_ok-step_install-in-Snapshot-clause-exact
 returns-in_ok-step_install-in-Snapshot-clause-exact g c =
-    let brings : BringsBy c.args.event (core_of c.args.self.now) c.in-Snapshot.applied = subst (OffersBy c.args.event (core_of c.args.self.now)) c.in-Snapshot.is c.in_ok-offered.ensures.exact in
+    let brings : ExactSnapshot c.args.event (core_of c.args.self.now) c.in-Snapshot.applied = subst (ExactOffers c.args.event (core_of c.args.self.now)) c.in-Snapshot.is c.in_ok-offered.ensures.exact in
     takes_snapshot c.args.event c.in-Snapshot.applied (core_of c.args.self.now) (core_of c.step_install.new.self) brings (c.in_ok-step_install-in-Snapshot.ensures.exact brings.state brings.from)
 
 pub returns-in-Lost-clause-exact : goal.returns-in-Lost-clause-exact
-returns-in-Lost-clause-exact g c = takes_none c.args.event (core_of c.args.self.now) (subst (OffersBy c.args.event (core_of c.args.self.now)) c.in-Lost.is c.in_ok-offered.ensures.exact)
+returns-in-Lost-clause-exact g c = takes_none c.args.event (core_of c.args.self.now) (subst (ExactOffers c.args.event (core_of c.args.self.now)) c.in-Lost.is c.in_ok-offered.ensures.exact)

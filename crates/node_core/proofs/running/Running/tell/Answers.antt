@@ -1,7 +1,7 @@
 use Rattle.std.proofs.Common.{[]}
 use Rattle.node_core.proofs.Stepped.{tells_so}
-use Rattle.raft_member.specs.Members.{read_setup}
-use Rattle.raft_rules.specs.Node.{Local, UseServers}
+use Rattle.raft_membership.specs.Members.{read_setup}
+use Rattle.raft_spec.specs.Node.{Local, UseServers}
 use Rattle.node_core.specs.Finding.{StopsIn}
 use Rattle.node_core.proofs.Finding.{failed, more}
 use Rattle.node_core.proofs.StopsOfTurns.{stops_other}

@@ -1,10 +1,10 @@
 use Rattle.node_core.proofs.RaftExactly.{untold_other, untold_plain, told_change}
 use Rattle.std.proofs.Common.{Bool, refl, sym, subst, ◌∙◌, arith}
 use Rattle.std.proofs.lemmas.Result.{on_ok_weaker, on_err_weaker}
-use Rattle.raft_member.specs.Members.{read_setup}
-use Rattle.raft_rules.specs.Node.{Local, UseServers}
+use Rattle.raft_membership.specs.Members.{read_setup}
+use Rattle.raft_spec.specs.Node.{Local, UseServers}
 use Rattle.node_core.specs.Finding.{StopsIn, StopsChanging, unchanged_yet, in_change}
-use Rattle.node_core.specs.Posting.{MayChangeTo, MayOrNot, no_change, change_told}
+use Rattle.node_core.specs.Posting.{MayChangeTo, DecidesChange, no_change, change_told}
 use Rattle.node_core.proofs.Finding.{failed, more, kept_finds}
 use Rattle.node_core.proofs.OneChange.{unfit_few, unfit_many, unfit_unread, unfit_not, change_event, may_so, may_tell, other_plain}
 use Rattle.node_core.proofs.RaftTurns.{told_none}
@@ -48,14 +48,14 @@ returns-clause-tells g c =
     let is = (change_event c.args.event.now c.in-Propose.entries c.as_slice-2.result.now c.entry-item.result c.in-Propose.is c.as_slice-2.ensures c.in-len1.len_at_least c.in-len1.len_below c.entry-item.is) in
     let may = may_so c.args.self.now c.args.event.now c.entry-item.result c.in-Some.servers c.requires.whole c.requires.members
     (change_event c.args.event.now c.in-Propose.entries c.as_slice-2.result.now c.entry-item.result c.in-Propose.is c.as_slice-2.ensures c.in-len1.len_at_least c.in-len1.len_below c.entry-item.is)
-    c.requires.takes (sym c.in_ok-servers.ensures.is ∙ c.in-Some.is) (subst (MayChangeTo c.args.self.now) c.as_slice-3.ensures (subst (λ (b : Bool). MayOrNot b c.args.self.now c.as_slice-3.result.now) c.if-not-branch.false c.in_ok-may_change_to.ensures)) in
+    c.requires.takes (sym c.in_ok-servers.ensures.is ∙ c.in-Some.is) (subst (MayChangeTo c.args.self.now) c.as_slice-3.ensures (subst (λ (b : Bool). DecidesChange b c.args.self.now c.as_slice-3.result.now) c.if-not-branch.false c.in_ok-may_change_to.ensures)) in
     on_ok_weaker c.tell.result (λ l. change_told c.entry-item.result c.in-Some.servers is may l) c.tell.ensures.tells
 
 pub returns-clause-stops : goal.returns-clause-stops
 returns-clause-stops g c = λ opening came has.
     let may = may_so c.args.self.now c.args.event.now c.entry-item.result c.in-Some.servers c.requires.whole c.requires.members
     (change_event c.args.event.now c.in-Propose.entries c.as_slice-2.result.now c.entry-item.result c.in-Propose.is c.as_slice-2.ensures c.in-len1.len_at_least c.in-len1.len_below c.entry-item.is)
-    c.requires.takes (sym c.in_ok-servers.ensures.is ∙ c.in-Some.is) (subst (MayChangeTo c.args.self.now) c.as_slice-3.ensures (subst (λ (b : Bool). MayOrNot b c.args.self.now c.as_slice-3.result.now) c.if-not-branch.false c.in_ok-may_change_to.ensures)) in
+    c.requires.takes (sym c.in_ok-servers.ensures.is ∙ c.in-Some.is) (subst (MayChangeTo c.args.self.now) c.as_slice-3.ensures (subst (λ (b : Bool). DecidesChange b c.args.self.now c.as_slice-3.result.now) c.if-not-branch.false c.in_ok-may_change_to.ensures)) in
     on_err_weaker c.tell.result
     (more g.D.Disk.tells (g.D.Disk.states c.tell.new.disk) (StopsIn (read_setup opening) came c.args.self.now (Local (UseServers c.in-Some.servers))) (StopsChanging (read_setup opening) came c.args.self.now)
     (λ kept s. in_change c.in-Some.servers (may_tell opening came c.args.self.now c.entry-item.result c.in-Some.servers may) s)) (c.tell.ensures.stops opening came has)
@@ -75,7 +75,7 @@ pub returns-then-not-branch-clause-unfit : goal.returns-then-not-branch-clause-u
 returns-then-not-branch-clause-unfit g c = λ q.
     unfit_not c.args.self.now c.args.event.now c.in-Propose.entries c.as_slice.result.now c.as_slice-2.result.now c.entry-item.result c.in-Some.servers c.as_slice-3.result.now
     c.in-Propose.is c.as_slice.ensures (c.are_plain.ensures.change c.if-are_plain.false) c.as_slice-2.ensures c.entry-item.is (sym c.in-Some.is ∙ c.in_ok-servers.ensures.is) c.as_slice-3.ensures
-    (subst (λ (b : Bool). MayOrNot b c.args.self.now c.as_slice-3.result.now) c.if-not-branch.true c.in_ok-may_change_to.ensures)
+    (subst (λ (b : Bool). DecidesChange b c.args.self.now c.as_slice-3.result.now) c.if-not-branch.true c.in_ok-may_change_to.ensures)
 
 pub returns-then-are_plain-clause-exact : goal.returns-then-are_plain-clause-exact
 returns-then-are_plain-clause-exact g c =

@@ -1,7 +1,7 @@
 use Rattle.node_core.proofs.ConnStreams.{read_kept, none_later}
 use Rattle.std.proofs.Common.{refl}
 use Rattle.client_sessions.specs.Seen.{clients_of}
-use Rattle.session_decisions.specs.Reading.{read_named}
+use Rattle.session_outcomes.specs.Reading.{read_named}
 use Rattle.node_core.specs.declared.running.Running.{Running}
 use Rattle.node_core.proofs.ClientTurns.{reads_reply}
 use Rattle.node_core.proofs.Going.{clients_moved}

@@ -1,8 +1,8 @@
 use Rattle.node_core.proofs.RaftExactly.{untold_by, told_by}
 use Rattle.std.proofs.lemmas.Result.{on_ok_weaker, on_err_weaker}
-use Rattle.node_core.specs.Posting.{LeavesSo, tells_current}
-use Rattle.raft_member.specs.Members.{read_setup}
-use Rattle.raft_rules.specs.Node.{Server, Local, UseServers}
+use Rattle.node_core.specs.Posting.{KeepsAllButLog, tells_current}
+use Rattle.raft_membership.specs.Members.{read_setup}
+use Rattle.raft_spec.specs.Node.{Server, Local, UseServers}
 use Rattle.std.proofs.Common.{List, refl, subst, ◌∙◌}
 use Rattle.node_core.specs.Finding.{StopsIn, StopsTelling, untold_yet, in_telling}
 use Rattle.node_core.proofs.Finding.{failed, kept_finds, more}
@@ -11,7 +11,7 @@ use Rattle.node_core.proofs.running.Running.tell_servers.Goals as goal
 pub returns-clause-tells : goal.returns-clause-tells
 returns-clause-tells g c =
     on_ok_weaker c.tell.result
-    (λ l. tells_current (subst (λ (servers : List Server). LeavesSo c.args.self.now c.tell.new.self (Local (UseServers servers))) (c.in_ok-servers.ensures ∙ c.current.ensures.value) l))
+    (λ l. tells_current (subst (λ (servers : List Server). KeepsAllButLog c.args.self.now c.tell.new.self (Local (UseServers servers))) (c.in_ok-servers.ensures ∙ c.current.ensures.value) l))
     c.tell.ensures.tells
 
 pub returns-in_err-servers-clause-stops : goal.returns-in_err-servers-clause-stops

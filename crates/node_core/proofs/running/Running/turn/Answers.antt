@@ -1,12 +1,12 @@
 use Rattle.node_core.proofs.ConnStreams.{conns_both, kept_on}
 use Rattle.node_core.proofs.Carried.{kept_moves}
 use Rattle.std.proofs.Common.{sym, subst}
-use Rattle.raft_member.specs.Members.{read_setup}
-use Rattle.node_replica.specs.Replicas.{ReplicaValue, IsKept}
+use Rattle.raft_membership.specs.Members.{read_setup}
+use Rattle.raft_on_disk.specs.Replicas.{ReplicaValue, IsKept}
 use Rattle.node_core.proofs.Looping.{on_ok_then, goes_further, had_none}
 use Rattle.node_core.proofs.RaftAccounts.{owns_turns}
 use Rattle.node_core.proofs.Finding.{more, kept_finds, failed as always_err}
-use Rattle.node_core.specs.Account.{StopsBy}
+use Rattle.node_core.specs.Account.{AccountsForStop}
 use Rattle.node_core.specs.Finding.{StopsOwn}
 use Rattle.node_core.proofs.StopsOfStep.{stopped_here, stopped_own}
 use Rattle.node_core.specs.Core.{core_of}
@@ -57,7 +57,7 @@ returns-in_err-take_due-clause-stops g c = λ opening start event told u has.
     (
     let kind = g.E.Engine.kind c.args.engine.now in
     let m = g.E.Engine.meaning kind in
-    more g.D.Disk.tells (g.D.Disk.states c.take_due.new.disk) (StopsOwn (read_setup opening) u.so_far.brought.bytes c.args.self.now) (StopsBy m kind (read_setup opening) start event)
+    more g.D.Disk.tells (g.D.Disk.states c.take_due.new.disk) (StopsOwn (read_setup opening) u.so_far.brought.bytes c.args.self.now) (AccountsForStop m kind (read_setup opening) start event)
     (λ kept s. stopped_own c.raft_steps_are_kept.ensures.stops m kind (read_setup opening) start event c.args.self.now u kept s) (c.in_err-take_due.ensures.stops opening u.so_far.brought.bytes has)
     )
 
@@ -67,7 +67,7 @@ returns-in_err-apply_next-clause-stops g c = λ opening start event told u has.
     (
     let kind = g.E.Engine.kind c.args.engine.now in
     let m = g.E.Engine.meaning kind in
-    kept_finds g.D.Disk.tells (g.D.Disk.states c.take_due.new.disk) c.take_due.new.self.replica (StopsBy m kind (read_setup opening) start event)
+    kept_finds g.D.Disk.tells (g.D.Disk.states c.take_due.new.disk) c.take_due.new.self.replica (AccountsForStop m kind (read_setup opening) start event)
     (stopped_here c.raft_steps_are_kept.ensures.stops m kind (read_setup opening) start event c.take_due.new.self
     (had_none m kind (read_setup opening) start event told c.args.self.now c.take_due.new.self u (c.in_ok-take_due.ensures.none c.if-branch.false))) (c.in_ok-take_due.ensures.stored has)
     )

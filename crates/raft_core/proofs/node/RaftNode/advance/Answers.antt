@@ -1,8 +1,8 @@
 use Rattle.std.proofs.Common.{◌∙◌, refl, ap}
-use Rattle.raft_rules.specs.Commitment.{commit_index}
-use Rattle.raft_rules.specs.Compaction.{whole_log}
-use Rattle.raft_rules.specs.Progress.{commit_of}
-use Rattle.raft_rules.specs.NodeValues.{NodeValue, node_of}
+use Rattle.raft_spec.specs.Commitment.{commit_index}
+use Rattle.raft_spec.specs.Compaction.{whole_log}
+use Rattle.raft_spec.specs.Progress.{commit_of}
+use Rattle.raft_spec.specs.NodeValues.{NodeValue, node_of}
 use Rattle.raft_core.specs.contracts.node.RaftNode.{the_view}
 use Rattle.raft_core.specs.Nodes.{told}
 use Rattle.raft_core.proofs.FinishRules.{commit_same, advanced_log}

@@ -1,6 +1,6 @@
 use Rattle.std.proofs.Common.{◌∙◌, sym, subst}
-use Rattle.raft_rules.specs.NodeValues.{NodeValue, node_of}
-use Rattle.raft_rules.specs.Elections.{on_grants}
+use Rattle.raft_spec.specs.NodeValues.{NodeValue, node_of}
+use Rattle.raft_spec.specs.Elections.{on_grants}
 use Rattle.raft_core.specs.declared.effects.Recipients.TheVariants as sent
 use Rattle.raft_core.specs.declared.effects.LogChange.TheVariants as changes
 use Rattle.raft_core.specs.Effects.{said, Does}

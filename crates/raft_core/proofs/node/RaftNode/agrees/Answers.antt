@@ -1,7 +1,7 @@
 use Rattle.std.proofs.Common.{◌∙◌, refl, sym, ap, subst, arith}
-use Rattle.raft_rules.specs.Log.{LogEnd}
-use Rattle.raft_rules.specs.NodeValues.{NodeValue, node_of}
-use Rattle.raft_world.proofs.AlikeRules.{Shape}
+use Rattle.raft_spec.specs.Log.{LogEnd}
+use Rattle.raft_spec.specs.NodeValues.{NodeValue, node_of}
+use Rattle.raft_safety.proofs.AlikeRules.{Shape}
 use Rattle.raft_core.specs.contracts.node.RaftNode.{the_view}
 use Rattle.raft_core.proofs.TakenLogs.{agrees_below, agreeing_place}
 use Rattle.raft_core.proofs.WholeLogs.{shape_of}

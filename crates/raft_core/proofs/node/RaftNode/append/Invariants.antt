@@ -1,5 +1,5 @@
 use Rattle.std.proofs.Common.{◌≡◌, ◌++◌}
-use Rattle.raft_rules.specs.Outcomes.{with_term}
+use Rattle.raft_spec.specs.Outcomes.{with_term}
 use Rattle.raft_core.proofs.node.RaftNode.append.Given as goal
 
 abbrev pub invariant-loop-entry : goal.invariant-loop-entry

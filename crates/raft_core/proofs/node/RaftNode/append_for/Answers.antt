@@ -1,9 +1,9 @@
 use Rattle.std.proofs.Common.{◌∙◌, ◌-◌, take, drop, refl, sym, ap, subst, arith}
-use Rattle.raft_rules.specs.Log.{term_at}
-use Rattle.raft_rules.specs.Node.{Append}
-use Rattle.raft_rules.specs.NodeValues.{NodeValue, node_of}
-use Rattle.raft_world.proofs.AlikeRules.{Shape}
-use Rattle.raft_world.proofs.AlikeSteps.{place_known}
+use Rattle.raft_spec.specs.Log.{term_at}
+use Rattle.raft_spec.specs.Node.{Append}
+use Rattle.raft_spec.specs.NodeValues.{NodeValue, node_of}
+use Rattle.raft_safety.proofs.AlikeRules.{Shape}
+use Rattle.raft_safety.proofs.AlikeSteps.{place_known}
 use Rattle.raft_core.specs.contracts.node.RaftNode.{the_view}
 use Rattle.raft_core.specs.Effects.{message_in}
 use Rattle.raft_core.proofs.WholeLogs.{shape_of}

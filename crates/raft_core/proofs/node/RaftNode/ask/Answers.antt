@@ -1,8 +1,8 @@
 use Rattle.std.proofs.Common.{◌≡◌, ◌∙◌, refl, ap, subst}
 use Rattle.std.specs.Prelude.{cond}
-use Rattle.raft_rules.specs.Elections.{may_grant, grants_vote}
-use Rattle.raft_rules.specs.Votes.{after_request, grants_request}
-use Rattle.raft_rules.specs.NodeValues.{NodeValue, node_of}
+use Rattle.raft_spec.specs.Elections.{may_grant, grants_vote}
+use Rattle.raft_spec.specs.Votes.{after_request, grants_request}
+use Rattle.raft_spec.specs.NodeValues.{NodeValue, node_of}
 use Rattle.raft_core.specs.contracts.node.RaftNode.{the_view}
 use Rattle.raft_core.proofs.WholeLogs.{ends_same}
 use Rattle.raft_core.proofs.OwnVotes.{grants_now, node_asked, with_votes}

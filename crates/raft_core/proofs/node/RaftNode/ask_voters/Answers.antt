@@ -1,4 +1,4 @@
-use Rattle.raft_rules.specs.Node.{AskVote}
+use Rattle.raft_spec.specs.Node.{AskVote}
 use Rattle.raft_core.specs.Effects.{message_in}
 use Rattle.raft_core.specs.Messages.{sents_value}
 use Rattle.raft_core.proofs.FinishRules.{asks_none, asks_more}

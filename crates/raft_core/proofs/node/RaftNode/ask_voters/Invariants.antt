@@ -1,6 +1,6 @@
 use Rattle.std.proofs.Common.{◌≡◌, ◌++◌, take}
 use Rattle.std.specs.Prelude.{map}
-use Rattle.raft_rules.specs.Node.{AskVote, others}
+use Rattle.raft_spec.specs.Node.{AskVote, others}
 use Rattle.raft_core.specs.Effects.{message_in}
 use Rattle.raft_core.specs.Messages.{sents_value}
 use Rattle.raft_core.proofs.node.RaftNode.ask_voters.Given as goal

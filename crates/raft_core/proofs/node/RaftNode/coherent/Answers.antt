@@ -1,5 +1,5 @@
 use Rattle.std.proofs.Common.{subst}
-use Rattle.raft_rules.specs.NodeValues.{IsCoherent}
+use Rattle.raft_spec.specs.NodeValues.{IsCoherent}
 use Rattle.raft_core.proofs.node.RaftNode.coherent.Goals as goal
 
 pub returns : goal.returns

@@ -1,6 +1,6 @@
 use Rattle.std.proofs.Common.{◌≡◌, ◌∙◌, refl, subst}
-use Rattle.raft_rules.specs.Log.{log_end}
-use Rattle.raft_rules.specs.NodeValues.{NodeValue, node_of}
+use Rattle.raft_spec.specs.Log.{log_end}
+use Rattle.raft_spec.specs.NodeValues.{NodeValue, node_of}
 use Rattle.raft_core.specs.contracts.node.RaftNode.{the_view}
 use Rattle.raft_core.proofs.WholeLogs.{ends_same}
 use Rattle.raft_core.proofs.node.RaftNode.end.Goals as goal

@@ -1,7 +1,7 @@
 use Rattle.std.proofs.Common.{◌≡◌, ◌<◌, ◌∙◌, refl, ap, subst, arith}
-use Rattle.raft_rules.specs.Compaction.{meets}
-use Rattle.raft_rules.specs.NodeValues.{NodeValue, node_of}
-use Rattle.raft_rules.specs.Replication.{agrees}
+use Rattle.raft_spec.specs.Compaction.{meets}
+use Rattle.raft_spec.specs.NodeValues.{NodeValue, node_of}
+use Rattle.raft_spec.specs.Replication.{agrees}
 use Rattle.raft_core.specs.contracts.node.RaftNode.{the_view}
 use Rattle.raft_core.proofs.TakenLogs.{agrees_same}
 use Rattle.raft_core.proofs.node.RaftNode.has_place.Goals as goal

@@ -1,8 +1,8 @@
 use Rattle.std.proofs.Common.{◌∙◌, ◌<◌, ap, arith}
 use Rattle.std.proofs.lemmas.Bool.{leb-false}
-use Rattle.raft_rules.specs.Compaction.{compacted}
-use Rattle.raft_rules.specs.NodeValues.{node_of}
-use Rattle.raft_rules.specs.Snapshots.{on_install}
+use Rattle.raft_spec.specs.Compaction.{compacted}
+use Rattle.raft_spec.specs.NodeValues.{node_of}
+use Rattle.raft_spec.specs.Snapshots.{on_install}
 use Rattle.raft_core.proofs.EndRules.{says_installed, ends_are, install_keeps}
 use Rattle.raft_core.proofs.node.RaftNode.install_kept.Goals as goal
 

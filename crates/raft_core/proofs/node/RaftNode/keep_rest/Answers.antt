@@ -1,8 +1,8 @@
 use Rattle.std.proofs.Common.{◌≡◌, ◌<◌, ◌-◌, ◌∙◌, drop, refl, sym, ap, subst, arith}
 use Rattle.std.specs.Prelude.{true}
-use Rattle.raft_rules.specs.Log.{LogEnd, matches}
-use Rattle.raft_rules.specs.Compaction.{CutLog}
-use Rattle.raft_rules.specs.NodeValues.{NodeValue, node_of}
+use Rattle.raft_spec.specs.Log.{LogEnd, matches}
+use Rattle.raft_spec.specs.Compaction.{CutLog}
+use Rattle.raft_spec.specs.NodeValues.{NodeValue, node_of}
 use Rattle.raft_log.specs.Places.{cut_at}
 use Rattle.raft_core.specs.contracts.node.RaftNode.{the_view}
 use Rattle.raft_core.proofs.CutLogs.{cut_kept, kept_log}

@@ -1,8 +1,8 @@
 use Rattle.std.proofs.Common.{◌∙◌, [], length, ap, arith}
-use Rattle.raft_rules.specs.Node.{Leader, peers}
-use Rattle.raft_rules.specs.Progress.{LeaderProgress, ids_in, rows_for}
-use Rattle.raft_rules.specs.NodeValues.{NodeValue}
-use Rattle.raft_rules.proofs.ProgressPeers.{ids_rows_for}
+use Rattle.raft_spec.specs.Node.{Leader, peers}
+use Rattle.raft_spec.specs.Progress.{LeaderProgress, ids_in, rows_for}
+use Rattle.raft_spec.specs.NodeValues.{NodeValue}
+use Rattle.raft_spec.proofs.ProgressPeers.{ids_rows_for}
 use Rattle.raft_core.specs.contracts.node.RaftNode.{the_view}
 use Rattle.raft_core.proofs.PeerLists.{few_peers, new_progress}
 use Rattle.raft_core.proofs.node.RaftNode.lead.Goals as goal

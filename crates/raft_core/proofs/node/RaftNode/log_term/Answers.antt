@@ -1,6 +1,6 @@
 use Rattle.std.proofs.Common.{◌≡◌, ◌≤◌, ◌⊎◌, ◌∙◌, refl, sym, ap, subst, arith}
-use Rattle.raft_rules.specs.Log.{term_at}
-use Rattle.raft_rules.specs.NodeValues.{NodeValue, node_of}
+use Rattle.raft_spec.specs.Log.{term_at}
+use Rattle.raft_spec.specs.NodeValues.{NodeValue, node_of}
 use Rattle.raft_core.specs.contracts.node.RaftNode.{the_view}
 use Rattle.raft_core.proofs.FinishRules.{known_some, term_same, term_none}
 use Rattle.raft_core.proofs.node.RaftNode.log_term.Goals as goal

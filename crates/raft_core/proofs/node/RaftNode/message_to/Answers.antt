@@ -1,7 +1,7 @@
 use Rattle.std.proofs.Common.{◌∙◌, sym, ap}
-use Rattle.raft_rules.specs.Log.{LogEnd}
-use Rattle.raft_rules.specs.Node.{Install}
-use Rattle.raft_rules.specs.Compaction.{compacted}
+use Rattle.raft_spec.specs.Log.{LogEnd}
+use Rattle.raft_spec.specs.Node.{Install}
+use Rattle.raft_spec.specs.Compaction.{compacted}
 use Rattle.raft_core.specs.Effects.{message_in}
 use Rattle.raft_core.proofs.FinishRules.{sends_snapshot, sends_entries}
 use Rattle.raft_core.proofs.node.RaftNode.message_to.Goals as goal

@@ -1,10 +1,10 @@
 use Rattle.std.proofs.Common.{◌∙◌, [], length, refl, sym, ap, subst, arith}
-use Rattle.raft_rules.specs.Log.{LogEnd}
-use Rattle.raft_rules.specs.Node.{others}
-use Rattle.raft_rules.specs.Compaction.{CutLog}
-use Rattle.raft_rules.specs.Progress.{LeaderProgress, rows_for}
-use Rattle.raft_rules.specs.Votes.{Votes}
-use Rattle.raft_rules.specs.NodeValues.{node_of}
+use Rattle.raft_spec.specs.Log.{LogEnd}
+use Rattle.raft_spec.specs.Node.{others}
+use Rattle.raft_spec.specs.Compaction.{CutLog}
+use Rattle.raft_spec.specs.Progress.{LeaderProgress, rows_for}
+use Rattle.raft_spec.specs.Votes.{Votes}
+use Rattle.raft_spec.specs.NodeValues.{node_of}
 use Rattle.raft_core.specs.Nodes.{IsLog, IsMembership}
 use Rattle.raft_core.proofs.PeerLists.{few_peers}
 use Rattle.raft_core.proofs.StartRules.{starts_log, starts_members, starts_node, started}

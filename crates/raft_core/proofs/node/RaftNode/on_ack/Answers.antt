@@ -1,8 +1,8 @@
 use Rattle.std.proofs.Common.{◌∙◌, sym, ap, subst}
 use Rattle.std.specs.Prelude.{false, ◌&&◌}
-use Rattle.raft_rules.specs.Node.{among, peers}
-use Rattle.raft_rules.specs.NodeValues.{node_of}
-use Rattle.raft_rules.specs.Replication.{on_ack}
+use Rattle.raft_spec.specs.Node.{among, peers}
+use Rattle.raft_spec.specs.NodeValues.{node_of}
+use Rattle.raft_spec.specs.Replication.{on_ack}
 use Rattle.raft_core.specs.Effects.{Does}
 use Rattle.raft_core.proofs.VoteRules.{effects_are}
 use Rattle.raft_core.proofs.LeaderRules.{ack_ignored, ack_bad}

@@ -1,8 +1,8 @@
 use Rattle.std.proofs.Common.{List, ◌+◌, length, ◌∙◌, sym, ap, subst}
 use Rattle.std.specs.Prelude.{max}
-use Rattle.raft_rules.specs.Log.{Entry, LogEnd}
-use Rattle.raft_rules.specs.NodeValues.{node_of}
-use Rattle.raft_rules.specs.Replication.{on_append}
+use Rattle.raft_spec.specs.Log.{Entry, LogEnd}
+use Rattle.raft_spec.specs.NodeValues.{node_of}
+use Rattle.raft_spec.specs.Replication.{on_append}
 use Rattle.raft_core.specs.Effects.{Takes}
 use Rattle.raft_core.proofs.VoteRules.{effects_are}
 use Rattle.raft_core.proofs.AppendRules.{append_leads, append_differs, append_lost, replaces_past, append_takes}

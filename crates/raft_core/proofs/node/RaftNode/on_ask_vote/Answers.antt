@@ -1,5 +1,5 @@
-use Rattle.raft_rules.specs.NodeValues.{node_of}
-use Rattle.raft_rules.specs.Elections.{on_ask_vote}
+use Rattle.raft_spec.specs.NodeValues.{node_of}
+use Rattle.raft_spec.specs.Elections.{on_ask_vote}
 use Rattle.raft_core.proofs.VoteRules.{effects_are, does_answer}
 use Rattle.raft_core.proofs.node.RaftNode.on_ask_vote.Goals as goal
 

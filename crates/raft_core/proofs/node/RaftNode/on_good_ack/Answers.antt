@@ -1,8 +1,8 @@
 use Rattle.std.proofs.Common.{◌∙◌, length, sym, ap, arith}
 use Rattle.std.specs.Prelude.{true, false, nat_lt}
 use Rattle.std.proofs.lemmas.Bool.{lt-ltb, le-ltb, le-leb}
-use Rattle.raft_rules.specs.NodeValues.{node_of}
-use Rattle.raft_rules.specs.Replication.{on_ack}
+use Rattle.raft_spec.specs.NodeValues.{node_of}
+use Rattle.raft_spec.specs.Replication.{on_ack}
 use Rattle.raft_core.proofs.TakenLogs.{not_le}
 use Rattle.raft_core.proofs.VoteRules.{effects_are}
 use Rattle.raft_core.proofs.LeaderRules.{ack_lost, ack_good}

@@ -1,7 +1,7 @@
 use Rattle.std.proofs.Common.{◌∙◌, sym}
-use Rattle.raft_rules.specs.Compaction.{compacted}
-use Rattle.raft_rules.specs.NodeValues.{node_of}
-use Rattle.raft_rules.specs.Snapshots.{on_install}
+use Rattle.raft_spec.specs.Compaction.{compacted}
+use Rattle.raft_spec.specs.NodeValues.{node_of}
+use Rattle.raft_spec.specs.Snapshots.{on_install}
 use Rattle.raft_core.proofs.EndRules.{ends_are, install_leads}
 use Rattle.raft_core.proofs.node.RaftNode.on_install.Goals as goal
 

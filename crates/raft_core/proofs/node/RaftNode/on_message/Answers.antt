@@ -1,8 +1,8 @@
 use Rattle.std.proofs.Common.{◌∙◌, sym, arith}
 use Rattle.std.proofs.lemmas.Bool.{lt-ltb, le-ltb}
-use Rattle.raft_rules.specs.NodeValues.{node_of}
-use Rattle.raft_rules.specs.Receiving.{on_message}
-use Rattle.raft_vote.specs.Messages.{message_value}
+use Rattle.raft_spec.specs.NodeValues.{node_of}
+use Rattle.raft_spec.specs.Receiving.{on_message}
+use Rattle.raft_messages.specs.Messages.{message_value}
 use Rattle.raft_core.specs.Nodes.{told}
 use Rattle.raft_core.proofs.VoteRules.{effects_are, if_ok}
 use Rattle.raft_core.proofs.EndRules.{ends_of}

@@ -1,8 +1,8 @@
 use Rattle.std.proofs.Common.{◌∙◌, sym, ap}
 use Rattle.std.specs.Prelude.{◌&&◌}
-use Rattle.raft_rules.specs.Node.{is_candidate}
-use Rattle.raft_rules.specs.NodeValues.{node_of}
-use Rattle.raft_rules.specs.Elections.{on_vote}
+use Rattle.raft_spec.specs.Node.{is_candidate}
+use Rattle.raft_spec.specs.NodeValues.{node_of}
+use Rattle.raft_spec.specs.Elections.{on_vote}
 use Rattle.raft_core.specs.Nodes.{told}
 use Rattle.raft_core.proofs.VoteRules.{effects_are, if_ok, does_count, does_not_count}
 use Rattle.raft_core.proofs.node.RaftNode.on_vote.Goals as goal

@@ -1,6 +1,6 @@
 use Rattle.std.proofs.Common.{◌∙◌, sym}
-use Rattle.raft_rules.specs.NodeValues.{node_of}
-use Rattle.raft_rules.specs.Replication.{on_propose}
+use Rattle.raft_spec.specs.NodeValues.{node_of}
+use Rattle.raft_spec.specs.Replication.{on_propose}
 use Rattle.raft_core.proofs.VoteRules.{effects_are}
 use Rattle.raft_core.proofs.LeaderRules.{propose_ignored, propose_none, propose_some, empty_of, some_of}
 use Rattle.raft_core.proofs.node.RaftNode.propose.Goals as goal

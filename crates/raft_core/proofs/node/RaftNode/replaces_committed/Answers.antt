@@ -1,7 +1,7 @@
 use Rattle.std.proofs.Common.{◌≡◌, ◌≤◌, ◌∙◌, refl, ap, subst, arith}
 use Rattle.std.specs.Prelude.{◌&&◌, nat_lt, nat_le}
-use Rattle.raft_rules.specs.Log.{first_replaced}
-use Rattle.raft_rules.specs.NodeValues.{NodeValue, node_of}
+use Rattle.raft_spec.specs.Log.{first_replaced}
+use Rattle.raft_spec.specs.NodeValues.{NodeValue, node_of}
 use Rattle.raft_core.specs.contracts.node.RaftNode.{the_view}
 use Rattle.raft_core.proofs.TakenLogs.{replaced_same}
 use Rattle.raft_core.proofs.node.RaftNode.replaces_committed.Goals as goal

@@ -1,8 +1,8 @@
 use Rattle.std.proofs.Common.{◌≡◌, ◌++◌, take}
 use Rattle.std.specs.Prelude.{map}
-use Rattle.raft_rules.specs.Compaction.{compact_message}
-use Rattle.raft_rules.specs.NodeValues.{node_of}
-use Rattle.raft_rules.specs.Steps.{message_to}
+use Rattle.raft_spec.specs.Compaction.{compact_message}
+use Rattle.raft_spec.specs.NodeValues.{node_of}
+use Rattle.raft_spec.specs.Steps.{message_to}
 use Rattle.raft_core.specs.Messages.{sents_value}
 use Rattle.raft_core.proofs.node.RaftNode.send.Given as goal
 

@@ -1,9 +1,9 @@
 use Rattle.std.proofs.Common.{◌∙◌, List, length, sym, ap, subst, arith}
-use Rattle.raft_rules.specs.Node.{Server, voters, peers}
-use Rattle.raft_rules.specs.Progress.{LeaderProgress, ids_in, rows_for}
-use Rattle.raft_rules.specs.NodeValues.{NodeValue}
-use Rattle.raft_rules.proofs.ProgressPeers.{ids_rows_for}
-use Rattle.raft_vote.specs.Grants.{AreAmong}
+use Rattle.raft_spec.specs.Node.{Server, voters, peers}
+use Rattle.raft_spec.specs.Progress.{LeaderProgress, ids_in, rows_for}
+use Rattle.raft_spec.specs.NodeValues.{NodeValue}
+use Rattle.raft_spec.proofs.ProgressPeers.{ids_rows_for}
+use Rattle.raft_messages.specs.Grants.{AreAmong}
 use Rattle.raft_core.specs.contracts.node.RaftNode.{the_view}
 use Rattle.raft_core.specs.Nodes.{IsMembership}
 use Rattle.raft_core.proofs.PeerLists.{few_peers}

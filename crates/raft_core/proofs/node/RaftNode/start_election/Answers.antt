@@ -1,7 +1,7 @@
 use Rattle.std.proofs.Common.{◌∙◌, sym, ap}
-use Rattle.raft_rules.specs.Elections.{start_election, grants_with}
-use Rattle.raft_rules.specs.Node.{voters}
-use Rattle.raft_rules.specs.NodeValues.{node_of}
+use Rattle.raft_spec.specs.Elections.{start_election, grants_with}
+use Rattle.raft_spec.specs.Node.{voters}
+use Rattle.raft_spec.specs.NodeValues.{node_of}
 use Rattle.raft_core.specs.Nodes.{told}
 use Rattle.raft_core.proofs.VoteRules.{effects_are, if_ok, may_parts, does_stand, does_not_stand}
 use Rattle.raft_core.proofs.node.RaftNode.start_election.Goals as goal

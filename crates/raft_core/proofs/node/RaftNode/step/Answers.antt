@@ -1,7 +1,7 @@
 use Rattle.std.proofs.Common.{sym, subst}
-use Rattle.raft_rules.specs.Laws.{HasShortTerm}
-use Rattle.raft_rules.specs.NodeValues.{node_of}
-use Rattle.raft_rules.proofs.Terms.{cut_terms_stay_short_holds}
+use Rattle.raft_spec.specs.Laws.{HasShortTerm}
+use Rattle.raft_spec.specs.NodeValues.{node_of}
+use Rattle.raft_spec.proofs.Terms.{cut_terms_stay_short_holds}
 use Rattle.raft_core.specs.Events.{input_of}
 use Rattle.raft_core.proofs.StepRules.{step_bare}
 use Rattle.raft_core.proofs.VoteRules.{if_ok}

@@ -1,5 +1,5 @@
 use Rattle.std.proofs.Common.{ℕ, ◌∙◌, ap, subst}
-use Rattle.raft_rules.specs.NodeValues.{NodeValue, node_of}
+use Rattle.raft_spec.specs.NodeValues.{NodeValue, node_of}
 use Rattle.raft_core.specs.Events.{IsMeta}
 use Rattle.raft_core.proofs.StepRules.{step_node, step_sends, writes, offers}
 use Rattle.raft_core.proofs.node.RaftNode.step_rule.Goals as goal

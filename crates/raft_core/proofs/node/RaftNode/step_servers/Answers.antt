@@ -1,8 +1,8 @@
 use Rattle.std.proofs.Common.{◌∙◌, List, sym, ap}
-use Rattle.raft_rules.specs.Membership.{on_servers}
-use Rattle.raft_rules.specs.Node.{Server, Outcome}
-use Rattle.raft_rules.specs.NodeValues.{node_of}
-use Rattle.raft_rules.specs.Steps.{serve}
+use Rattle.raft_spec.specs.Membership.{on_servers}
+use Rattle.raft_spec.specs.Node.{Server, Outcome}
+use Rattle.raft_spec.specs.NodeValues.{node_of}
+use Rattle.raft_spec.specs.Steps.{serve}
 use Rattle.raft_core.specs.Messages.{sents_value}
 use Rattle.raft_core.specs.Steps.{compact_outcome}
 use Rattle.raft_core.proofs.StepRules.{servers_step_is}

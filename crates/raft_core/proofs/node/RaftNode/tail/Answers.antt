@@ -1,5 +1,5 @@
 use Rattle.std.proofs.Common.{◌≤◌, ◌-◌, ◌∙◌, drop, sym, ap, arith}
-use Rattle.raft_rules.specs.NodeValues.{NodeValue}
+use Rattle.raft_spec.specs.NodeValues.{NodeValue}
 use Rattle.raft_core.proofs.TakenLogs.{rest_of}
 use Rattle.raft_core.proofs.node.RaftNode.tail.Goals as goal
 

@@ -1,7 +1,7 @@
 use Rattle.std.proofs.Common.{◌≡◌, ◌≤◌, length, refl, sym, ap, subst}
 use Rattle.std.specs.Prelude.{false, ◌&&◌, nat_lt, nat_le, max}
-use Rattle.raft_rules.specs.Log.{LogEnd, first_replaced}
-use Rattle.raft_rules.specs.NodeValues.{NodeValue, node_of}
+use Rattle.raft_spec.specs.Log.{LogEnd, first_replaced}
+use Rattle.raft_spec.specs.NodeValues.{NodeValue, node_of}
 use Rattle.raft_core.specs.contracts.node.RaftNode.{the_view}
 use Rattle.raft_core.specs.Effects.{Takes, change_from}
 use Rattle.raft_core.specs.Nodes.{IsLog}

@@ -1,6 +1,6 @@
 use Rattle.std.proofs.Common.{◌≡◌, ◌∙◌, refl, sym, subst}
 use Rattle.std.specs.Prelude.{false}
-use Rattle.raft_rules.specs.NodeValues.{NodeValue}
+use Rattle.raft_spec.specs.NodeValues.{NodeValue}
 use Rattle.raft_core.specs.contracts.node.RaftNode.{the_view}
 use Rattle.raft_core.specs.Queries.{forgets_at, known_at}
 use Rattle.raft_core.proofs.QueryRules.{known_same}

@@ -1,8 +1,8 @@
 use Rattle.std.proofs.Common.{◌∙◌, sym, ap}
 use Rattle.std.specs.Prelude.{◌&&◌, ◌==◌, not}
 use Rattle.std.proofs.lemmas.Bool.{eq-eqb, ne_eqb}
-use Rattle.raft_rules.specs.NodeValues.{node_of}
-use Rattle.raft_rules.specs.Replication.{on_transfer}
+use Rattle.raft_spec.specs.NodeValues.{node_of}
+use Rattle.raft_spec.specs.Replication.{on_transfer}
 use Rattle.raft_core.proofs.VoteRules.{effects_are}
 use Rattle.raft_core.proofs.LeaderRules.{transfer_says, transfer_ignored}
 use Rattle.raft_core.proofs.node.RaftNode.transfer.Goals as goal

@@ -1,6 +1,6 @@
 use Rattle.std.proofs.Common.{◌∙◌, sym, ap}
-use Rattle.raft_rules.specs.Node.{is_leader}
-use Rattle.raft_rules.specs.NodeValues.{NodeValue}
+use Rattle.raft_spec.specs.Node.{is_leader}
+use Rattle.raft_spec.specs.NodeValues.{NodeValue}
 use Rattle.raft_core.specs.Messages.{sents_value}
 use Rattle.raft_core.proofs.MemberRules.{serve_node_quiet, serve_out_quiet, serve_node_leads, serve_out_leads}
 use Rattle.raft_core.proofs.node.RaftNode.use_servers.Goals as goal

@@ -1,5 +1,5 @@
 use Rattle.std.proofs.Common.{◌≤◌, ◌-◌, length, ap, arith, subst, sym, ◌∙◌}
-use Rattle.raft_rules.specs.Compaction.{CutLog}
+use Rattle.raft_spec.specs.Compaction.{CutLog}
 use Rattle.raft_log.specs.Agreeing.{TakesIn}
 use Rattle.raft_log.proofs.Places.{whole_count}
 use Rattle.raft_log.proofs.Taking.{taken_length}

@@ -1,5 +1,5 @@
 use Rattle.std.proofs.Common.{ap, arith, subst}
-use Rattle.raft_rules.specs.Log.{LogEnd}
+use Rattle.raft_spec.specs.Log.{LogEnd}
 use Rattle.raft_log.specs.Agreeing.{TakesAfter}
 use Rattle.raft_log.proofs.Places.{meets_parts}
 use Rattle.raft_log.proofs.Taking.{answered}

@@ -1,6 +1,6 @@
 use Rattle.std.proofs.Common.{◌-◌, sym, ap, ◌∙◌, arith}
-use Rattle.raft_rules.specs.Log.{nth_term, term_at}
-use Rattle.raft_rules.specs.Compaction.{whole_log}
+use Rattle.raft_spec.specs.Log.{nth_term, term_at}
+use Rattle.raft_spec.specs.Compaction.{whole_log}
 use Rattle.raft_log.proofs.Places.{whole_count, term_none, term_cut, term_past}
 use Rattle.raft_log.proofs.log.Log.whole_term.Goals as goal
 

@@ -1,5 +1,5 @@
 use Rattle.std.proofs.Common.{◌∙◌, sym, arith}
-use Rattle.raft_rules.specs.Compaction.{whole_log}
+use Rattle.raft_spec.specs.Compaction.{whole_log}
 use Rattle.raft_log.proofs.progress.Progress.commit_index.Goals as goal
 use Rattle.raft_log.proofs.Commits.{at_end, at_found, at_skip}
 

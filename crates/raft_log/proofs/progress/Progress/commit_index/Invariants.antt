@@ -1,5 +1,5 @@
 use Rattle.std.proofs.Common.{◌≡◌, ◌≤◌, length}
-use Rattle.raft_rules.specs.Compaction.{whole_log}
+use Rattle.raft_spec.specs.Compaction.{whole_log}
 use Rattle.raft_log.proofs.Commits.{found_to}
 use Rattle.raft_log.proofs.progress.Progress.commit_index.Given as goal
 

@@ -1,6 +1,6 @@
 use Rattle.std.proofs.Common.{◌≡◌, ◌≤◌, nat_le, take}
 use Rattle.std.specs.List.{count_by}
-use Rattle.raft_rules.specs.Progress.{has_in}
+use Rattle.raft_spec.specs.Progress.{has_in}
 use Rattle.raft_log.proofs.progress.Progress.having.Given as goal
 
 abbrev pub invariant-loop-voter : goal.invariant-loop-voter

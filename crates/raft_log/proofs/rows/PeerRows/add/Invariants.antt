@@ -1,6 +1,6 @@
 use Rattle.std.proofs.Common.{◌≡◌, ◌≤◌, ◌+◌, ◌++◌, length, take}
-use Rattle.raft_rules.specs.Node.{others}
-use Rattle.raft_rules.specs.Progress.{rows_for}
+use Rattle.raft_spec.specs.Node.{others}
+use Rattle.raft_spec.specs.Progress.{rows_for}
 use Rattle.raft_log.proofs.rows.PeerRows.add.Given as goal
 
 abbrev pub invariant-loop-id : goal.invariant-loop-id

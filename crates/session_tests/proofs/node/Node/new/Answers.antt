@@ -1,6 +1,6 @@
 use Rattle.std.proofs.Common.{List, [], sym, subst}
-use Rattle.page_apply.specs.declared.database.Database.{Database}
-use Rattle.page_apply.proofs.Acting.{no_databases}
+use Rattle.database_state.specs.declared.database.Database.{Database}
+use Rattle.database_state.proofs.Acting.{no_databases}
 use Rattle.client_sessions.specs.Seen.{Agrees}
 use Rattle.session_tests.proofs.Standing.{begun}
 use Rattle.session_tests.proofs.node.Node.new.Goals as goal

@@ -1,0 +1,32 @@
+//! What is told of an entry that was applied.
+
+ghost use Rattle.std.specs.Prelude.{◌≡◌};
+ghost use Rattle.applied_state.specs.Content.{effect_of_command};
+
+use dq_base::Name;
+use log_commands::Command;
+
+/// What is told of an entry that was applied.
+#[derive(Debug, Drop)]
+pub enum AppliedEffect {
+    /// It was the last command of a transaction, in the database of this name.
+    Committed(Name),
+    /// The servers are others now.
+    Configured,
+    /// None of these.
+    Other,
+}
+
+/// What is told of a command. Moves its name; the pages are dropped.
+pub(crate) fn effect_of(command: Command) -> AppliedEffect
+    ensures { result ≡ effect_of_command command }
+{
+    match command {
+        Command::Frames {
+            name,
+            commit: true,
+            ..
+        } => AppliedEffect::Committed(name),
+        _ => AppliedEffect::Other,
+    }
+}

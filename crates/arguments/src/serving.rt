@@ -1,0 +1,176 @@
+//! The words behind `serve`.
+
+ghost use Rattle.std.specs.Prelude.{◌≡◌, [], Some, None, IfOk, IfSome, map, string_bytes};
+ghost use Rattle.std.specs.Option.{option_map};
+ghost use Rattle.std.specs.List.{before_first, after_first};
+ghost use Rattle.clap.specs.Words.{found_of, rows_of};
+ghost use Rattle.arguments.specs.Commands.{serve_app, read_by};
+ghost use Rattle.arguments.specs.Values.{is_address};
+ghost use Rattle.arguments.specs.Serving.{is_mark, peer_with, peer_of, has_id, is_new, new_peer, peers_behind, peers_of, events_of, words_of, serve_with_peers, serve_with, serve_in, serve_found, IsServable};
+
+use crate::addresses::{is_address, text};
+use crate::commands::{matches_by, serve_command, value, values};
+use crate::invocation::{Peer, Serve};
+use crate::reading::{engine_named, number_in};
+use clap::ArgMatches;
+use dq_base::Items;
+use sql_engine::EngineKind;
+use std::alloc::{AllocError, Global};
+
+/// How many peers a node has at most.
+const MAX_PEERS: usize = 6;
+
+/// The number of events where none is named.
+const MAX_EVENTS: u32 = 4_294_967_295;
+
+/// The peer of an id at an address, if the word is an address.
+fn peer_with(alloc: Global, id: u32, word: &str) -> Result<Option<Peer>, AllocError>
+    ensures { IfOk result (λ peer. peer ≡ peer_with (Some id) word.now) }
+{
+    let address = text(alloc, word)?;
+    if is_address(&address) {
+        return Ok(Some(Peer {
+            id: id as u64,
+            address,
+        }));
+    }
+    Ok(None)
+}
+
+/// The peer that a word names as `N=ADDRESS`, if it does.
+fn peer_of(alloc: Global, word: &str) -> Result<Option<Peer>, AllocError>
+    ensures { IfOk result (λ peer. peer ≡ peer_of word.now) }
+{
+    let Some((number, address)) = word.split_once('=') else {
+        return Ok(None);
+    };
+    match number_in(1, 9, Some(number)) {
+        Some(id) => peer_with(alloc, id, address),
+        None => Ok(None),
+    }
+}
+
+/// Whether a peer has this id.
+fn has_id(peers: &[Peer], id: u64) -> bool
+    ensures { result ≡ has_id id peers.now }
+{
+    peers.iter().any(|peer| peer.id == id)
+}
+
+/// Whether a peer's id is another one than the node's and than those of the peers before it.
+fn is_new(id: u64, before: &[Peer], peer: &Peer) -> bool
+    ensures { result ≡ is_new id before.now peer.now }
+{
+    !(peer.id == id || has_id(before, peer.id))
+}
+
+/// A peer, if its id is new.
+fn new_peer(id: u64, before: &[Peer], peer: Option<Peer>) -> Option<Peer>
+    ensures { result ≡ new_peer id before.now peer }
+{
+    let Some(peer) = peer else {
+        return None;
+    };
+    if is_new(id, before, &peer) {
+        return Some(peer);
+    }
+    None
+}
+
+/// The peers that words name, if each names one, whose id is new.
+fn all_peers(alloc: Global, id: u64, words: &[&str]) -> Result<Option<Items<Peer>>, AllocError>
+    ensures { IfOk result (λ peers. peers ≡ peers_behind id [] (map (λ word. word.now) words.now)) }
+{
+    let mut peers = Vec::new(alloc);
+    for word in words {
+        match new_peer(id, peers.as_slice(), peer_of(alloc, word)?) {
+            Some(peer) => peers.push(peer)?,
+            None => return Ok(None),
+        }
+    }
+    Ok(Some(Items::new(peers)))
+}
+
+/// The peers that words name, if they are at most six.
+fn peers_of(alloc: Global, id: u64, words: &[&str]) -> Result<Option<Items<Peer>>, AllocError>
+    ensures { IfOk result (λ peers. peers ≡ peers_of id (map (λ word. word.now) words.now)) }
+{
+    if words.len() > MAX_PEERS {
+        return Ok(None);
+    }
+    all_peers(alloc, id, words)
+}
+
+/// The number of events of a word; the greatest where none is there.
+fn events_of(word: Option<&str>) -> Option<u32>
+    ensures { result ≡ events_of (option_map (λ word. word.now) word.entry) }
+{
+    match word {
+        Some(word) => number_in(1, MAX_EVENTS, Some(word)),
+        None => Some(MAX_EVENTS),
+    }
+}
+
+/// A node with the peers of these words, if they name peers.
+fn with_peers(
+    alloc: Global,
+    id: u32,
+    listen: &str,
+    words: &[&str],
+    engine: EngineKind,
+    events: u32,
+) -> Result<Option<Serve>, AllocError>
+    ensures { IfOk result (λ asked. asked ≡ serve_with (Some id) (Some listen.now) (map (λ word. word.now) words.now) (Some engine) (Some events)) }
+{
+    let listen = text(alloc, listen)?;
+    if !is_address(&listen) {
+        return Ok(None);
+    }
+    match peers_of(alloc, id as u64, words)? {
+        Some(peers) => Ok(Some(Serve {
+            id: id as u64,
+            listen,
+            peers,
+            engine,
+            events: events as u64,
+        })),
+        None => Ok(None),
+    }
+}
+
+fn serve_in(alloc: Global, matches: &ArgMatches<'_>) -> Result<Option<Serve>, AllocError>
+    ensures { IfOk result (λ words. words ≡ serve_in (rows_of (found_of matches.now))) }
+{
+    let Some(id) = number_in(1, 9, value(matches, "ID")) else {
+        return Ok(None);
+    };
+    let Some(listen) = value(matches, "LISTEN") else {
+        return Ok(None);
+    };
+    let Some(engine) = engine_named(value(matches, "engine")) else {
+        return Ok(None);
+    };
+    let Some(events) = events_of(value(matches, "events")) else {
+        return Ok(None);
+    };
+    match values(matches, "PEER") {
+        Some(words) => with_peers(alloc, id, listen, words, engine, events),
+        None => with_peers(alloc, id, listen, &[], engine, events),
+    }
+}
+
+/// Reads the words behind `serve`: the node that they name, or nothing where they name none. `Err` is want of memory.
+///
+/// The id is a number of 1 to 9. An address has 1 to 255 bytes and no NUL; a peer is named as `N=ADDRESS`, with an N of 1 to 9. No two of
+/// the node and its peers have one number, and there are at most six peers. `--engine E` stands as behind `script`, and `--events K` with
+/// a number of 1 to 4,294,967,295, the greatest where it isn't there.
+#[tactic(auto, using(crate::proofs::Found::serve_simple))]
+pub fn read_serve(alloc: Global, words: &[String]) -> Result<Option<Serve>, AllocError>
+    ensures found { IfOk result (λ served. served ≡ serve_found (read_by serve_app (map string_bytes words.now))) }
+    ensures fit { IfOk result (λ served. IfSome served IsServable) }
+{
+    match matches_by(serve_command(alloc)?, words)? {
+        Some(matches) => serve_in(alloc, &matches),
+        None => Ok(None),
+    }
+}

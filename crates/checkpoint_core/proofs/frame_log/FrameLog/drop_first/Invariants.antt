@@ -1,6 +1,0 @@
-use Rattle.std.proofs.Common.{◌≡◌}
-use Rattle.checkpoint_core.specs.Log.{without_first}
-use Rattle.checkpoint_core.proofs.frame_log.FrameLog.drop_first.Given as goal
-
-abbrev pub invariant-loop : goal.invariant-loop
-invariant-loop l = l.self ≡ without_first l.counter l.initial.self

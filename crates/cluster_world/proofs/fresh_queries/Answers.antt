@@ -1,5 +1,0 @@
-use Rattle.cluster_world.proofs.Barriers.{fresh_queries_hold}
-use Rattle.cluster_world.proofs.fresh_queries.Goals as goal
-
-pub returns : goal.returns
-returns g c = λ kind. fresh_queries_hold (g.E.Engine.meaning kind) kind

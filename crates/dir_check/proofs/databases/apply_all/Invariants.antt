@@ -1,7 +1,0 @@
-use Rattle.std.proofs.Common.{◌≡◌, take}
-use Rattle.page_apply.specs.Databases.{contents_of}
-use Rattle.dir_check.specs.Files.{after_entries}
-use Rattle.dir_check.proofs.databases.apply_all.Given as goal
-
-abbrev pub invariant-loop-entry : goal.invariant-loop-entry
-invariant-loop-entry l = contents_of l.machine ≡ after_entries (contents_of l.initial.machine) (take l.entry-index l.entries)

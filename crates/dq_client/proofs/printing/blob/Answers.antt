@@ -1,4 +1,0 @@
-use Rattle.dq_client.proofs.printing.blob.Goals as goal
-
-pub returns : goal.returns
-returns c = rw (← c.in_ok-digits.ensures) c.format.ensures.ok

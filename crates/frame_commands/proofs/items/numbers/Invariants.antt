@@ -1,7 +1,0 @@
-use Rattle.std.proofs.Common.{◌≡◌, ◌-◌}
-use Rattle.frame_commands.specs.Reading.{numbers_at}
-use Rattle.wire_words.proofs.ReadingLoops.{with_front}
-use Rattle.frame_commands.proofs.items.numbers.Given as goal
-
-abbrev pub invariant-loop : goal.invariant-loop
-invariant-loop l = with_front l.numbers.items (numbers_at (l.count - l.counter) l.words) ≡ numbers_at l.count l.initial.words

@@ -1,5 +1,0 @@
-use Rattle.frame_commands.proofs.SplitFits.{applied_can_split}
-use Rattle.frame_commands.proofs.laws.sets_that_apply_can_be_split.Goals as goal
-
-pub returns : goal.returns
-returns c = applied_can_split

@@ -1,5 +1,0 @@
-use Rattle.node_replica.proofs.Tellings.{servers_alone_holds}
-use Rattle.node_replica.proofs.laws.servers_change_nothing_else.Goals as goal
-
-pub returns : goal.returns
-returns c = servers_alone_holds

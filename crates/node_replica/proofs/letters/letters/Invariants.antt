@@ -1,7 +1,0 @@
-use Rattle.std.proofs.Common.{◌≡◌}
-use Rattle.std.specs.Prelude.{map}
-use Rattle.node_replica.specs.Letters.{letter}
-use Rattle.node_replica.proofs.letters.letters.Given as goal
-
-abbrev pub invariant-loop-sending : goal.invariant-loop-sending
-invariant-loop-sending l = l.messages.items ≡ map (letter l.me l.kept) l.yielded

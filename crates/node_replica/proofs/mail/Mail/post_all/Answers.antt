@@ -1,7 +1,0 @@
-use Rattle.std.proofs.Common.{sym, ap, ◌∙◌}
-use Rattle.node_replica.specs.Mails.{posted}
-use Rattle.node_replica.proofs.MailPlaces.{one_more}
-use Rattle.node_replica.proofs.mail.Mail.post_all.Goals as goal
-
-pub loop-message-preserved : goal.loop-message-preserved
-loop-message-preserved c = c.in_ok-post.ensures ∙ ap (λ m. posted m c.in-Some.message) c.loop-message.invariant ∙ sym (one_more c.args.self.now c.loop-message.yielded c.in-Some.message)

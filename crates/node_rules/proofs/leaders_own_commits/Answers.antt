@@ -1,5 +1,0 @@
-use Rattle.node_rules.proofs.OwnTerms.{leaders_own}
-use Rattle.node_rules.proofs.leaders_own_commits.Goals as goal
-
-pub returns : goal.returns
-returns c = leaders_own

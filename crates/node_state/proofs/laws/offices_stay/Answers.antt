@@ -1,5 +1,0 @@
-use Rattle.node_state.proofs.Offices.{offices_stay_hold}
-use Rattle.node_state.proofs.laws.offices_stay.Goals as goal
-
-pub returns : goal.returns
-returns c = offices_stay_hold

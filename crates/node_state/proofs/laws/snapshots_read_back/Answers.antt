@@ -1,8 +1,0 @@
-use Rattle.node_state.proofs.Snapshots.{snapshots_read_hold, snapshots_spelled_hold}
-use Rattle.node_state.proofs.laws.snapshots_read_back.Goals as goal
-
-pub returns-clause-read : goal.returns-clause-read
-returns-clause-read c = snapshots_read_hold
-
-pub returns-clause-spelled : goal.returns-clause-spelled
-returns-clause-spelled c = snapshots_spelled_hold

@@ -1,5 +1,0 @@
-use Rattle.node_world.proofs.Completes.{runs_complete_hold}
-use Rattle.node_world.proofs.runs_complete.Goals as goal
-
-pub returns : goal.returns
-returns g c = λ kind. runs_complete_hold (g.E.Engine.meaning kind) kind

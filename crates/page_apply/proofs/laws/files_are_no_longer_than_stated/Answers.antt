@@ -1,5 +1,0 @@
-use Rattle.page_apply.proofs.StatedLaw.{files_short}
-use Rattle.page_apply.proofs.laws.files_are_no_longer_than_stated.Goals as goal
-
-pub returns : goal.returns
-returns c = files_short

@@ -1,5 +1,0 @@
-use Rattle.page_apply.proofs.SplitLaw.{split_is_set}
-use Rattle.page_apply.proofs.laws.split_sets_apply_whole.Goals as goal
-
-pub returns : goal.returns
-returns c = split_is_set

@@ -1,7 +1,0 @@
-use Rattle.std.proofs.Common.{◌-◌}
-use Rattle.checkpoint_core.specs.Store.{newest_image}
-use Rattle.page_apply.specs.Logs.{pages_from, plain_frames, Continues}
-use Rattle.page_apply.proofs.logs.put_pages_above_one.Given as goal
-
-abbrev pub invariant-loop-number : goal.invariant-loop-number
-invariant-loop-number l = Continues (plain_frames (pages_from 2 (l.number - 2) (newest_image l.store))) l.initial.out.items l.initial.writer l.out.items l.writer

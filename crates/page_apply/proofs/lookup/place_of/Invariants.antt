@@ -1,5 +1,0 @@
-use Rattle.page_apply.proofs.Places.{SoFar}
-use Rattle.page_apply.proofs.lookup.place_of.Given as goal
-
-abbrev pub invariant-loop-place : goal.invariant-loop-place
-invariant-loop-place l = SoFar l.name l.databases l.place

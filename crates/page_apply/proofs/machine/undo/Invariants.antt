@@ -1,6 +1,0 @@
-use Rattle.std.proofs.Common.{◌≡◌, ◌++◌, map, take, drop}
-use Rattle.page_apply.specs.Databases.{undone}
-use Rattle.page_apply.proofs.machine.undo.Given as goal
-
-abbrev pub invariant-loop-database : goal.invariant-loop-database
-invariant-loop-database l = take l.database-index l.databases ++ map (undone l.tx) (drop l.database-index l.databases) ≡ map (undone l.tx) l.initial.databases

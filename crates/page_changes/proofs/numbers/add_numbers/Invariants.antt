@@ -1,6 +1,0 @@
-use Rattle.std.proofs.Common.{◌≡◌, ◌++◌, drop}
-use Rattle.page_changes.specs.Touched.{numbers_of}
-use Rattle.page_changes.proofs.numbers.add_numbers.Given as goal
-
-abbrev pub invariant-loop-page : goal.invariant-loop-page
-invariant-loop-page l = l.numbers.items ++ numbers_of (drop l.page-index l.pages) ≡ l.initial.numbers.items ++ numbers_of l.pages

@@ -1,8 +1,0 @@
-use Rattle.page_changes.proofs.Arriving.{newer_more, newer_all}
-use Rattle.page_changes.proofs.reached.newer.Goals as goal
-
-pub loop-page-preserved : goal.loop-page-preserved
-loop-page-preserved c = newer_more c.args.before.now _ _ _ _ c.page-item.result _ c.loop-page-test.true c.page-item.is (rw (← c.page_at-old.ensures) c.in_ok-add_changed.ensures) c.loop-page.invariant
-
-pub returns : goal.returns
-returns c = newer_all _ _ _ _ _ c.loop-page-test.false c.loop-page.invariant

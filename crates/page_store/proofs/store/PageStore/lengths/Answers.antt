@@ -1,0 +1,20 @@
+use Rattle.std.proofs.Common.{◌≡◌, length, ap, ◌∙◌}
+use Rattle.std.specs.Prelude.{vec_capacity}
+use Rattle.dq_base.specs.declared.images.Image.{Image}
+use Rattle.page_store.specs.Store.{newest_image}
+use Rattle.page_store.specs.Log.{laid_image}
+use Rattle.page_store.proofs.StoreKept.{newest_is}
+use Rattle.page_store.proofs.store.PageStore.lengths.Goals as goal
+
+pub returns : goal.returns
+returns c =
+    let a = c.self.inside in
+    let base : Image = record { main = a.main.items; side = a.side.items } in
+    let parts : laid_image a.log c.len-all.result c.as_slice-main.result.now c.as_slice-side.result.now ≡ laid_image a.log (length a.log.pages) a.main.items a.side.items =
+    λ i. laid_image a.log (c.len-all.ensures.value i) (c.as_slice-main.ensures.value i) (c.as_slice-side.ensures.value i) in
+    let shown : laid_image a.log c.len-all.result c.as_slice-main.result.now c.as_slice-side.result.now ≡ newest_image c.args.self.now =
+    parts ∙ newest_is base (vec_capacity a.main) (vec_capacity a.side) a.log a.newest a.marks c.self.invariant.0 ∙ ap newest_image c.self.view_is in
+    record {
+      main = c.lengths_under.ensures.main ∙ ap (λ (im : Image). length im.main) shown;
+      side = c.lengths_under.ensures.side ∙ ap (λ (im : Image). length im.side) shown;
+    }

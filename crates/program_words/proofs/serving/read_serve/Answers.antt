@@ -1,7 +1,0 @@
-use Rattle.std.proofs.Common.{Some}
-use Rattle.clap.specs.Words.{found_of, rows_of}
-use Rattle.program_words.proofs.Servable.{served_fits}
-use Rattle.program_words.proofs.serving.read_serve.Goals as goal
-
-pub returns-in-Some-clause-fit : goal.returns-in-Some-clause-fit
-returns-in-Some-clause-fit c = served_fits (Some (rows_of (found_of c.in-Some.matches))) c.serve_in.result c.serve_in.ensures

@@ -1,5 +1,0 @@
-use Rattle.raft_rules.proofs.accept_takes.Goals as goal
-use Rattle.raft_rules.proofs.Meanings.{accept_takes_holds}
-
-pub returns : goal.returns
-returns c = accept_takes_holds

@@ -1,6 +1,0 @@
-use Rattle.std.proofs.Common.{◌≡◌, ◌++◌, drop}
-use Rattle.raft_vote.specs.Entries.{contents_bytes}
-use Rattle.raft_vote.proofs.entries.write_entry_contents.Given as goal
-
-abbrev pub invariant-loop-entry : goal.invariant-loop-entry
-invariant-loop-entry l = l.out ++ contents_bytes (drop l.entry-index l.entries) ≡ l.initial.out ++ contents_bytes l.entries

@@ -1,6 +1,0 @@
-use Rattle.std.proofs.Common.{◌≡◌, drop}
-use Rattle.raft_rules.specs.Receiving.{terms_fit_the_wire}
-use Rattle.raft_vote.proofs.range.terms_fit.Given as goal
-
-abbrev pub invariant-loop-entry : goal.invariant-loop-entry
-invariant-loop-entry l = terms_fit_the_wire (drop l.entry-index l.entries) ≡ terms_fit_the_wire l.entries

@@ -1,4 +1,0 @@
-use Rattle.raft_vote.proofs.writing.put_log_end.Goals as goal
-
-pub returns-clause-bytes : goal.returns-clause-bytes
-returns-clause-bytes c = rw (← c.end.view_is) c.put_two.ensures

@@ -1,0 +1,17 @@
+use Rattle.script_cluster.specs.Clusters.{held}
+use Rattle.script_cluster.proofs.Placing.{at_rest}
+use Rattle.script_cluster.proofs.Doing.{starts_up}
+use Rattle.script_cluster.proofs.Happening.{starts_asks}
+use Rattle.script_cluster.proofs.cluster.Cluster.start.Goals as goal
+
+pub returns-then-is_up_at-clause-does : goal.returns-then-is_up_at-clause-does
+returns-then-is_up_at-clause-does g c =
+    starts_up g.P.NodePlace.knows c.args.node c.args.aim (held g.P.NodePlace.shows c.args.self.now) c.args.said.now.items
+    (at_rest g.P.NodePlace.shows _ c.args.self.now.places.items c.args.node _ _ c.is_up_at.ensures.up c.as_slice.ensures.value c.if-is_up_at.true)
+
+pub returns-clause-does : goal.returns-clause-does
+returns-clause-does g c =
+    starts_asks g.P.NodePlace.shows g.P.NodePlace.knows c.args.node c.args.aim c.args.self.now.voters c.tell.new.self.voters c.args.self.now.places.items c.start_at.new.places.items
+    c.tell.new.self.places.items c.args.self.now.outside c.tell.new.self.outside c.in_ok-came.came c.tell.result c.args.said.now.items c.tell.new.said.items c.index_of.result c.requires.0
+    (at_rest g.P.NodePlace.shows _ c.args.self.now.places.items c.args.node _ _ c.is_up_at.ensures.up c.as_slice.ensures.value c.if-is_up_at.false)
+    c.index_of.ensures c.in_ok-came.ensures.comes c.tell.ensures.told (λ i. (c.tell.ensures.places i).items) c.tell.ensures.voters

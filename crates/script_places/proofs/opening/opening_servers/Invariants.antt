@@ -1,6 +1,0 @@
-use Rattle.std.proofs.Common.{◌≡◌}
-use Rattle.script_nodes.specs.Voters.{voters_from}
-use Rattle.script_places.proofs.opening.opening_servers.Given as goal
-
-abbrev pub invariant-loop-place : goal.invariant-loop-place
-invariant-loop-place l = l.servers.items ≡ voters_from l.place 1

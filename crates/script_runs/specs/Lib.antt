@@ -1,7 +1,0 @@
-pub mod Seats
-pub mod Turns
-pub mod Laws
-pub mod Places
-pub mod Mails
-pub mod Complete
-pub mod Showing

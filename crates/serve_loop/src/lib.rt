@@ -1,0 +1,13 @@
+//! A node as what a loop drives: a node of `node_core` with the disk and the engine that are lent to its steps, as a `Core` of
+//! `serve_traits`.
+#![tactic(auto)]
+
+mod bridge;
+mod newest;
+mod running;
+mod served;
+mod step_report;
+mod watch;
+
+pub use running::run_node;
+pub use step_report::StepReport;

@@ -1,0 +1,112 @@
+//! Where it goes what a served node says.
+
+use crate::notes::{Note, Notes};
+use node_core::{NodeState, StepOutputs};
+use raft_core::RaftRole;
+use serve_loop::StepReport;
+use serve_threads::Queues;
+use serve_traits::Outbox;
+use session_gateway::ReadJob;
+use std::sync::Wait;
+
+/// Nine tenths of the last index that a log may have, 4,294,900,000.
+const WARN_INDEX: u64 = 3_865_410_000;
+
+/// Hands what a node says to those that carry it, and notes how it stands where that is new.
+#[derive(Drop)]
+pub(crate) struct Dispatcher<'a, R: Wait + Copy + Drop, L: Drop, W: Notes> {
+    queues: Queues<R, L, ReadJob>,
+    notes: &'a mut W,
+    noted: Option<(u64, u64)>,
+    is_full_noted: bool,
+    id: u64,
+}
+
+/// Who leads in the node's term, if it knows one; the node itself where it leads.
+fn leader_of(state: &NodeState, id: u64) -> Option<u64> {
+    match state.role {
+        RaftRole::Leader => Some(id),
+        RaftRole::Follower | RaftRole::Candidate => state.leader,
+    }
+}
+
+impl<'a, R: Wait + Copy + Drop, L: Drop, W: Notes> Dispatcher<'a, R, L, W> {
+    /// Nothing was said so far by the node of this id.
+    pub(crate) fn new(
+        queues: Queues<R, L, ReadJob>,
+        notes: &'a mut W,
+        id: u64,
+    ) -> Dispatcher<'a, R, L, W> {
+        Dispatcher {
+            queues,
+            notes,
+            noted: None,
+            is_full_noted: false,
+            id,
+        }
+    }
+
+    /// Hands on what a step says. A connection is closed behind its replies.
+    fn hand_on(&mut self, outs: StepOutputs) {
+        let StepOutputs {
+            replies,
+            closed,
+            messages,
+            reads,
+        } = outs;
+        for (conn, bytes) in replies {
+            self.queues.reply(conn, bytes);
+        }
+        for (conn, _reason) in closed {
+            self.queues.close(conn);
+        }
+        for message in messages {
+            self.queues.send(message);
+        }
+        for (conn, job) in reads {
+            self.queues.lend(conn, job);
+        }
+    }
+
+    /// Notes who leads, where that is new.
+    fn note_leader(&mut self, state: &NodeState) {
+        let Some(leader) = leader_of(state, self.id) else {
+            return;
+        };
+        let term = state.term;
+        if self.noted == Some((term, leader)) {
+            return;
+        }
+        self.noted = Some((term, leader));
+        if leader == self.id {
+            self.notes.note(Note::Leads { term });
+        } else {
+            self.notes.note(Note::Follows { term, leader });
+        }
+    }
+
+    /// Notes once that the log fills up.
+    fn note_end(&mut self, last: u64) {
+        if last < WARN_INDEX || self.is_full_noted {
+            return;
+        }
+        self.is_full_noted = true;
+        self.notes.note(Note::FillsUp { last });
+    }
+}
+
+impl<'a, R: Wait + Copy + Drop, L: Drop, W: Notes> Outbox<StepReport> for Dispatcher<'a, R, L, W> {
+    ghost use Rattle.std.specs.Prelude.{None};
+
+    ghost said = { λ _. None };
+
+    fn put(&mut self, said: StepReport) {
+        let StepReport { outs, state, shut } = said;
+        self.hand_on(outs);
+        if let Some(conn) = shut {
+            self.queues.cut(conn);
+        }
+        self.note_leader(&state);
+        self.note_end(state.last);
+    }
+}

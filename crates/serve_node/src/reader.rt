@@ -1,0 +1,26 @@
+//! What answers queries beside the node.
+
+use query_reader::answer_read;
+use serve_threads::Reader;
+use session_gateway::{Read, ReadJob};
+use sql_engine::Engine;
+use std::alloc::Global;
+
+/// Answers queries by an engine of its own.
+#[derive(Drop)]
+pub struct QueryReader<E: Engine> {
+    /// For what it tells.
+    pub alloc: Global,
+    /// Its engine.
+    pub engine: E,
+}
+
+impl<E: Engine + Send + Drop + 'static> Reader for QueryReader<E> {
+    type Job = ReadJob;
+
+    type Told = Read;
+
+    fn read(&mut self, job: &ReadJob) -> Read {
+        answer_read(self.alloc, job, &mut self.engine)
+    }
+}

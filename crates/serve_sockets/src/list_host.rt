@@ -1,0 +1,91 @@
+//! A host that tells its events.
+
+ghost use Rattle.std.specs.Prelude.{◌≡◌, Some};
+
+use crate::mem_door::MemDoor;
+use crate::mem_host::MemHost;
+use dq_base::Failed;
+use serve_threads::{ChannelPost, Host};
+use serve_traits::{Event, Inbox, MemInbox, MemLink};
+use std::alloc::{AllocError, Global};
+use std::sync::Wait;
+use std::thread::Threads;
+use std::time::Clock;
+
+/// A host over memory whose events are those of a list: a take fails where none is left. It tells them. At its doors no link comes, each
+/// dial fails, and what is posted at its ends is never taken.
+#[derive(Drop)]
+pub struct ListHost<R: Wait + Copy + Drop, T: Drop> {
+    host: MemHost<R, T>,
+    events: MemInbox<T>,
+}
+
+impl<R: Wait + Copy + Drop, T: Drop> ListHost<R, T> {
+    /// A host with these events that did nothing yet. `Err` is want of memory.
+    pub fn new(rt: R, alloc: Global, events: Vec<Event<T>>) -> Result<ListHost<R, T>, AllocError> {
+        let host = MemHost::new(rt, alloc, Vec::new(alloc), Vec::new(alloc), Vec::new(alloc))?;
+        Ok(ListHost {
+            host,
+            events: MemInbox::new(events),
+        })
+    }
+}
+
+impl<R: Wait + Copy + Drop, T: Drop> Inbox<T> for ListHost<R, T> {
+    ghost left = { λ host. Some host.events.events };
+
+    ghost taken = { λ host. host.events.taken };
+
+    ghost faults = { λ host. host.host.calls.faults };
+
+    fn take(&mut self) -> Result<Event<T>, Failed> {
+        match self.events.take() {
+            Ok(event) => Ok(event),
+            Err(_) => Err(self.host.calls.fail()),
+        }
+    }
+}
+
+impl<R: Threads + Wait + Clock + Copy + Drop + Send + 'static, T: Drop> Host<T> for ListHost<R, T> {
+    type Rt = R;
+
+    type Door = MemDoor;
+
+    ghost done = { λ host. host.host.done };
+
+    fn rt(&self) -> R {
+        self.host.rt
+    }
+
+    fn post(&self) -> Result<ChannelPost<R, T>, AllocError> {
+        self.host.post.again()
+    }
+
+    fn listen(&mut self, _address: &str) -> Result<MemDoor, Failed> {
+        self.host.listen_once()
+    }
+
+    fn twin(&mut self, door: &MemDoor) -> Result<MemDoor, Failed> {
+        self.host.twin_of(door)
+    }
+
+    fn dial(&mut self, _address: &str) -> Result<MemLink, Failed> {
+        self.host.dial_next()
+    }
+
+    fn moment(&mut self) -> u64 {
+        self.host.ask()
+    }
+
+    fn random(&mut self) -> u64 {
+        self.host.ask().wrapping_mul(0x9E37_79B9_7F4A_7C15)
+    }
+
+    fn may_work(&mut self) -> Result<(), Failed> {
+        self.host.begin_work()
+    }
+
+    fn count_worker(&mut self, is_started: bool) -> Result<(), Failed> {
+        self.host.end_work(is_started)
+    }
+}

@@ -1,0 +1,13 @@
+-- Messages by which a node shows that it heard of another one.
+use Rattle.std.specs.Prelude.{Bool, true, false}
+use Rattle.raft_messages.specs.declared.message.MessageBody.{MessageBody}
+use Rattle.raft_messages.specs.declared.message.MessageBody.TheVariants.{AskVote, Vote, Append, Ack, Install, TimeoutNow}
+
+-- whether it answers a leader, or gives a vote
+abbrev pub is_heard : MessageBody → Bool
+is_heard (AskVote last) = false
+is_heard (Vote granted) = granted
+is_heard (Append prev commit entries) = false
+is_heard (Ack good index) = true
+is_heard (Install snapshot) = false
+is_heard TimeoutNow = false

@@ -1,0 +1,25 @@
+ghost use Rattle.std.specs.Prelude.{◌≡◌};
+
+/// How often a host listened, how often it dialled, and how many workers it took.
+#[derive(Clone, Copy, Debug, PartialEq, Eq)]
+pub struct HostCounts {
+    /// The listens that succeeded.
+    pub listens: u64,
+    /// The dials that succeeded.
+    pub dials: u64,
+    /// The workers that were taken.
+    pub workers: u64,
+}
+
+impl HostCounts {
+    /// Nothing was done.
+    pub fn new() -> HostCounts
+        ensures { result ≡ record { listens = 0; dials = 0; workers = 0 } }
+    {
+        HostCounts {
+            listens: 0,
+            dials: 0,
+            workers: 0,
+        }
+    }
+}

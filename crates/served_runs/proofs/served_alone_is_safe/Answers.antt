@@ -1,5 +1,0 @@
-use Rattle.served_runs.proofs.Alone.{alone_is_safe_hold}
-use Rattle.served_runs.proofs.served_alone_is_safe.Goals as goal
-
-pub returns : goal.returns
-returns g c = λ kind. alone_is_safe_hold (g.E.Engine.meaning kind) kind

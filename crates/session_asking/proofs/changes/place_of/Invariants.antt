@@ -1,5 +1,0 @@
-use Rattle.session_asking.proofs.Changing.{SoFar}
-use Rattle.session_asking.proofs.changes.place_of.Given as goal
-
-abbrev pub invariant-loop-place : goal.invariant-loop-place
-invariant-loop-place l = SoFar l.id l.servers l.place

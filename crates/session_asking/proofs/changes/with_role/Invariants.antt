@@ -1,7 +1,0 @@
-use Rattle.std.proofs.Common.{◌≡◌, take}
-use Rattle.raft_vote.specs.Kinds.{role_number}
-use Rattle.session_rules.specs.Servers.{with_role}
-use Rattle.session_asking.proofs.changes.with_role.Given as goal
-
-abbrev pub invariant-loop-server : goal.invariant-loop-server
-invariant-loop-server l = l.all.items ≡ with_role l.id (role_number l.role) (take l.server-index l.servers)

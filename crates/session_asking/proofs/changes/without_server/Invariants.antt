@@ -1,6 +1,0 @@
-use Rattle.std.proofs.Common.{◌≡◌, take}
-use Rattle.session_rules.specs.Servers.{without_server}
-use Rattle.session_asking.proofs.changes.without_server.Given as goal
-
-abbrev pub invariant-loop-server : goal.invariant-loop-server
-invariant-loop-server l = l.rest.items ≡ without_server l.id (take l.server-index l.servers)

@@ -1,6 +1,0 @@
-use Rattle.std.proofs.Common.{◌≡◌, map, take}
-use Rattle.session_rules.specs.Asking.{info_of}
-use Rattle.session_asking.proofs.cluster.infos_of.Given as goal
-
-abbrev pub invariant-loop-server : goal.invariant-loop-server
-invariant-loop-server l = l.infos.items ≡ map (info_of l.roles) (take l.server-index l.servers)

@@ -1,9 +1,0 @@
-use Rattle.std.proofs.Common.{◌≡◌, drop}
-use Rattle.std.specs.List.{flat_map}
-use Rattle.page_apply.specs.Machines.{names_of}
-use Rattle.session_rules.specs.Limits.{with_names}
-use Rattle.session_asking.specs.Looking.{proposed_by}
-use Rattle.session_asking.proofs.names.all_names.Given as goal
-
-abbrev pub invariant-loop-session : goal.invariant-loop-session
-invariant-loop-session l = with_names l.names.items (flat_map proposed_by (drop l.session-index l.sessions)) ≡ with_names (names_of l.machine) (flat_map proposed_by l.sessions)

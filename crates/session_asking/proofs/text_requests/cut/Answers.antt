@@ -1,6 +1,0 @@
-use Rattle.sql_scan.specs.Statements.{scan_of}
-use Rattle.session_asking.proofs.Cutting.{cut_short}
-use Rattle.session_asking.proofs.text_requests.cut.Goals as goal
-
-pub returns-in_ok-hindrance-in-Err : goal.returns-in_ok-hindrance-in-Err
-returns-in_ok-hindrance-in-Err c = cut_short c.in-Err.fault (scan_of c.args.sql.now) c.in_ok-hindrance-in-Err.field-0 c.in-Err.ensures.exact c.in_ok-hindrance-in-Err.ensures.cause.0 c.in_ok-hindrance-in-Err.ensures.cause.1

@@ -1,7 +1,0 @@
-use Rattle.std.proofs.Common.{◌≡◌, ℕ, List, drop}
-use Rattle.session_rules.specs.Statements.{any_write}
-use Rattle.statement_runs.specs.Texts.{cut_at}
-use Rattle.session_asking.proofs.write_hindrance.any_write.Given as goal
-
-abbrev pub invariant-loop-piece : goal.invariant-loop-piece
-invariant-loop-piece l = (text : List ℕ) → any_write (cut_at text l.pieces) ≡ any_write (cut_at text (drop l.piece-index l.pieces))

@@ -1,0 +1,7 @@
+use Rattle.std.proofs.Common.{◌≡◌, ℕ, List, drop}
+use Rattle.session_spec.specs.Statements.{any_write}
+use Rattle.session_statements.specs.Texts.{cut_at}
+use Rattle.session_requests.proofs.write_hindrance.any_write.Given as goal
+
+abbrev pub invariant-loop-piece : goal.invariant-loop-piece
+invariant-loop-piece l = (text : List ℕ) → any_write (cut_at text l.pieces) ≡ any_write (cut_at text (drop l.piece-index l.pieces))

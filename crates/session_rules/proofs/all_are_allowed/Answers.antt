@@ -1,5 +1,0 @@
-use Rattle.session_rules.proofs.Asked.{all_allowed}
-use Rattle.session_rules.proofs.all_are_allowed.Goals as goal
-
-pub returns : goal.returns
-returns c = all_allowed

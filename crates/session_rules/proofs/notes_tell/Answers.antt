@@ -1,5 +1,0 @@
-use Rattle.session_rules.proofs.Keeping.{notes_tell_hold}
-use Rattle.session_rules.proofs.notes_tell.Goals as goal
-
-pub returns : goal.returns
-returns c = notes_tell_hold

@@ -1,5 +1,0 @@
-use Rattle.session_rules.proofs.Keeping.{refusals_keep_hold}
-use Rattle.session_rules.proofs.refusals_keep.Goals as goal
-
-pub returns : goal.returns
-returns c = refusals_keep_hold

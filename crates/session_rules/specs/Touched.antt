@@ -1,9 +1,0 @@
--- The pages in which the two images of a transaction differ, by their numbers.
-use Rattle.std.specs.Prelude.{Option, Some, None}
-pub use Rattle.page_changes.specs.Touched.{numbers_of, NoneIs, DiffersOnlyAt, ListsAll, changed_at, same_lengths, change_at, Ascends, put_in_order}
-use Rattle.session_rules.specs.Sessions.{Transaction}
-
--- where a transaction is open, it has the numbers of all pages in which its two images differ
-abbrev pub IsListed : Option Transaction → Type 0
-IsListed None = Unit {0}
-IsListed (Some x) = ListsAll x.touched x.pinned x.working

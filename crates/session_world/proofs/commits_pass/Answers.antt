@@ -1,5 +1,0 @@
-use Rattle.session_world.proofs.Turns.{commits_pass_hold}
-use Rattle.session_world.proofs.commits_pass.Goals as goal
-
-pub returns : goal.returns
-returns g c = λ kind. commits_pass_hold (g.E.Engine.meaning kind) kind

@@ -1,5 +1,0 @@
-use Rattle.session_world.proofs.Lives.{idle_is_empty_holds}
-use Rattle.session_world.proofs.idle_is_empty.Goals as goal
-
-pub returns : goal.returns
-returns g c = λ kind. idle_is_empty_holds (g.E.Engine.meaning kind) kind

@@ -1,5 +1,0 @@
-use Rattle.session_world.proofs.Sees.{lives_see_hold}
-use Rattle.session_world.proofs.lives_see.Goals as goal
-
-pub returns : goal.returns
-returns g c = λ kind. lives_see_hold (g.E.Engine.meaning kind) kind

@@ -1,5 +1,0 @@
-use Rattle.session_world.proofs.Lives.{lives_weave_hold}
-use Rattle.session_world.proofs.lives_weave.Goals as goal
-
-pub returns : goal.returns
-returns g c = λ kind. lives_weave_hold (g.E.Engine.meaning kind) kind

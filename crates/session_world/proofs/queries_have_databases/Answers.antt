@@ -1,5 +1,0 @@
-use Rattle.session_world.proofs.Opened.{queries_have_databases_hold}
-use Rattle.session_world.proofs.queries_have_databases.Goals as goal
-
-pub returns : goal.returns
-returns c = queries_have_databases_hold

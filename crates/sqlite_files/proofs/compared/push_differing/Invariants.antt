@@ -1,0 +1,7 @@
+use Rattle.std.proofs.Common.{◌≡◌, ◌*◌}
+use Rattle.dq_base.specs.Changes.{changed_from}
+use Rattle.sqlite_files.specs.Pairs.{both}
+use Rattle.sqlite_files.proofs.compared.push_differing.Given as goal
+
+abbrev pub invariant-loop-index : goal.invariant-loop-index
+invariant-loop-index l = l.pages.items ≡ changed_from 2 (2 * l.index) l.before (both l.main l.side)

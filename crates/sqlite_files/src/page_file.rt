@@ -1,0 +1,227 @@
+ghost use Rattle.std.specs.Prelude.{◌≡◌, ◌+◌, ◌≤◌, ◌^◌, ◌<◌, [], ℕ, List, length, min, max, is_ok, true, false, IsOk, Ok, IfOk, OnOk, OnErr, refl};
+ghost use Rattle.sqlite_disk.specs.Disk.{Holds, Torn, Cut, CountsFault, CountsFaultIf};
+ghost use Rattle.sqlite_disk.specs.Digest.{digest};
+ghost use Rattle.sqlite_disk.specs.Refusal.{finds_no_room};
+ghost use Rattle.sqlite_disk.specs.Tally.{CountsCatch};
+ghost use Rattle.sqlite_files.specs.Recording.{touched_count, pages_between, IsRecorded};
+ghost use Rattle.sqlite_files.specs.Tested.{AnswersWantedBytes};
+ghost use Rattle.std.specs.Str.{bytes_eq};
+
+use crate::original_image::FileBefore;
+use crate::touched::touch;
+use crate::writes::{set_length, write};
+use dq_base::Bytes;
+use sqlite_disk::{Disk, Tally, digest_of};
+use std::alloc::{AllocError, Global};
+use std::io;
+use std::marker::Model;
+
+/// A file in memory as `sqlite` wants its disks: what is written is there at once, a crash leaves just that, and no
+/// read lies. It keeps the file before and notes each page that is written, cut or grown.
+#[derive(Drop)]
+pub struct PageFile {
+    before: FileBefore,
+    bytes: Vec<u8>,
+    touched: Vec<bool>,
+    faults: u64,
+    caught: u64,
+}
+
+impl Model for PageFile {
+    ghost use Rattle.sqlite_files.specs.Recording.{Recorded, IsRecorded};
+
+    ghost Value = { Recorded };
+
+    ghost view = { λ a. record { before = a.before; after = a.bytes.items; touched = a.touched.items; faults = a.faults; caught = a.caught } };
+
+    ghost invariant = { λ a. IsRecorded a.before a.bytes.items a.touched.items };
+}
+
+impl PageFile {
+    /// A file of these bytes, of which the first are kept and the second, their copy, may change. Takes no memory.
+    pub(crate) fn new(alloc: Global, before: Bytes, bytes: Bytes) -> PageFile
+        requires { before ≡ bytes }
+        ensures { result ≡ record { before = before; after = bytes; touched = []; faults = 0; caught = 0 } }
+    {
+        PageFile {
+            before: FileBefore::new(before),
+            bytes: bytes.into_vec(),
+            touched: Vec::new(alloc),
+            faults: 0,
+            caught: 0,
+        }
+    }
+
+    /// A file of these bytes that was empty before, so that each page of it is noted. Fails where memory runs out.
+    #[tactic(auto, using(crate::proofs::TouchedPages::grown_recorded))]
+    pub(crate) fn grown_to(alloc: Global, bytes: Bytes) -> Result<PageFile, AllocError>
+        ensures before { IfOk result (λ file. file.before ≡ []) }
+        ensures after { IfOk result (λ file. file.after ≡ bytes) }
+    {
+        let mut touched = Vec::new(alloc);
+        touch(&mut touched, 0, bytes.len())?;
+        Ok(PageFile {
+            before: FileBefore::new(Bytes::new(Vec::new(alloc))),
+            bytes: bytes.into_vec(),
+            touched,
+            faults: 0,
+            caught: 0,
+        })
+    }
+
+    /// The bytes that it has.
+    pub fn bytes(&self) -> &[u8]
+        ensures { result.now ≡ self.now.after }
+    {
+        self.bytes.as_slice()
+    }
+
+    /// Whether these are the bytes before.
+    pub(crate) fn was(&self, bytes: &[u8]) -> bool
+        ensures { result ≡ bytes_eq self.now.before bytes.now }
+    {
+        self.before.is(bytes)
+    }
+
+    /// The bytes that it has, as its own. Takes no memory.
+    pub(crate) fn into_bytes(self) -> Bytes
+        ensures { result ≡ self.after }
+    {
+        Bytes::new(self.bytes)
+    }
+
+    /// The file before, the file after, and the pages that were touched. Takes no memory.
+    pub(crate) fn into_parts(self) -> (FileBefore, Bytes, Vec<bool>)
+        ensures before { result.0 ≡ self.before }
+        ensures after { result.1 ≡ self.after }
+        ensures touched { result.2.items ≡ self.touched }
+        ensures recorded { IsRecorded self.before self.after self.touched }
+    {
+        (self.before, Bytes::new(self.bytes), self.touched)
+    }
+}
+
+impl Disk for PageFile {
+    ghost seen = { λ m. m.after };
+
+    ghost may_leave = { λ m c. c ≡ m.after };
+
+    ghost is_usable = { λ _. true };
+
+    ghost faults = { λ m. m.faults };
+
+    ghost is_clean = { λ _. true };
+
+    ghost tally_of = { λ m. record { caught = m.caught; refused = 0 } };
+
+    ghost key_of = { λ _. 0 };
+
+    ghost is_fair = { λ _ _. true };
+
+    ghost fair_if_clean = { λ _ _ _. refl };
+
+    ghost seen_may_stay = { λ m. refl };
+
+    fn mixes(&self) -> bool {
+        false
+    }
+
+    fn key(&self) -> u64 {
+        0
+    }
+
+    fn tally(&self) -> Tally {
+        Tally {
+            caught: self.caught,
+            refused: 0,
+        }
+    }
+
+    fn may_be_used(&self) -> bool {
+        true
+    }
+
+    fn len(&mut self) -> io::Result<usize>
+        ensures len { result ≡ Ok (length self.old.after) }
+        ensures same { self.new ≡ self.old }
+    {
+        Ok(self.bytes.len())
+    }
+
+    fn read_at(&mut self, at: usize, buf: &mut [u8]) -> io::Result<()>
+        ensures read { OnOk result (Holds self.old.after at buf.new) }
+        ensures short { OnErr result (length self.old.after < at + length buf.old) }
+        ensures same { self.new ≡ self.old }
+    {
+        if at > self.bytes.len() || buf.len() > self.bytes.len() - at {
+            return Err(io::ErrorKind::UnexpectedEof.into());
+        }
+        buf.copy_from_slice(&self.bytes[at..at + buf.len()]);
+        Ok(())
+    }
+
+    /// It fails only where the file ends before, or where the bytes there have another digest, which counts as damage.
+    fn read_checked(&mut self, key: u64, want: u64, at: usize, buf: &mut [u8]) -> io::Result<()>
+        ensures read { OnOk result (Holds self.old.after at buf.new) }
+        ensures tested { OnOk result (digest key buf.new ≡ want) }
+        ensures wanted { AnswersWantedBytes self.old.after key want at (length buf.old) result }
+        ensures faults { CountsFaultIf (at + length buf.old ≤ length self.old.after) result self.old.faults self.new.faults }
+        ensures caught { CountsCatch result (record { caught = self.old.caught; refused = 0 }) (record { caught = self.new.caught; refused = 0 }) }
+        ensures same { self.new ≡ record self.old { faults = self.new.faults; caught = self.new.caught } }
+    {
+        self.read_at(at, buf)?;
+        if digest_of(key, buf) != want {
+            self.faults = self.faults.saturating_add(1);
+            self.caught = self.caught.saturating_add(1);
+            return Err(io::ErrorKind::InvalidData.into());
+        }
+        Ok(())
+    }
+
+    /// It notes each page from the place, or the file's end where that comes first, up to the end of what is written.
+    fn write_at(&mut self, at: usize, bytes: &[u8]) -> io::Result<()>
+        ensures written { OnOk result (Holds self.new.after at bytes.now) }
+        ensures others { Torn at (length bytes.now) self.old.after self.new.after }
+        ensures faults { CountsFault result self.old.faults self.new.faults }
+        ensures room { finds_no_room result ≡ false }
+        ensures caught { self.new.caught ≡ self.old.caught }
+        ensures before { self.new.before ≡ self.old.before }
+        ensures touches { touched_count self.new.touched ≤ touched_count self.old.touched + pages_between (min at (length self.old.after)) (at + length bytes.now) }
+    {
+        let outcome = write(&mut self.bytes, &mut self.touched, at, bytes);
+        count(outcome, &mut self.faults)
+    }
+
+    /// It notes each page that is cut or grown.
+    fn set_len(&mut self, len: usize) -> io::Result<()>
+        ensures len { OnOk result (length self.new.after ≡ len) }
+        ensures others { Cut len self.old.after self.new.after }
+        ensures faults { CountsFault result self.old.faults self.new.faults }
+        ensures room { finds_no_room result ≡ false }
+        ensures caught { self.new.caught ≡ self.old.caught }
+        ensures before { self.new.before ≡ self.old.before }
+        ensures touches { touched_count self.new.touched ≤ touched_count self.old.touched + pages_between (min len (length self.old.after)) (max len (length self.old.after)) }
+    {
+        let outcome = set_length(&mut self.bytes, &mut self.touched, len);
+        count(outcome, &mut self.faults)
+    }
+
+    fn sync(&mut self) -> io::Result<()>
+        ensures ok { IsOk result }
+        ensures same { self.new ≡ self.old }
+    {
+        Ok(())
+    }
+}
+
+fn count(outcome: Result<(), AllocError>, faults: &mut u64) -> io::Result<()>
+    ensures variant { is_ok result ≡ is_ok outcome }
+    ensures kind { finds_no_room result ≡ false }
+    ensures faults { CountsFault result faults.old faults.new }
+{
+    if outcome.is_err() {
+        *faults = faults.saturating_add(1);
+        return Err(io::Error::from(io::ErrorKind::OutOfMemory));
+    }
+    Ok(())
+}

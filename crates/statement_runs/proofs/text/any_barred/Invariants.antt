@@ -1,7 +1,0 @@
-use Rattle.std.proofs.Common.{◌≡◌, ℕ, List, drop}
-use Rattle.session_rules.specs.Statements.{any_barred}
-use Rattle.statement_runs.specs.Texts.{cut_at}
-use Rattle.statement_runs.proofs.text.any_barred.Given as goal
-
-abbrev pub invariant-loop-piece : goal.invariant-loop-piece
-invariant-loop-piece l = (text : List ℕ) → any_barred (cut_at text l.pieces) ≡ any_barred (cut_at text (drop l.piece-index l.pieces))
