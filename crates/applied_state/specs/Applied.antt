@@ -39,7 +39,8 @@ with_entry a e = with_content a (entry_seen e).content
 
 -- ---- the front of a log
 
--- databases are those of a node, but for what its counts of commits lack, and its counts of pages since a checkpoint
+-- databases are those of a node, except for what its counts of commits lack, and its counts of pages since a
+-- checkpoint
 abbrev pub ShowsFiles : (List ℕ → ℕ) → Machine → List Database → Type 0
 ShowsFiles lacks m databases = (since : List ℕ → ℕ) × (m ≡ restarted lacks since (machine_of databases))
 

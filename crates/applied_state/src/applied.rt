@@ -45,7 +45,8 @@ fn keep_whole(machine: &mut Machine, command: &Command)
     }
 }
 
-/// Does what a command says. `Err` is want of memory; the machine is then unchanged.
+/// Does what a command says. `Err` means out of memory; the machine is then
+/// unchanged.
 fn act(machine: &mut Machine, command: &Command) -> Result<(), AllocError>
     requires { HasLowNumbers command.now }
     ensures done { OnOk result (machine.new ≡ act machine.old command.now) }
@@ -77,7 +78,7 @@ fn has_each(machine: &Machine, databases: &[Database]) -> bool
 }
 
 impl Applied {
-    /// A node that has applied nothing: it has no database, and these servers. Takes no memory.
+    /// A node that has applied nothing: it has no database, and these servers.
     pub fn new(alloc: Global, servers: Servers) -> Applied
         ensures value { result ≡ record { machine = []; servers = servers; index = 0 } }
         ensures applied { HasApplied servers (λ name. 0) [] result }
@@ -129,7 +130,7 @@ impl Applied {
     }
 
     /// Applies the next entry: does what its command says, or has its servers, or nothing where it is neither or doesn't
-    /// read. Tells what it was. After `Err`, want of memory, all is as before.
+    /// read. Tells what it was. After `Err`, out of memory, all is as before.
     ///
     /// Reads the entry once, and costs what `Machine::act` costs. Each database that a command opens or changes is kept
     /// whole from then on (`Machine::keep_newest`), so that statements are lent it without a copy.
@@ -148,7 +149,7 @@ impl Applied {
     }
 
     /// Has the newest image of each database kept whole from then on, as `apply` does for those that it changes: what was read
-    /// from a snapshot isn't. Copies each image that isn't whole yet. `Err` is want of memory for the names.
+    /// from a snapshot isn't. Copies each image that isn't whole yet. `Err` means out of memory for the names.
     pub fn keep_whole(&mut self) -> Result<(), AllocError>
         ensures { self.new ≡ self.old }
     {
@@ -158,8 +159,8 @@ impl Applied {
         Ok(())
     }
 
-    /// Whether it has each database of another by its name, as what a snapshot brings has to have each of the node's. Takes
-    /// no memory; looks at each name once for each of the other's.
+    /// Whether it has each database of another by its name, as what a snapshot brings has to have each of the node's.
+    /// Allocates nothing; looks at each name once for each of the other's.
     pub fn has_all(&self, other: &Applied) -> bool
         ensures { result ≡ has_names (names_of self.now.machine) (names_of other.now.machine) }
     {

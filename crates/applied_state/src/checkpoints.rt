@@ -31,7 +31,7 @@ fn has_grown(machine: &Machine, name: &Name) -> bool
     }
 }
 
-/// The Checkpoint of a database as an entry of a term. `Err` is want of memory.
+/// The Checkpoint of a database as an entry of a term.
 fn checkpoint_entry(alloc: Global, term: u64, name: &Name) -> Result<Entry, AllocError>
     ensures entry { IfOk result (λ entry. entry ≡ written_in term (Does (Checkpoint name.now))) }
     ensures spelled { OnOk result (HasSpelling (Does (Checkpoint name.now))) }
@@ -79,7 +79,7 @@ fn awaits(checkpoint: &[u8], waiting: &[Entry]) -> bool
 }
 
 /// The checkpoint of the database of a name, as entries of a term: one, where 1,000 pages or more were committed since the
-/// last one and none waits among the entries that aren't applied; else none. `Err` is want of memory.
+/// last one and none waits among the entries that aren't applied; else none.
 fn checkpoint_due(
     alloc: Global,
     term: u64,

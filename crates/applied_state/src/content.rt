@@ -59,7 +59,7 @@ fn of_change(alloc: Global, bytes: &[u8]) -> Result<Content, AllocError>
 
 /// What an entry is for, as sessions see it: a command; a change of the servers, which reads only where its bytes end with
 /// the last server; or nothing, where it is a leader's first one or doesn't read. What it is for could be written again.
-/// Takes memory for what is read. `Err` is want of memory.
+/// Takes memory for what is read.
 pub fn content_of(alloc: Global, entry: &Entry) -> Result<Content, AllocError>
     ensures means { IfOk result (λ content. meaning content ≡ (entry_seen entry.now).content) }
     ensures spelled { IfOk result (λ content. HasSpelling (meaning content)) }

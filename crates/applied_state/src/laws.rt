@@ -4,7 +4,8 @@ ghost use Rattle.applied_state.specs.Laws.{LivesAreShown, OfficesGoOn, OfficesSt
 
 use sql_engine::Engine;
 
-/// What a node has applied of its log shows the databases of its life, but for what counts lack since it began at a snapshot.
+/// What a node has applied of its log shows the databases of its life, except for what counts lack since it began at a
+/// snapshot.
 pub fn lives_are_shown()
     ensures { LivesAreShown }
 {}

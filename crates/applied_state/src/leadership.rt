@@ -52,7 +52,7 @@ fn past_barrier(index: u64, entries: &Entries) -> Result<LeadershipPhase, AllocE
 }
 
 impl Leadership {
-    /// The office of a leader that was elected in a term, and whose barrier has this index. Takes no memory.
+    /// The office of a leader that was elected in a term, and whose barrier has this index.
     pub fn won(term: u64, barrier: u64) -> Leadership
         ensures value { result ≡ record { term = term; phase = LeadershipPhase.Barrier barrier } }
         // The life of a node that won and has appended its barrier is that of a leader in this office.
@@ -64,7 +64,7 @@ impl Leadership {
         }
     }
 
-    /// Whether the leader serves. Takes no memory.
+    /// Whether the leader serves.
     pub fn serves(&self) -> bool
         ensures { result ≡ serves self.now.phase }
     {
@@ -85,9 +85,9 @@ impl Leadership {
 
     /// What the leader appends now that it has applied an entry: its Undos, one for each database with pending pages in the
     /// order of names, where the entry is its barrier; and while it serves a Checkpoint behind a commit, where 1,000 pages or
-    /// more were committed in the database since its last one and none waits. It serves from its barrier on where nothing
-    /// was pending, else from its last Undo on. `waiting` are the entries behind the applied ones. After `Err`, want of
-    /// memory, the office is as before.
+    /// more were committed in the database since its last one and none waits. It serves from its barrier on where nothing was
+    /// pending, else from its last Undo on. `waiting` are the entries behind the applied ones. After `Err`, out of memory,
+    /// the office is as before.
     ///
     /// Looks at each name once, and at each entry that waits where a checkpoint is due; reads and copies no entry.
     pub fn on_applied(

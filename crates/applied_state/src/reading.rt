@@ -1,4 +1,4 @@
-//! What bytes read as, if they do: only want of memory is an error.
+//! What bytes read as, if they do: only out of memory is an error.
 
 ghost use Rattle.std.specs.Prelude.{◌≡◌, ◌≢◌, IsErr, IfOk, OnOk};
 ghost use Rattle.std.specs.Option.{option_map};
@@ -13,7 +13,8 @@ use log_commands::{Command, CommandFault, read_command};
 use raft_messages::{Servers, ServersFault, read_servers};
 use std::alloc::{AllocError, Global};
 
-/// Whether a command didn't read for want of memory: then it isn't known to be none.
+/// Whether a command didn't read because memory ran out: then it isn't known to be
+/// none.
 fn no_command(fault: CommandFault) -> Result<(), AllocError>
     ensures goes_on { OnOk result (fault ≢ CommandFault.NoMemory) }
     ensures only { IsErr result → fault ≡ CommandFault.NoMemory }

@@ -62,7 +62,7 @@ fn spelled(alloc: Global, machine: &Machine, servers: &[Server]) -> Result<WireB
 impl Applied {
     /// What a node has applied at a snapshot of this index, of which these are the bytes: servers, and databases that had no
     /// commits since and have no live marks. `None` exactly where the bytes are no node's snapshot, which is a configuration
-    /// with a machine's snapshot behind it, and nothing else. `Err` is want of memory.
+    /// with a machine's snapshot behind it, and nothing else.
     ///
     /// Each log in it is read once, and its pages are written once more to be compared.
     #[tactic(auto, unfolding(crate::specs::Snapshot::snapshot_in))]
@@ -85,8 +85,7 @@ impl Applied {
     }
 
     /// What another node's snapshot would bring in place of this. `None` exactly where it is to be taken as lost: its bytes
-    /// are no node's snapshot, or it lacks a database that the node has. `Err` is want of memory. Costs what `from_snapshot`
-    /// costs.
+    /// are no node's snapshot, or it lacks a database that the node has. Costs what `from_snapshot` costs.
     pub fn offered(
         &self,
         alloc: Global,
@@ -118,7 +117,7 @@ impl Applied {
     }
 
     /// The node's snapshot at the applied index, as bytes. Costs one buffer: each page of the newest images is looked up once
-    /// and copied into it once, and no image is made in between. `Err` is want of memory.
+    /// and copied into it once, and no image is made in between.
     pub fn snapshot(&self, alloc: Global) -> Result<WireBytes, AllocError>
         requires { IsConfiguration self.now.servers }
         ensures spelled { IfOk result (SpellsSnapshot (snapshot_value self.now)) }

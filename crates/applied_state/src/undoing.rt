@@ -14,8 +14,8 @@ use log_commands::{Command, write_command};
 use raft_messages::{Entries, Entry, EntryKind, SharedBytes};
 use std::alloc::{AllocError, Global};
 
-/// A command as an entry of a term. No number of it is out of its range. `Err` is want of memory, here and in the functions
-/// that follow.
+/// A command as an entry of a term. No number of it is out of its range. `Err` means out of memory, here and in the
+/// functions that follow.
 pub(crate) fn command_entry(
     alloc: Global,
     term: u64,

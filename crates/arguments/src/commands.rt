@@ -113,7 +113,8 @@ pub(crate) fn serve_command<'a>(alloc: Global) -> Result<Command<'a>, AllocError
         .arg(any(alloc, "PEER"))
 }
 
-/// Nothing where an error refuses the words. `Err` where it is want of memory.
+/// Nothing where an error refuses the words. `Err` where it means out of
+/// memory.
 fn refused<T>(error: Error) -> Result<Option<T>, AllocError>
     ensures refuses { IfOk result (λ none. none ≡ None) }
     ensures cause { IfOk result (λ _. kind_of error ≢ ErrorKind.OutOfMemory) }
@@ -124,7 +125,7 @@ fn refused<T>(error: Error) -> Result<Option<T>, AllocError>
     }
 }
 
-/// What a command finds in words, unless it refuses them. `Err` is want of memory.
+/// What a command finds in words, unless it refuses them.
 pub(crate) fn matches_by<'a>(
     command: Command<'a>,
     words: &'a [String],

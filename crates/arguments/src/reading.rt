@@ -237,8 +237,7 @@ fn read_by(alloc: Global, line: Line, words: &[String]) -> Result<Option<Invocat
     }
 }
 
-/// Reads what the words behind the program's name ask for; nothing where they ask for nothing that the program does. `Err` is want
-/// of memory.
+/// Reads what the words behind the program's name ask for; nothing where they ask for nothing that the program does.
 ///
 /// The first word is `script`, `exec`, `query`, `check`, `gen` or `serve`. Behind `script` an engine may be named once, as `--engine E` or
 /// `--engine=E`, where E is `sqlite`, which is taken where none is named, or `cells`. Behind `exec` and `query` stand the name of a

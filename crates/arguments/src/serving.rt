@@ -159,7 +159,7 @@ fn serve_in(alloc: Global, matches: &ArgMatches<'_>) -> Result<Option<Serve>, Al
     }
 }
 
-/// Reads the words behind `serve`: the node that they name, or nothing where they name none. `Err` is want of memory.
+/// Reads the words behind `serve`: the node that they name, or nothing where they name none.
 ///
 /// The id is a number of 1 to 9. An address has 1 to 255 bytes and no NUL; a peer is named as `N=ADDRESS`, with an N of 1 to 9. No two of
 /// the node and its peers have one number, and there are at most six peers. `--engine E` stands as behind `script`, and `--events K` with

@@ -40,7 +40,7 @@ impl Model for ClientCore {
 
 impl ClientCore {
     /// A client that hasn't begun. There are 1 to 9 addresses; the database's name and the text of the statement hold no
-    /// NUL; `query` says whether the statement answers rows. Takes no memory.
+    /// NUL; `query` says whether the statement answers rows.
     pub fn new(
         alloc: Global,
         addresses: Vec<WireText>,
@@ -69,7 +69,7 @@ impl ClientCore {
 
     /// Something happens; answers what is to be done. First only `Begin` is awaited, after a `Dial` only `Dialled` and
     /// `NotDialled`, after a `Send` or a `Wait` on a link only `Got` and `Broken`, and after `Done` nothing; what isn't
-    /// awaited is answered by `Wait` and changes nothing. `Err` is want of memory, and changes nothing either.
+    /// awaited is answered by `Wait` and changes nothing. `Err` means out of memory, and changes nothing either.
     #[tactic(auto, using(crate::proofs::Sound::stays_sound))]
     pub fn step(&mut self, event: &ClientEvent) -> Result<ClientAction, AllocError>
         ensures { Takes (step self.old event.now) self.old self.new result }

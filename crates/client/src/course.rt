@@ -69,7 +69,8 @@ fn text_at(texts: &[WireText], at: usize) -> &WireText
     &texts[at]
 }
 
-/// Puts a part behind others. `Err` is want of memory, and leaves them as they were.
+/// Puts a part behind others. `Err` means out of memory, and leaves them as they
+/// were.
 fn append(alloc: Global, parts: &mut Items<Part>, part: Part) -> Result<(), AllocError>
     ensures ok { OnOk result (parts.new ≡ parts.old ++ part ∷ []) }
     ensures err { OnErr result (parts.new ≡ parts.old) }

@@ -36,7 +36,7 @@ fn room(bytes: &[u8]) -> usize
     (size.saturating_sub(bytes.len() as u64) as usize).min(PIECE_SIZE)
 }
 
-/// What a whole message says. `Err` is want of memory.
+/// What a whole message says.
 #[tactic(auto, unfolding(crate::specs::Running::message_event))]
 fn said(alloc: Global, bytes: &[u8]) -> Result<ClientEvent, AllocError>
     requires { 8 ≤ length bytes.now }
@@ -56,7 +56,7 @@ fn said(alloc: Global, bytes: &[u8]) -> Result<ClientEvent, AllocError>
     }
 }
 
-/// What comes of a message with this header, of which these bytes are there. `Err` is want of memory.
+/// What comes of a message with this header, of which these bytes are there.
 fn heard_behind(
     alloc: Global,
     head: Header,
@@ -77,7 +77,7 @@ fn heard_behind(
     Ok(Some(event))
 }
 
-/// What comes of the bytes of a message that are there. `Err` is want of memory.
+/// What comes of the bytes of a message that are there.
 #[tactic(auto, unfolding(crate::specs::Running::heard))]
 fn heard(alloc: Global, held: &mut Bytes) -> Result<Option<ClientEvent>, AllocError>
     ensures { IfOk result (λ came. (came, held.new) ≡ heard held.old) }
@@ -89,7 +89,7 @@ fn heard(alloc: Global, held: &mut Bytes) -> Result<Option<ClientEvent>, AllocEr
     heard_behind(alloc, head, held)
 }
 
-/// Puts bytes behind others. `Err` is want of memory.
+/// Puts bytes behind others.
 fn append(alloc: Global, held: &mut Bytes, bytes: &[u8]) -> Result<(), AllocError>
     ensures { OnOk result (held.new ≡ held.old ++ bytes.now) }
 {
@@ -99,7 +99,7 @@ fn append(alloc: Global, held: &mut Bytes, bytes: &[u8]) -> Result<(), AllocErro
     Ok(())
 }
 
-/// What comes of bytes that were read. `Err` is want of memory.
+/// What comes of bytes that were read.
 fn take(alloc: Global, held: &mut Bytes, bytes: &[u8]) -> Result<Option<ClientEvent>, AllocError>
     ensures { IfOk result (λ came. (came, held.new) ≡ read_of held.old bytes.now) }
 {
@@ -128,7 +128,7 @@ fn write<N: Dialer>(net: &mut N, bytes: &WireBytes) -> bool
     net.write_all(bytes.as_slice()).is_ok()
 }
 
-/// Reads some bytes, and says what came of it. `Err` is want of memory.
+/// Reads some bytes, and says what came of it.
 fn read<N: Dialer>(
     alloc: Global,
     net: &mut N,
@@ -149,7 +149,7 @@ fn read<N: Dialer>(
     }
 }
 
-/// Makes the call that a client named, and says what came of it. `Err` is want of memory.
+/// Makes the call that a client named, and says what came of it.
 pub(crate) fn perform<N: Dialer>(
     alloc: Global,
     net: &mut N,

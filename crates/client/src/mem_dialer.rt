@@ -40,7 +40,7 @@ fn link_of(alloc: Global, bytes: Bytes) -> MemSource
     MemSource::new(bytes.into_vec(), Vec::new(alloc))
 }
 
-/// A copy of bytes. `Err` is want of memory.
+/// A copy of bytes.
 fn copied(alloc: Global, bytes: &[u8]) -> Result<Bytes, AllocError>
     ensures { IfOk result (λ copy. copy ≡ bytes.now) }
 {

@@ -192,7 +192,7 @@ fn put_end(alloc: Global, out: &mut Vec<u8>, end: &ClientEnd) -> Result<(), Allo
     }
 }
 
-/// What is printed of an end. `Err` is want of memory.
+/// What is printed of an end.
 pub(crate) fn text_of(alloc: Global, end: &ClientEnd) -> Result<Vec<u8>, AllocError>
     ensures { IfOk result (λ text. text.items ≡ end_text end.now) }
 {

@@ -32,7 +32,7 @@ fn is_done(does: &ClientAction) -> bool
 }
 
 impl Run {
-    /// Something comes, or nothing yet. `Err` is want of memory.
+    /// Something comes, or nothing yet.
     fn go_on(&mut self, came: Option<ClientEvent>) -> Result<(), AllocError>
         ensures { OnOk result (self.new ≡ goes_on self.old (came, self.old.held)) }
     {
@@ -43,7 +43,7 @@ impl Run {
         Ok(())
     }
 
-    /// Makes the call that the client names. `Err` is want of memory.
+    /// Makes the call that the client names.
     fn advance<N: Dialer>(
         &mut self,
         alloc: Global,
@@ -71,7 +71,7 @@ impl Run {
     }
 }
 
-/// Has a client begin. `Err` is want of memory.
+/// Has a client begin.
 fn begin(alloc: Global, core: ClientCore) -> Result<Run, AllocError>
     ensures { IfOk result (λ run. run ≡ started core) }
 {
@@ -84,7 +84,7 @@ fn begin(alloc: Global, core: ClientCore) -> Result<Run, AllocError>
     })
 }
 
-/// Drives a client to its end, with a piece of memory for what is read. `Err` is want of memory.
+/// Drives a client to its end, with a piece of memory for what is read.
 fn drive_over<N: Dialer>(
     alloc: Global,
     core: ClientCore,
@@ -106,8 +106,8 @@ fn drive_over<N: Dialer>(
     run.into_end()
 }
 
-/// Has a client that hasn't begun do over a dialer what it names, until it comes to its end. `Err` is want of memory, as it is where
-/// the end isn't there after 18,446,744,073,709,551,615 calls. It holds 4,096 bytes for what it reads, and the bytes of the
+/// Has a client that hasn't begun do over a dialer what it names, until it comes to its end. `Err` means out of memory, as it is
+/// where the end isn't there after 18,446,744,073,709,551,615 calls. It holds 4,096 bytes for what it reads, and the bytes of the
 /// message that comes.
 #[tactic(auto, using(crate::proofs::Driven::unmoved, crate::proofs::Failing::none_failed))]
 pub fn drive<N: Dialer>(

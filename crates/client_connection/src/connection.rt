@@ -25,7 +25,7 @@ pub enum CloseReason {
 impl CloseReason {
     ghost use Rattle.client_connection.specs.Connection.{reason_number};
 
-    /// The number of the reason. Takes no memory.
+    /// The number of the reason.
     pub fn number(self) -> u64
         ensures { result ≡ reason_number self }
     {
@@ -72,7 +72,8 @@ impl Model for Connection {
     ghost invariant = { λ c. Counts c.splitter (c.earlier.items ++ c.latest.items) c.is_begun c.waiting_bytes };
 }
 
-// The messages that a piece adds. `Err` is want of memory, and changes nothing.
+// The messages that a piece adds. `Err` means out of memory, and changes
+// nothing.
 fn feed(alloc: Global, splitter: &mut Splitter, piece: &[u8]) -> Result<Vec<Message>, AllocError>
     requires { IsFed splitter.old }
     ensures fed { IsFed splitter.new }
@@ -168,7 +169,7 @@ fn begins(is_begun: bool, unread: u64) -> bool
 }
 
 impl Connection {
-    /// A connection of which nothing has come. Takes no memory.
+    /// A connection of which nothing has come.
     pub fn new(alloc: Global) -> Connection
         ensures { result ≡ opened }
     {
@@ -183,7 +184,7 @@ impl Connection {
         }
     }
 
-    /// How many bytes are held: those that are unread, and header and body of each message that waits. Takes no memory.
+    /// How many bytes are held: those that are unread, and header and body of each message that waits.
     #[tactic(auto, unfolding(crate::specs::Connection::held))]
     pub fn held(&self) -> u64
         ensures held { result ≡ held self.now }
@@ -193,7 +194,6 @@ impl Connection {
     }
 
     /// About how many bytes of memory that takes: 128 more for each message that waits. The sum stops at the last number of 64 bits.
-    /// Takes no memory.
     pub fn footprint(&self) -> u64
         ensures { result ≡ footprint self.now }
     {
@@ -208,7 +208,8 @@ impl Connection {
         MAX_HELD_BYTES + version_room(self.is_begun) - self.held()
     }
 
-    // Reads bytes for which there is room. `Err` is want of memory, and changes nothing.
+    // Reads bytes for which there is room. `Err` means out of memory, and changes
+    // nothing.
     fn read(&mut self, bytes: &[u8]) -> Result<(), AllocError>
         requires { length bytes.now ≤ room self.old }
         ensures ok { OnOk result (self.new ≡ with_more self.old (going_on client_limit self.old.end bytes.now) self.old.full) }
@@ -225,7 +226,7 @@ impl Connection {
 
     /// Takes the next piece of the stream, of any length: the messages that are whole with it wait behind those that wait
     /// already. After the end of the stream nothing is read any more, nor is a byte for which there is no room, or any byte
-    /// behind it. `Err` is want of memory, and leaves the connection as it was before the piece, so that the piece may be
+    /// behind it. `Err` means out of memory, and leaves the connection as it was before the piece, so that the piece may be
     /// given again. Each byte is copied once, into its message; a message that waits is moved once more, without its bytes.
     pub fn receive(&mut self, piece: &[u8]) -> Result<(), AllocError>
         ensures ok { OnOk result (self.new ≡ received self.old piece.now) }
@@ -240,7 +241,7 @@ impl Connection {
         Ok(())
     }
 
-    /// Takes the first message that waits. Takes no memory.
+    /// Takes the first message that waits.
     pub fn next(&mut self) -> Option<Message>
         ensures { TakesFirst self.old self.new result }
     {
@@ -250,7 +251,7 @@ impl Connection {
     }
 
     /// Why the connection closes behind the messages that wait, if its stream is at its end or there was no room for a byte.
-    /// Where both are so, it is what came first. Takes no memory.
+    /// Where both are so, it is what came first.
     pub fn close_reason(&self) -> Option<CloseReason>
         ensures { result ≡ reason_of self.now }
     {
@@ -258,7 +259,6 @@ impl Connection {
     }
 
     /// How many bytes are unread: those of the message that isn't there whole yet. The messages that wait are not counted.
-    /// Takes no memory.
     pub fn unread(&self) -> u64
         ensures { result ≡ length (unread_bytes self.now.end) }
     {
@@ -266,7 +266,7 @@ impl Connection {
     }
 
     /// The connection where a peer's messages follow, which may have 33,554,432 words: what waits and what is unread stays so, and so
-    /// does why it closes; any number of bytes may wait then. Takes no memory.
+    /// does why it closes; any number of bytes may wait then.
     pub fn into_peer(self) -> PeerStream
         ensures { result ≡ self }
     {

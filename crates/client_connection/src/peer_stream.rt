@@ -32,7 +32,8 @@ impl Model for PeerStream {
     ghost invariant = { λ c. c.splitter.limit ≡ peer_limit };
 }
 
-// The messages that a piece adds. `Err` is want of memory, and changes nothing.
+// The messages that a piece adds. `Err` means out of memory, and changes
+// nothing.
 fn feed(alloc: Global, splitter: &mut Splitter, piece: &[u8]) -> Result<Vec<Message>, AllocError>
     requires { splitter.old.limit ≡ peer_limit }
     ensures limit { splitter.new.limit ≡ peer_limit }
@@ -50,7 +51,7 @@ fn feed(alloc: Global, splitter: &mut Splitter, piece: &[u8]) -> Result<Vec<Mess
 impl PeerStream {
     /// Takes the next piece of the stream, of any length: the messages that are whole with it wait behind those that wait already.
     /// After the end of the stream nothing is read any more, nor behind a byte for which there was no room before the stream was a
-    /// peer's. `Err` is want of memory, and leaves it as it was before the piece, so that the piece may be given again.
+    /// peer's. `Err` means out of memory, and leaves it as it was before the piece, so that the piece may be given again.
     pub fn receive(&mut self, piece: &[u8]) -> Result<(), AllocError>
         ensures ok { OnOk result (self.new ≡ peer_received self.old piece.now) }
         ensures err { IsErr result → self.new ≡ self.old }
@@ -64,14 +65,14 @@ impl PeerStream {
         Ok(())
     }
 
-    /// Takes the first message that waits. Takes no memory.
+    /// Takes the first message that waits.
     pub fn next(&mut self) -> Option<Message>
         ensures { TakesFirst self.old self.new result }
     {
         first_of(&mut self.earlier, &mut self.latest)
     }
 
-    /// Why it closes behind the messages that wait, if its stream is at its end or there was no room for a byte. Takes no memory.
+    /// Why it closes behind the messages that wait, if its stream is at its end or there was no room for a byte.
     pub fn close_reason(&self) -> Option<CloseReason>
         ensures { result ≡ reason_of self.now }
     {

@@ -49,7 +49,7 @@ reads_plain m (requests.Transfer id) r = tt
 reads_plain m (requests.Describe format) r = tt
 reads_plain m (requests.Weight weight) r = tt
 
--- a fault that isn't want of memory is the one that reading gives
+-- a fault that isn't out of memory is the one that reading gives
 pub refused_reads : (fault : MsgFault) (reading : Result Request MsgFault) → Fails fault reading → fault ≢ faults.NoMemory → Err fault ≡ reading
 refused_reads (faults.Kind kind) reading fails memory = sym fails
 refused_reads (faults.Schema kind schema) reading fails memory = sym fails

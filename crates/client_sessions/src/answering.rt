@@ -52,7 +52,7 @@ fn act_of(alloc: Global, conn: u64, act: GatewayAct) -> Result<Act, AllocError>
     }
 }
 
-// Only want of memory is a reason to give up; for any other fault the message is refused.
+// Only out of memory is a reason to give up; for any other fault the message is refused.
 fn give_up_for_memory(fault: MsgFault) -> Result<(), AllocError>
     ensures only { IsErr result → fault ≡ NoMemory }
     ensures goes_on { OnOk result (fault ≢ NoMemory) }
@@ -63,8 +63,8 @@ fn give_up_for_memory(fault: MsgFault) -> Result<(), AllocError>
     }
 }
 
-/// The request that a message stands for, or the fault in it. `Err` is want of memory, which comes only where the message may
-/// have a text or a value to be kept.
+/// The request that a message stands for, or the fault in it. `Err` means out of memory, which comes only where the message
+/// may have a text or a value to be kept.
 pub fn read_message(
     alloc: Global,
     message: &Message,
@@ -114,7 +114,7 @@ fn answer<E: Engine>(
 }
 
 /// What a node has to do for a message of a connection whose session is there, is not hung up and has answered its last request, by
-/// what the message reads as. Clients that were sound are so after it, at an `Err` too, which is want of memory.
+/// what the message reads as. Clients that were sound are so after it, at an `Err` too, which means out of memory.
 pub(crate) fn come<E: Engine>(
     alloc: Global,
     gateway: &mut Gateway,
@@ -151,7 +151,7 @@ pub(crate) fn come<E: Engine>(
 }
 
 /// Runs the query that a connection has yet to answer, if there is one. Clients that were sound are so after it, at an `Err` too,
-/// which is want of memory.
+/// which means out of memory.
 pub(crate) fn resume<E: Engine>(
     alloc: Global,
     gateway: &mut Gateway,
@@ -181,8 +181,8 @@ pub(crate) fn resume<E: Engine>(
     }
 }
 
-/// Tells a connection what a reader tells of its query. Clients that were sound are so after it, at an `Err` too, which is want of
-/// memory.
+/// Tells a connection what a reader tells of its query. Clients that were sound are so after it, at an `Err` too, which means out
+/// of memory.
 pub(crate) fn finish(
     alloc: Global,
     gateway: &mut Gateway,

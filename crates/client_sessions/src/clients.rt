@@ -72,7 +72,7 @@ fn with_streams(size: u64, connections: &BTreeMap<u64, Connection>) -> u64
 }
 
 impl Clients {
-    /// No clients. Takes no memory.
+    /// No clients.
     pub fn new(alloc: Global) -> Clients
         ensures none { (databases : List Database) → clients_of result databases ≡ no_clients }
         ensures stand { (databases : List Database) → HasNoMarks databases → AreValidOver result databases }
@@ -86,7 +86,7 @@ impl Clients {
         }
     }
 
-    /// Whether a connection is open. Takes no memory.
+    /// Whether a connection is open.
     pub fn is_open(&self, conn: u64) -> bool
         ensures { (databases : List Database) → result ≡ not (is_none ((clients_of self.now databases).streams conn)) }
     {
@@ -101,14 +101,14 @@ impl Clients {
     /// Not counted is what the rules of sessions bound or what the databases' size does, as the working image of an open transaction;
     /// nor a query that a reader has still, where its client has gone.
     ///
-    /// Looks at each connection and at each number of a statement; takes no memory.
+    /// Looks at each connection and at each number of a statement.
     pub fn held(&self) -> u64
         ensures { result ≡ all_held self.now }
     {
         with_streams(self.gateway.held(), &self.connections)
     }
 
-    /// The same of one connection; 0 where there is no session of it. Takes no memory.
+    /// The same of one connection; 0 where there is no session of it.
     pub fn held_bytes_of(&self, conn: u64) -> u64
         ensures { result ≡ held_for conn self.now }
     {
@@ -128,7 +128,7 @@ impl Clients {
     }
 
     /// A client connects: it gets a session, unless its number is taken or 64 sessions are there, hung-up ones counted. `Err`
-    /// is want of memory; nothing has changed then.
+    /// means out of memory; nothing has changed then.
     pub fn connect(&mut self, conn: u64) -> Result<ConnectResult, AllocError>
         ensures joined { OnOk result ((databases : List Database) → AreValidOver self.old databases →
             clients_of self.new databases ≡ joined (clients_of self.old databases) conn) }
@@ -149,7 +149,7 @@ impl Clients {
     }
 
     /// Bytes come on a connection: they are cut into messages, which wait behind those that wait already, and the connection
-    /// gets a turn behind the others. On one that isn't open nothing happens. `Err` is want of memory; nothing has changed
+    /// gets a turn behind the others. On one that isn't open nothing happens. `Err` means out of memory; nothing has changed
     /// then, so the bytes may be given again.
     pub fn receive(&mut self, conn: u64, bytes: &[u8]) -> Result<(), AllocError>
         ensures heard { OnOk result ((databases : List Database) → clients_of self.new databases ≡ heard (clients_of self.old databases) conn bytes.now) }
@@ -167,8 +167,7 @@ impl Clients {
     }
 
     /// Takes the message whose turn it is, with its connection; `None` where no message's turn is left. It is the first that waits on
-    /// the first connection in turn that has one and whose session has answered its last request. Its session may be asked. Takes no
-    /// memory.
+    /// the first connection in turn that has one and whose session has answered its last request. Its session may be asked.
     pub fn take(&mut self) -> Option<(u64, Message)>
         ensures took { (databases : List Database) → TookNext (clients_of self.old databases) (clients_of self.new databases) result }
         ensures ready { (databases : List Database) → AreValidOver self.old databases →
@@ -182,8 +181,8 @@ impl Clients {
     /// What the node has to do for a message of a connection, by what the message reads as; one that doesn't read as a request is
     /// refused. The connection's session may be asked, as that of a message is which `take` gives.
     ///
-    /// `Err` is want of memory. The request may have been handled then and its reply be lost, so the node can't go on as if
-    /// nothing had been; but the clients stand over the machine as ever.
+    /// The request may have been handled then and its reply be lost, so the node can't go on as if nothing had been; but the
+    /// clients stand over the machine as ever.
     pub fn answer<E: Engine>(
         &mut self,
         conn: u64,
@@ -209,7 +208,7 @@ impl Clients {
         // Where the node doesn't serve, no transaction begins.
         ensures idle { view.now.serving ≡ false → HasNoTransactions (clients_of self.old machine.old) →
             HasNoTransactions (clients_of self.new machine.new) }
-        // The databases stay but for their marks.
+        // The databases stay except for their marks.
         ensures files { machine_of machine.new ≡ machine_of machine.old }
         // The engine stays of its kind.
         ensures stays { Stays (E.kind engine.old) (E.kind engine.new) (E.refused_openings engine.old) (E.refused_openings engine.new) }
@@ -231,8 +230,8 @@ impl Clients {
     ///
     /// To be called again until it answers `None`; what it answers is to be done before.
     ///
-    /// `Err` is want of memory. The message may have been handled then and its reply be lost, so the node can't go on as if
-    /// nothing had been; but the clients stand over the machine as ever.
+    /// The message may have been handled then and its reply be lost, so the node can't go on as if nothing had been; but the
+    /// clients stand over the machine as ever.
     pub fn next<E: Engine>(
         &mut self,
         view: &View,
@@ -252,7 +251,7 @@ impl Clients {
         // Where the node doesn't serve, no transaction begins.
         ensures idle { view.now.serving ≡ false → HasNoTransactions (clients_of self.old machine.old) →
             HasNoTransactions (clients_of self.new machine.new) }
-        // The databases stay but for their marks.
+        // The databases stay except for their marks.
         ensures files { machine_of machine.new ≡ machine_of machine.old }
         // The engine stays of its kind.
         ensures stays { Stays (E.kind engine.old) (E.kind engine.new) (E.refused_openings engine.old) (E.refused_openings engine.new) }
@@ -266,7 +265,7 @@ impl Clients {
     }
 
     /// The first connection whose query is to be run next, since its barrier is applied; none where there is none. Looks at each
-    /// session; takes no memory.
+    /// session.
     pub fn next_due(&self) -> Option<u64>
         ensures { (databases : List Database) → MatchOption result
             ((conn : ℕ) → is_due ((clients_of self.now databases).sessions.session conn).later ≡ false)
@@ -279,8 +278,7 @@ impl Clients {
     /// asked now, but with no barrier and no reader any more; where the node doesn't serve any more it is refused. The connection
     /// then gets a turn behind the others. `None` where it has no such query; then nothing is done.
     ///
-    /// `Err` is want of memory. The query may have been run then and its reply be lost; the clients stand over the machine as
-    /// ever.
+    /// The query may have been run then and its reply be lost; the clients stand over the machine as ever.
     pub fn on_later<E: Engine>(
         &mut self,
         conn: u64,
@@ -304,7 +302,7 @@ impl Clients {
         // Where the node doesn't serve, no transaction begins.
         ensures idle { view.now.serving ≡ false → HasNoTransactions (clients_of self.old machine.old) →
             HasNoTransactions (clients_of self.new machine.new) }
-        // The databases stay but for their marks.
+        // The databases stay except for their marks.
         ensures files { machine_of machine.new ≡ machine_of machine.old }
         // The engine stays of its kind.
         ensures stays { Stays (E.kind engine.old) (E.kind engine.new) (E.refused_openings engine.old) (E.refused_openings engine.new) }
@@ -321,7 +319,7 @@ impl Clients {
     /// a turn behind the others. `None` where no reader has a query of the connection any more, since its client has gone; and where
     /// the reader gives the query back, which `on_later` then runs. Nothing has changed at `None`.
     ///
-    /// `Err` is want of memory. The query may be done then and its reply be lost; the clients stand over the machine as ever.
+    /// The query may be done then and its reply be lost; the clients stand over the machine as ever.
     pub fn on_read_done(&mut self, conn: u64, read: Read) -> Result<Option<Act>, AllocError>
         ensures finished { IfOk result (λ act. (databases : List Database) → Finishes (clients_of self.old databases).sessions conn
             (lent_query ((clients_of self.old databases).sessions.session conn).later) (read_named read) (clients_of self.new databases).sessions act) }
@@ -343,8 +341,7 @@ impl Clients {
     /// it is there, with the number of its connection, which gets a turn behind the others; but where it was the barrier before a
     /// query, nothing is told, and the query is to be run next: `next_due` tells it. The machine has the entry applied.
     ///
-    /// `Err` is want of memory. The proposal may be done then and its reply be lost; the clients stand over the machine as
-    /// ever.
+    /// The proposal may be done then and its reply be lost; the clients stand over the machine as ever.
     pub fn on_applied(
         &mut self,
         index: u64,
@@ -366,8 +363,7 @@ impl Clients {
     /// tell each client that waits so, in the order of the proposals' last entries, with the numbers of their connections,
     /// which get a turn behind the others. Databases and statements stay, and readers go on.
     ///
-    /// `Err` is want of memory. Proposals and transactions may have ended then and replies be lost; the clients stand over
-    /// the machine as ever.
+    /// Proposals and transactions may have ended then and replies be lost; the clients stand over the machine as ever.
     pub fn on_lost(&mut self, machine: &mut Machine) -> Result<Vec<(u64, WireBytes)>, AllocError>
         requires stand { AreValidOver self.old machine.old }
         ensures lost { OnOk result (clients_of self.new machine.new ≡ lost_all (clients_of self.old machine.old)) }
@@ -396,7 +392,7 @@ impl Clients {
 
     /// The client of a connection hangs up: its session goes with its transaction, with the messages that wait and with a query that
     /// is yet to be answered. A proposal in flight, and the turn to write with it, stays until it is applied or lost. Of a
-    /// connection that isn't open nothing changes. Takes no memory.
+    /// connection that isn't open nothing changes.
     pub fn hang_up(&mut self, conn: u64, machine: &mut Machine)
         requires stand { AreValidOver self.old machine.old }
         ensures left { clients_of self.new machine.new ≡ hung_up (clients_of self.old machine.old) conn }
@@ -409,7 +405,7 @@ impl Clients {
 
     /// Hands over the stream of a connection that carries a peer's messages from now on: the messages that wait behind those that were
     /// taken, what is unread, and why it closes. The connection goes as one that hangs up. `None` where it isn't open; then nothing
-    /// changes. To be called where `Act::Peer` is answered, before anything else is. Takes no memory.
+    /// changes. To be called where `Act::Peer` is answered, before anything else is.
     pub fn hand_over(&mut self, conn: u64, machine: &mut Machine) -> Option<PeerStream>
         requires stand { AreValidOver self.old machine.old }
         ensures handed { result ≡ (clients_of self.old machine.old).streams conn }
@@ -425,7 +421,7 @@ impl Clients {
     }
 
     /// Closes a connection whose stream is at its end or has no room for a byte, and answers why; it goes as one that hangs
-    /// up. To be called once its messages have had their turn. Any other connection stays. Takes no memory.
+    /// up. To be called once its messages have had their turn. Any other connection stays.
     pub fn close(&mut self, conn: u64, machine: &mut Machine) -> Option<CloseReason>
         requires stand { AreValidOver self.old machine.old }
         ensures closed { clients_of self.new machine.new ≡ closed (clients_of self.old machine.old) conn }

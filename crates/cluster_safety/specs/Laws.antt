@@ -143,8 +143,8 @@ pub record WaitsForEntry (v : Node) (conn : ℕ) : Type 0 where
 abbrev pub Waits : Node → ℕ → Type 0
 Waits v conn = WaitsForEntry v conn ⊎ ((statement : Statement) × ((v.sessions.session conn).later ≡ Some (Lent statement)))
 
--- What was asked is answered by the call, once each, but for what is owed after it; and that waits for an entry that the node,
--- still leading its term, hasn't applied, or for a reader.
+-- What was asked is answered by the call, once each, except for what is owed after it; and that waits for an entry that the
+-- node, still leading its term, hasn't applied, or for a reader.
 pub record Completed (conn : ℕ) (old new : Node) (came : Comes) (replies : List (ℕ × Reply)) : Type 0 where
   pub each : told_to conn replies + owed new conn ≡ owed old conn + length (asks_in came conn)
   pub waits : 0 < owed new conn → Waits new conn

@@ -48,7 +48,7 @@ pub data Event : Type 0 where
   -- a node's call ends well: beside what comes, the node does these things in Raft's part; then it is this one, says this, and has handed
   -- these jobs to readers
   Goes : (node : ℕ) (came : Comes) (added : List raft.LocalEvent) (new : Node) (letters : List Letter) (replies : List (ℕ × Reply)) (jobs : List (ℕ × Job)) → Event
-  -- a stop at a disk call, or a failing one, or want of memory: the node is down, and this is kept
+  -- a stop at a disk call, or a failing one, or out of memory: the node is down, and this is kept
   Fails : (node : ℕ) (came : Comes) (added : List raft.LocalEvent) (kept : Kept) → Event
   Crashes : (node : ℕ) → Event
   -- a start ends well, or fails or is stopped

@@ -156,7 +156,7 @@ impl Model for CommandList {
 impl CommandList {
     ghost use Rattle.command_journal.specs.Limits.{may_join};
 
-    /// No commands. Takes no memory.
+    /// No commands.
     pub fn new(alloc: Global) -> CommandList
         ensures { result ≡ [] }
     {
@@ -167,7 +167,6 @@ impl CommandList {
     }
 
     /// The command at a place, counted from 0, if the list is so long. No page of it has a number above 4,294,967,295.
-    /// Takes no memory.
     pub fn get(&self, place: usize) -> Option<&Command>
         ensures command { option_copied result ≡ slice_get self.now place }
         ensures low { IfSome result (λ command. HasLowNumbers command.now) }
@@ -176,9 +175,9 @@ impl CommandList {
         self.commands.get(place)
     }
 
-    /// Adds a command where the limits allow it, and answers whether it did. Where they don't, and after `Err`, which is
-    /// want of memory, the list is as before. The command's numbers are in their ranges, as `Command::numbers_fit` tells
-    /// and as those of a command are that was read. Looks at each name of the list, and copies none that is there.
+    /// Adds a command where the limits allow it, and answers whether it did. Where they don't, and after `Err`, which
+    /// means out of memory, the list is as before. The command's numbers are in their ranges, as `Command::numbers_fit`
+    /// tells and as those of a command are that was read. Looks at each name of the list, and copies none that is there.
     pub fn try_push(&mut self, alloc: Global, command: Command) -> Result<bool, AllocError>
         requires { numbers_fit command ≡ true }
         ensures allowed { IfOk result (λ joined. joined ≡ may_join self.old command) }

@@ -1,4 +1,5 @@
--- What an engine of cells answers to statements is decided by them and their image, but for the numbers of transactions.
+-- What an engine of cells answers to statements is decided by them and their image, except for the numbers of
+-- transactions.
 use Rattle.std.proofs.Common.{◌≡◌, ◌≢◌, ℕ, Bool, true, false, List, [], ◌∷◌, map, Ok, Err, Option, Some, None, Result, inl, inr, refl, sym, ap, ◌∙◌, subst}
 use Rattle.std.specs.List.{AllByRecursion}
 use Rattle.std.proofs.lemmas.Bool.{cases_Bool, cond-true, cond-false}

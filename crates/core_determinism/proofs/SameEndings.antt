@@ -1,4 +1,5 @@
--- Statements whose runs end alike, but for the numbers of transactions, come to the same.
+-- Statements whose runs end alike, except for the numbers of transactions, come to the
+-- same.
 use Rattle.std.proofs.Common.{◌≡◌, ℕ, suc, ◌+◌, Bool, true, false, cond, List, [], ◌∷◌, length, Option, Some, None, refl, sym, ap, ◌∙◌}
 use Rattle.std.specs.Prelude.{◌&&◌}
 use Rattle.dq_base.specs.declared.images.Image.{Image}

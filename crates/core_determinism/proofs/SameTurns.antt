@@ -35,7 +35,7 @@ use Rattle.core_determinism.proofs.SameAnswers.{later_same, asked_alike, later_a
 use Rattle.core_determinism.proofs.SameSteps.{own_same, compacts_same, beside, own_beside, compacts_beside}
 use Rattle.core_determinism.proofs.Unlinked.{IsTold, request_told, later_told}
 
--- the answers are the same but for numbers of transactions
+-- the answers are the same except for numbers of transactions
 abbrev pub AreAlike : List Answer → List Answer → Type 0
 AreAlike a b = map plain_answer a ≡ map plain_answer b
 

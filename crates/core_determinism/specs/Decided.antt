@@ -43,7 +43,8 @@ IsUnread (events.Bytes conn bytes) = Unit {0}
 IsUnread (events.Hangup conn) = Unit {0}
 IsUnread (events.Peer message) = Unit {0}
 
--- One core was left and the same was said, by answers that are the same but for numbers of transactions.
+-- One core was left and the same was said, by answers that are the same except for numbers of
+-- transactions.
 pub record IsSame (v u : Core) (one other : StepOutputs) (a b : List Answer) : Type 0 where
   pub core : v ≡ u
   pub replies : one.replies.items ≡ other.replies.items
@@ -52,7 +53,7 @@ pub record IsSame (v u : Core) (one other : StepOutputs) (a b : List Answer) : T
   pub answers : map plain_answer a ≡ map plain_answer b
   pub alone : IsAlone v
 
--- From one core, with no links and no readers, an event leads to one core, by whichever answers of cells, where none is a want of memory.
+-- From one core, with no links and no readers, an event leads to one core, by whichever answers of cells, where none is a out of memory.
 abbrev pub StepsAreDecided : Type 0
 StepsAreDecided = (event : Event) (w v u : Core) (one other : StepOutputs) (a b : List Answer) → IsUnread event → IsAlone w
     → StepsExactly cells Cells event w v one a → StepsExactly cells Cells event w u other b

@@ -18,8 +18,8 @@ fn writes(cluster: &mut Cluster) -> Result<(), Fail> {
     cluster.settle()
 }
 
-/// The first node is elected anew where it doesn't lead, and another client of it reads and writes. Whether it read what was
-/// answered before, and all nodes are alike in the end.
+/// The first node is elected again where it doesn't lead, and another client of it reads and writes. Whether it read what
+/// was answered before, and all nodes are alike in the end.
 fn goes_on(cluster: &mut Cluster) -> Result<bool, Fail> {
     cluster.timeout(1)?;
     cluster.settle()?;

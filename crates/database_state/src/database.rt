@@ -24,8 +24,8 @@ pub struct Database {
     pub(crate) since: u64,
 }
 
-/// Commits pages where they can be applied, and answers whether they can; else the store stays. `Err` is want of memory,
-/// and the store stays too.
+/// Commits pages where they can be applied, and answers whether they can; else the store stays. `Err` means out of
+/// memory, and the store stays too.
 fn commit_or_stay(store: &mut PageStore, pages: &[NumberedPage]) -> Result<bool, AllocError>
     ensures sound { IfOk result (λ done. done ≡ is_none (page_fault pages.now)) }
     ensures ok { OnOk result (store.new ≡ (if is_none (page_fault pages.now) then committed store.old pages.now else store.old)) }
@@ -40,7 +40,7 @@ fn commit_or_stay(store: &mut PageStore, pages: &[NumberedPage]) -> Result<bool,
 }
 
 impl Database {
-    /// Two empty files, and nothing is pending. Takes no memory.
+    /// Two empty files, and nothing is pending.
     pub fn new(alloc: Global, name: Name, place: usize) -> Database
         ensures { result ≡ opened place name }
     {
@@ -53,7 +53,8 @@ impl Database {
         }
     }
 
-    /// Makes pages one more commit, where they can be applied. `Err` is want of memory; the database is then unchanged.
+    /// Makes pages one more commit, where they can be applied. `Err` means out of memory; the database is then
+    /// unchanged.
     fn commit(&mut self, pages: &[NumberedPage]) -> Result<(), AllocError>
         ensures ok { OnOk result (self.new ≡ with_commit pages.now self.old) }
         ensures short { OnOk result (StaysShort self.old.store self.new.store) }
@@ -94,7 +95,7 @@ impl Database {
         });
     }
 
-    /// Puts pages behind others, and commits all of them where the transaction ends. After `Err`, want of memory, the
+    /// Puts pages behind others, and commits all of them where the transaction ends. After `Err`, out of memory, the
     /// others stand at the front, and the database is unchanged.
     fn extend_and_commit(
         &mut self,
@@ -116,7 +117,7 @@ impl Database {
     }
 
     /// Takes pages of a transaction of which others are pending, and where it ends with them, makes all of them one commit.
-    /// `Err` is want of memory; the database is then unchanged.
+    /// `Err` means out of memory; the database is then unchanged.
     #[tactic(auto, using(crate::proofs::Pending::pages_of_tx, crate::proofs::Pending::put_again), unfolding(crate::specs::Databases::frames))]
     fn join(
         &mut self,
@@ -145,7 +146,7 @@ impl Database {
     }
 
     /// Takes pages of a transaction, and where it ends with them, makes all of its pages one commit. Costs in the order of
-    /// these pages, and of the pending ones where it ends. `Err` is want of memory; the database is then unchanged.
+    /// these pages, and of the pending ones where it ends. `Err` means out of memory; the database is then unchanged.
     #[tactic(auto, using(crate::proofs::Pending::none_of_tx), unfolding(crate::specs::Databases::frames))]
     pub fn take_frames(
         &mut self,

@@ -10,7 +10,7 @@ use crate::machine::Machine;
 use dq_base::{Lengths, Name, Page};
 
 impl Machine {
-    /// The databases, lent by the bytes of their names; what is true of those of every machine. Takes no memory.
+    /// The databases, lent by the bytes of their names; what is true of those of every machine.
     pub fn databases(&self) -> &[Database]
         ensures all { result.now ≡ self.now }
         ensures stand { IsMachine self.now }
@@ -20,14 +20,14 @@ impl Machine {
 }
 
 impl Database {
-    /// Its name. Takes no memory.
+    /// Its name.
     pub fn name(&self) -> &Name
         ensures { result.now ≡ self.now.name }
     {
         &self.name
     }
 
-    /// The lengths of the files of its newest image. Takes no memory.
+    /// The lengths of the files of its newest image.
     pub fn lengths(&self) -> Lengths
         ensures main { result.main ≡ length (newest_image self.now.store).main }
         ensures side { result.side ≡ length (newest_image self.now.store).side }
@@ -36,7 +36,7 @@ impl Database {
     }
 
     /// The page of a number in its newest image, with zeros past the end of its file; `None` exactly where that image has
-    /// no such page. Costs a look-up and the copy of one page; takes no memory.
+    /// no such page. Costs a look-up and the copy of one page.
     pub fn newest_page(&self, number: u64) -> Option<Page>
         ensures { result ≡ page_at (newest_image self.now.store) number }
     {

@@ -24,7 +24,7 @@ fn numbers_above_one(store: &PageStore) -> usize
     2 * main.max(side)
 }
 
-/// Appends the page of a number, where the newest image has one. `Err` is want of memory.
+/// Appends the page of a number, where the newest image has one.
 fn put_page(
     out: &mut Vec<u8>,
     writer: &mut WalWriter,
@@ -57,7 +57,7 @@ fn put_pages_above_one(
 }
 
 /// Appends the log of the newest image: all its pages, ascending, and then the sizes page with the page count as its commit
-/// size. `Err` is want of memory.
+/// size.
 pub(crate) fn put_image_log(out: &mut Vec<u8>, store: &PageStore) -> Result<(), AllocError>
     requires { IsShort (newest_image store.now) }
     ensures { OnOk result (out.new.items ≡ out.old.items ++ image_log (newest_image store.now)) }
@@ -76,7 +76,7 @@ pub(crate) fn image_log_length(store: &PageStore) -> usize
     wal_length(store.page_count() as usize)
 }
 
-/// Appends the log of pending pages, in their order. `Err` is want of memory.
+/// Appends the log of pending pages, in their order.
 pub(crate) fn put_pending_log(out: &mut Vec<u8>, pages: &[NumberedPage]) -> Result<(), AllocError>
     requires { AreLow pages.now }
     ensures log { OnOk result (out.new.items ≡ out.old.items ++ pending_log pages.now) }

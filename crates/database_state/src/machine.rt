@@ -42,8 +42,8 @@ impl Model for Machine {
     ghost invariant = { λ m. IsMachine m.databases.items × AllShort m.databases.items };
 }
 
-/// Takes pages of a transaction into the database of a name, which is made where there is none. `Err` is want of memory;
-/// the databases are then unchanged.
+/// Takes pages of a transaction into the database of a name, which is made where there is none. `Err` means out of
+/// memory; the databases are then unchanged.
 fn take_frames(
     alloc: Global,
     databases: &mut Vec<Database>,
@@ -70,7 +70,8 @@ fn take_frames(
     }
 }
 
-/// Makes a database of a name where there is none. `Err` is want of memory; the databases are then unchanged.
+/// Makes a database of a name where there is none. `Err` means out of memory; the databases are then
+/// unchanged.
 fn open(alloc: Global, databases: &mut Vec<Database>, name: &Name) -> Result<(), AllocError>
     ensures ok { OnOk result (databases.new.items ≡ changed name.now (λ database. database) databases.old.items) }
     ensures kept { OnErr result (databases.new.items ≡ databases.old.items) }
@@ -125,7 +126,8 @@ fn keep_newest(databases: &mut Vec<Database>, name: &str)
     }
 }
 
-/// Does what a command says. `Err` is want of memory; the databases are then unchanged.
+/// Does what a command says. `Err` means out of memory; the databases are then
+/// unchanged.
 #[tactic(auto, unfolding(crate::specs::Databases::act))]
 fn act_on(alloc: Global, databases: &mut Vec<Database>, command: &Command) -> Result<(), AllocError>
     ensures ok { OnOk result (databases.new.items ≡ act databases.old.items command.now) }
@@ -153,7 +155,7 @@ fn act_on(alloc: Global, databases: &mut Vec<Database>, command: &Command) -> Re
 }
 
 impl Machine {
-    /// A machine without databases. Takes no memory.
+    /// A machine without databases.
     pub fn new(alloc: Global) -> Machine
         ensures { result ≡ [] }
     {
@@ -176,7 +178,7 @@ impl Machine {
     ///
     /// Costs in the order of the command's pages, of the pending ones where a transaction ends, and of the names; a
     /// checkpoint in the order of the frames that it moves. Where the newest image is kept whole, a commit changes it in
-    /// place, and copies it first where somebody else holds it. `Err` is want of memory; the machine is then unchanged.
+    /// place, and copies it first where somebody else holds it. `Err` means out of memory; the machine is then unchanged.
     pub fn act(&mut self, command: &Command) -> Result<(), AllocError>
         requires { HasLowNumbers command.now }
         ensures done { OnOk result (self.new ≡ act self.old command.now) }
@@ -188,14 +190,14 @@ impl Machine {
     }
 
     /// How many commits the database of a name had, those of sets that could be applied; `None` exactly where there is
-    /// none. Takes no memory.
+    /// none.
     pub fn newest(&self, name: &str) -> Option<u64>
         ensures { result ≡ option_map (λ (database : Database). newest database.store) (named name.now self.now) }
     {
         Some(named(self.databases.as_slice(), name)?.store.newest())
     }
 
-    /// The transaction whose pages are pending in the database of a name; `None` exactly where none are. Takes no memory.
+    /// The transaction whose pages are pending in the database of a name; `None` exactly where none are.
     pub fn pending(&self, name: &str) -> Option<u64>
         ensures { result ≡ tx_pending (named name.now self.now) }
     {
@@ -207,7 +209,7 @@ impl Machine {
     }
 
     /// How many pages the newest image of a database has, the sizes page included; `None` exactly where there is no
-    /// database of the name. Takes no memory.
+    /// database of the name.
     pub fn pages(&self, name: &str) -> Option<u64>
         ensures { result ≡ option_map (λ (database : Database). page_count (newest_image database.store)) (named name.now self.now) }
     {
@@ -215,14 +217,14 @@ impl Machine {
     }
 
     /// How many pages were committed in a database since its last checkpoint; `None` exactly where there is none of the
-    /// name. Takes no memory.
+    /// name.
     pub fn since(&self, name: &str) -> Option<u64>
         ensures { result ≡ option_map (λ (database : Database). database.since) (named name.now self.now) }
     {
         Some(named(self.databases.as_slice(), name)?.since)
     }
 
-    /// The newest image of the database of a name; `None` exactly where there is none. Copies it. `Err` is want of memory.
+    /// The newest image of the database of a name; `None` exactly where there is none. Copies it.
     pub fn newest_image(&self, name: &str) -> Result<Option<Image>, AllocError>
         ensures { IfOk result (λ image. image ≡ option_map (λ (database : Database). newest_image database.store) (named name.now self.now)) }
     {
@@ -234,7 +236,6 @@ impl Machine {
 
     /// The newest image of the database of a name, shared; `None` exactly where there is none. Copies nothing where the
     /// machine keeps it whole, and else the image. Whoever holds it keeps that image, whatever the machine does later.
-    /// `Err` is want of memory.
     pub fn newest_shared(&self, name: &str) -> Result<Option<Arc<Image, Global>>, AllocError>
         ensures { IfOk result (λ shared. option_map arc_value shared
             ≡ option_map (λ (database : Database). newest_image database.store) (named name.now self.now)) }
@@ -254,7 +255,7 @@ impl Machine {
     }
 
     /// The number of the newest image of the database of a name; `None` exactly where there is none. As long as the machine
-    /// is one and the same, images of one number are one image. Takes no memory.
+    /// is one and the same, images of one number are one image.
     pub fn number(&self, name: &str) -> Option<ImageNumber>
         ensures { result ≡ option_map number_of (named name.now self.now) }
     {
@@ -265,7 +266,7 @@ impl Machine {
         })
     }
 
-    /// The names of all databases, ascending by their bytes. `Err` is want of memory.
+    /// The names of all databases, ascending by their bytes.
     pub fn names(&self) -> Result<Vec<Name>, AllocError>
         ensures names { IfOk result (λ names. names.items ≡ names_of self.now) }
         ensures ascend { Ascend (names_of self.now) }

@@ -41,7 +41,7 @@ fn release_pin(databases: &mut Vec<Database>, pin: Pin)
 
 impl Machine {
     /// Pins the newest image of the database of a name. `Unknown` exactly where there is none, and `Full(64)` exactly
-    /// where 64 of its pins are live; the machine is then unchanged. Looks at the names; takes no memory.
+    /// where 64 of its pins are live; the machine is then unchanged. Looks at the names.
     pub fn pin(&mut self, name: &str) -> Result<Pin, PinFault>
         ensures done { IfOk result (IsPin name.now self.old self.new) }
         ensures shows { IfOk result (ShowsNewest name.now self.old self.new) }
@@ -52,7 +52,7 @@ impl Machine {
         pin_named(&mut self.databases, name)
     }
 
-    /// Releases a pin that is live in this machine; it is spent. Looks at the databases; takes no memory.
+    /// Releases a pin that is live in this machine; it is spent. Looks at the databases.
     pub fn release(&mut self, pin: Pin)
         requires { IsPinned self.old pin }
         ensures done { self.new ≡ without_pin pin self.old }
@@ -62,8 +62,7 @@ impl Machine {
     }
 
     /// The page of a number in the image that a live pin shows; `None` exactly where that image has no such page. Page 1
-    /// is the sizes page and always exists. Costs a look-up and the copy of one page, and looks at the databases; takes no
-    /// memory.
+    /// is the sizes page and always exists. Costs a look-up and the copy of one page, and looks at the databases.
     pub fn page(&self, pin: &Pin, number: u64) -> Option<Page>
         requires { IsPinned self.now pin.now }
         ensures { result ≡ page_at (pinned_image self.now pin.now) number }
@@ -73,7 +72,7 @@ impl Machine {
         database.store.page_under(&pin.mark, number)
     }
 
-    /// The image that a live pin shows, copied. `Err` is want of memory.
+    /// The image that a live pin shows, copied.
     pub fn image(&self, pin: &Pin) -> Result<Image, AllocError>
         requires { IsPinned self.now pin.now }
         ensures { IfOk result (λ image. image ≡ pinned_image self.now pin.now) }

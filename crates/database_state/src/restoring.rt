@@ -162,7 +162,7 @@ impl Machine {
     /// comes first, as `Wal`, then, as `Order`, that it isn't written so of its frames with the sequence number 0. Then its
     /// pages, where they are those of an image, may be none that can be applied to two empty files, as `Pages`; and at last,
     /// again as `Order`, the log may be another than that of the image, or a frame of pending pages may have a commit size.
-    /// Bytes behind the last database are `Tail`. `NoMemory` is want of memory, which may come before another fault.
+    /// Bytes behind the last database are `Tail`. `NoMemory` means out of memory, which may come before another fault.
     ///
     /// Each log is read, and its pages are written once more to be compared.
     pub fn from_snapshot(alloc: Global, bytes: &[u8]) -> Result<Machine, SnapFault>

@@ -21,7 +21,8 @@ use std::alloc::{AllocError, Global};
 use wal_frames::wal_length;
 use wire_words::{WireBytes, Writer};
 
-/// Appends a word. `Err` is want of memory, here and in the functions that follow.
+/// Appends a word. `Err` means out of memory, here and in the functions that
+/// follow.
 fn put_word(out: &mut Vec<u8>, number: u64) -> Result<(), AllocError>
     ensures bytes { OnOk result (out.new.items ≡ out.old.items ++ word number) }
     ensures fits { number < 2 ^ 64 }
@@ -135,7 +136,7 @@ impl Machine {
     /// marks, the counts of commits and of pages since a checkpoint are no part of it.
     ///
     /// Costs one buffer, which is the caller's: each page is looked up once and copied into it once, and no image is made
-    /// in between. `Err` is want of memory; what the buffer holds then isn't told.
+    /// in between. `Err` means out of memory; what the buffer holds then isn't told.
     pub fn snapshot_into(&self, out: &mut Vec<u8>) -> Result<(), AllocError>
         ensures text { OnOk result (out.new.items ≡ out.old.items ++ snapshot_text (contents_of self.now)) }
         ensures spelled { OnOk result (IsSnapshot (contents_of self.now) (snapshot_text (contents_of self.now))) }
@@ -143,7 +144,7 @@ impl Machine {
         put_snapshot(self.alloc, out, self.databases.as_slice())
     }
 
-    /// The machine as bytes of their own, as `snapshot_into` appends them. `Err` is want of memory.
+    /// The machine as bytes of their own, as `snapshot_into` appends them.
     pub fn snapshot(&self) -> Result<WireBytes, AllocError>
         ensures text { IfOk result (λ bytes. bytes ≡ snapshot_text (contents_of self.now)) }
         ensures spelled { IfOk result (λ bytes. IsSnapshot (contents_of self.now) bytes) }

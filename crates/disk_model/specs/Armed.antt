@@ -41,7 +41,7 @@ abbrev pub whole_next : FaultInjector → Result Unit DiskFault
 whole_next a = cond (fails_next a) (Err Failed) (Ok tt)
 
 -- What becomes of the memory by a call that would make this of it: a call that fails does nothing, that of the stop is
--- done, and want of memory leaves all as it was.
+-- done, and out of memory leaves all as it was.
 abbrev pub after_call : Bool → Result Unit DiskFault → Memory → Memory → Memory
 after_call idle (Ok x) was done = done
 after_call idle (Err Failed) was done = cond idle was done
@@ -71,13 +71,14 @@ finished turn (Err e) = Err NoMemory
 finished Goes (Ok x) = Ok x
 finished Stops (Ok x) = Err Failed
 
--- the counts after it: the stop is a fault, and want of memory is counted apart
+-- the counts after it: the stop is a fault, and out of memory is counted apart
 abbrev pub with_end : CallOutcome → Result Unit AllocError → FaultInjector → FaultInjector
 with_end turn (Err e) a = record a { wants = one_more a.wants }
 with_end Goes (Ok x) a = a
 with_end Stops (Ok x) a = record a { faults = one_more a.faults }
 
--- the calls are counted anew, and these are to stop and to fail; a stop that came stands
+-- the calls are counted again, and these are to stop and to fail; a stop that came
+-- stands
 abbrev pub armed_with : Option Stop → Option ℕ → FaultInjector → FaultInjector
 armed_with stop fail a = record { made = 0; faults = a.faults; wants = a.wants; stop = stop; fail = fail; stopped = a.stopped }
 

@@ -22,7 +22,8 @@ pub data Change : Type 0 where
   Wrote : ℕ → List ℕ → Change
   Cut : ℕ → Change
 
--- a name on the disk: for sure, maybe since it was made, maybe since it was removed, or not
+-- a name on the disk: certainly, maybe since it was made, maybe since it was removed, or
+-- not
 pub data Standing : Type 0 where
   Sure Made Gone Absent : Standing
 

@@ -55,7 +55,7 @@ pub record HasCause {T : Type 0} (before now : ℕ) (result : Result T DiskFault
   pub never_falls : before ≤ now
   pub failed : result ≡ Err Failed → Rose before now
 
--- the count of wants did not fall, and a disk that answers want of memory has counted it: the count rose
+-- the count of wants did not fall, and a disk that answers out of memory has counted it: the count rose
 pub record HasWant {T : Type 0} (before now : ℕ) (result : Result T DiskFault) : Type 0 where
   pub never_falls : before ≤ now
   pub wanted : result ≡ Err NoMemory → Rose before now

@@ -81,7 +81,8 @@ impl FaultInjector {
         }
     }
 
-    /// Counts the calls anew, of which these are to stop and to fail. A stop that came stands.
+    /// Counts the calls again, of which these are to stop and to fail. A stop that came
+    /// stands.
     pub(crate) fn arm(&mut self, stop: Option<Stop>, fail: Option<u64>)
         ensures { self.new ≡ armed_with stop fail self.old }
     {
@@ -120,7 +121,7 @@ impl FaultInjector {
         DiskFault::Failed
     }
 
-    /// Counts a want of memory.
+    /// Counts a out of memory.
     pub(crate) fn want(&mut self) -> DiskFault
         ensures fault { result ≡ DiskFault.NoMemory }
         ensures count { self.new ≡ record self.old { wants = one_more self.old.wants } }

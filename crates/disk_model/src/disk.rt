@@ -13,9 +13,9 @@ use dq_base::{Items, Name};
 ///
 /// A disk counts its faults: a call answers `Failed` only where that count rose in the call. What is on the disk is told
 /// only by disks that know it, as one over memory; clauses on content hold where it is told. After an `Err` a call that
-/// changes the disk may have been done in any part, but a failed `sync` or `sync_names` makes nothing sure. Want of
-/// memory is an `Err` like a failure, without a fault; it has a count of its own, which rose where `NoMemory` is answered.
-/// All calls are counted too, whatever they answer, so that a caller's caller knows how many were made.
+/// changes the disk may have been done in any part, but a failed `sync` or `sync_names` makes nothing sure. Out of memory
+/// is an `Err` like a failure, without a fault; it has a count of its own, which rose where `NoMemory` is answered. All
+/// calls are counted too, whatever they answer, so that a caller's caller knows how many were made.
 ///
 /// A crash inside a call is that call over a disk whose calls fail from that moment on. So it is enough to know, at each
 /// answer, what a crash may leave.

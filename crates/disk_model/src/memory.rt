@@ -57,21 +57,20 @@ impl MemDisk {
     /// Counts the calls from here on, from 1. The call with the number `fail` does nothing and answers `Failed`. The
     /// call of the stop, and all later ones up to `crash`, answer `Failed`: the call of the stop counts as made, but a
     /// sync that stops counts as not made, and later calls do nothing. A call that is to stop and to fail does nothing.
-    /// Takes no memory.
     pub fn arm(&mut self, stop: Option<Stop>, fail: Option<u64>)
         ensures { self.new ≡ record { contents = self.old.contents; calls = armed_with stop fail self.old.calls } }
     {
         self.calls.arm(stop, fail);
     }
 
-    /// Whether the disk is stopped. Takes no memory.
+    /// Whether the disk is stopped.
     pub fn stopped(&self) -> bool
         ensures { result ≡ is_some self.now.calls.stopped }
     {
         self.calls.stopped.is_some()
     }
 
-    /// How often a call failed. Takes no memory.
+    /// How often a call failed.
     pub fn faults(&self) -> u64
         ensures { result ≡ self.now.calls.faults }
     {
@@ -79,8 +78,8 @@ impl MemDisk {
     }
 
     /// The outcome of a crash by a pick: by that of the stop, where one came, else by `pick`. It is one of those that a
-    /// crash may leave, and lasts. The disk is disarmed. Copies each file twice. `Err` is want of memory, and the disk
-    /// is then as it was.
+    /// crash may leave, and lasts. The disk is disarmed. Copies each file twice. `Err` means out of memory, and the
+    /// disk is then as it was.
     pub fn crash(&mut self, pick: u64) -> Result<(), AllocError>
         ensures outcome { OnOk result (memory_of self.new.contents ≡ crashed (pick_of self.old.calls pick) (memory_of self.old.contents)) }
         ensures told { OnOk result (Crashes (states_of self.old) (states_of self.new)) }
@@ -122,7 +121,6 @@ impl Disk for MemDisk {
         }
     }
 
-    /// Takes no memory.
     #[tactic(auto, using(crate::proofs::Told::read_told, crate::proofs::Told::looks_none))]
     fn read_at(&mut self, name: &str, at: u64, into: &mut [u8]) -> Result<usize, DiskFault>
         requires { IsName name.now }
@@ -225,7 +223,6 @@ impl Disk for MemDisk {
         self.calls.finish(turn, done)
     }
 
-    /// Takes no memory.
     #[tactic(auto, using(crate::proofs::Told::names_told, crate::proofs::Told::names_idle))]
     fn sync_names(&mut self) -> Result<(), DiskFault>
         ensures told { Steps SyncNames (states_of self.old) (states_of self.new) result }

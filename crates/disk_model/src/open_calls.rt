@@ -13,7 +13,8 @@ pub enum UnsyncedEffect {
     Truncation { length: u64 },
     /// The removal of the file.
     Removal,
-    /// A write or a cut of a file that is gone for sure. It can't be seen any more, and is still counted.
+    /// A write or a cut of a file that is gone certainly. It can't be seen any more, and is still
+    /// counted.
     Nothing,
 }
 

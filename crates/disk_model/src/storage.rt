@@ -117,7 +117,7 @@ impl UnsyncedEffect {
         }
     }
 
-    /// The file is gone for sure.
+    /// The file is gone certainly.
     fn survives_vanishing(&mut self) -> bool
         ensures { after_names_sync false self.old ≡ cond result (self.new ∷ []) [] }
     {
@@ -249,7 +249,7 @@ impl Storage {
         self.folder.names()
     }
 
-    /// Reads bytes of a file. Takes no memory.
+    /// Reads bytes of a file.
     pub(crate) fn read_at(&self, name: &str, at: u64, into: &mut [u8]) -> usize
         ensures { Reads ((memory_of self.now).read name.now).bytes at into.old into.new result }
     {

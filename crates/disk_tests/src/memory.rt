@@ -138,7 +138,7 @@ const REMOVED: &[Step] = &[
     Step::Remove(A),
 ];
 
-/// A write of a file that is gone for sure, which is still counted.
+/// A write of a file that is gone certainly, which is still counted.
 const GONE: &[Step] = &[
     Step::Write(A, 0, b"abcd"),
     Step::Remove(A),

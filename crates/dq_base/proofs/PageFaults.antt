@@ -52,7 +52,7 @@ earlier_some first later fault e = ap (λ (o : Option PageFault). earlier o late
 pub earlier_none : (first later : Option PageFault) → first ≡ None → earlier first later ≡ later
 earlier_none first later e = ap (λ (o : Option PageFault). earlier o later) e
 
--- ---- want of memory is no fault of a list
+-- ---- out of memory is no fault of a list
 
 abbrev NotMemory : Option PageFault → Type 0
 NotMemory found = found ≡ Some NoMemory → ⊥

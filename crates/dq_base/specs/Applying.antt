@@ -78,7 +78,7 @@ fault_before (Some last) front =
 abbrev pub page_fault : List NumberedPage → Option PageFault
 page_fault pages = fault_before (last_page pages) (take (length pages - 1) pages)
 
--- what a refusal says of the list: want of memory comes only where there is no fault, and any other is the first fault
+-- what a refusal says of the list: out of memory comes only where there is no fault, and any other is the first fault
 abbrev pub IsRefusal : PageFault → Option PageFault → Type 0
 IsRefusal NoMemory found = found ≡ None
 IsRefusal fault found = found ≡ Some fault

@@ -12,7 +12,7 @@ fn is_plain(word: &[u8]) -> bool
     }
 }
 
-/// The number that a word is in decimal, without sign or leading zeros: one below 2^64, else `None`. Takes no memory.
+/// The number that a word is in decimal, without sign or leading zeros: one below 2^64, else `None`.
 pub fn decimal_u64(word: &[u8]) -> Option<u64>
     ensures { result ≡ number_below (2 ^ 64) word.now }
 {
@@ -25,7 +25,7 @@ pub fn decimal_u64(word: &[u8]) -> Option<u64>
     text.parse().ok()
 }
 
-/// The number that a word is in decimal, without sign or leading zeros: one below 2^32, else `None`. Takes no memory.
+/// The number that a word is in decimal, without sign or leading zeros: one below 2^32, else `None`.
 pub fn decimal_u32(word: &[u8]) -> Option<u32>
     ensures { result ≡ number_below (2 ^ 32) word.now }
 {

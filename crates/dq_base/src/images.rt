@@ -19,7 +19,7 @@ pub struct Image {
 }
 
 impl Image {
-    /// Two empty files. Takes no memory.
+    /// Two empty files.
     pub fn new(alloc: Global) -> Image
         ensures main { result.main ≡ [] }
         ensures side { result.side ≡ [] }
@@ -44,7 +44,7 @@ impl Image {
 }
 
 /// The page of a number, a last page that its file only partly fills with zeros to its end; `None` exactly where the
-/// image has no such page. Page 1 is the sizes page and always exists. Takes no memory.
+/// image has no such page. Page 1 is the sizes page and always exists.
 pub fn page_at(image: &Image, number: u64) -> Option<Page>
     ensures { result ≡ page_at image.now number }
 {
@@ -72,7 +72,7 @@ fn file_of(image: &Image, number: u64) -> &[u8]
     }
 }
 
-/// How many pages an image has, the sizes page included. Takes no memory.
+/// How many pages an image has, the sizes page included.
 pub fn page_count(image: &Image) -> u64
     ensures { result ≡ page_count image.now }
 {

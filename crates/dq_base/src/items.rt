@@ -25,14 +25,14 @@ impl<T> Model for Items<T> {
 }
 
 impl<T> Items<T> {
-    /// The items of a vector. Takes no memory.
+    /// The items of a vector.
     pub fn new(inner: Vec<T>) -> Items<T>
         ensures { result ≡ inner.items }
     {
         Items { inner }
     }
 
-    /// Gives the vector back. Takes no memory.
+    /// Gives the vector back.
     pub fn into_vec(self) -> Vec<T>
         ensures { result.items ≡ self }
     {
@@ -69,7 +69,7 @@ impl<T> Items<T> {
 }
 
 impl<T: Copy> Items<T> {
-    /// A copy of the list. `Err` is want of memory.
+    /// A copy of the list.
     pub fn try_clone(&self, alloc: Global) -> Result<Items<T>, AllocError>
         ensures { IfOk result (λ copy. copy ≡ self.now) }
     {

@@ -31,7 +31,7 @@ impl Model for Name {
 }
 
 impl Name {
-    /// The text as a name; `None` exactly where it is empty, longer than 255 bytes, or holds a NUL. Takes no memory.
+    /// The text as a name; `None` exactly where it is empty, longer than 255 bytes, or holds a NUL.
     pub fn new(text: String) -> Option<Name>
         ensures { SomeIff result (IsName (string_bytes text)) (string_bytes text) }
     {
@@ -41,7 +41,7 @@ impl Name {
         Some(Name { text })
     }
 
-    /// A copy of the name. `Err` is want of memory.
+    /// A copy of the name.
     pub fn try_clone(&self, alloc: Global) -> Result<Name, AllocError>
         ensures { IfOk result (λ copy. copy ≡ self.now) }
     {
@@ -50,7 +50,7 @@ impl Name {
         })
     }
 
-    /// The text, borrowed. Takes no memory.
+    /// The text, borrowed.
     pub fn as_str(&self) -> &str
         ensures value { result.now ≡ self.now }
         ensures name { IsName self.now }

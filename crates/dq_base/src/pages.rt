@@ -24,14 +24,14 @@ impl Model for Page {
 }
 
 impl Page {
-    /// A page of these bytes. Takes no memory.
+    /// A page of these bytes.
     pub fn new(bytes: [u8; PAGE_SIZE]) -> Page
         ensures { result ≡ bytes }
     {
         Page { bytes }
     }
 
-    /// A page of zeros. Takes no memory.
+    /// A page of zeros.
     pub fn zeroed() -> Page
         ensures { result ≡ zeros 4096 }
     {
@@ -40,7 +40,7 @@ impl Page {
         }
     }
 
-    /// A copy of these bytes, which have to be 4,096, as a page. Takes no memory.
+    /// A copy of these bytes, which have to be 4,096, as a page.
     pub fn from_slice(bytes: &[u8]) -> Page
         requires { length bytes.now ≡ 4096 }
         ensures { result ≡ bytes.now }
@@ -50,7 +50,7 @@ impl Page {
         Page { bytes: page }
     }
 
-    /// A page with a copy of these bytes first, of which there are at most 4,096, and zeros behind them. Takes no memory.
+    /// A page with a copy of these bytes first, of which there are at most 4,096, and zeros behind them.
     pub fn padded(bytes: &[u8]) -> Page
         requires { length bytes.now ≤ 4096 }
         ensures { result ≡ resized 4096 bytes.now }
@@ -60,7 +60,7 @@ impl Page {
         Page { bytes: page }
     }
 
-    /// The 4,096 bytes, borrowed. Takes no memory.
+    /// The 4,096 bytes, borrowed.
     pub fn bytes(&self) -> &[u8]
         ensures value { result.now ≡ self.now }
         ensures size { length self.now ≡ 4096 }

@@ -9,7 +9,7 @@ use crate::sizes::{Lengths, stated_lengths};
 
 /// The lengths that the last page of a set states, to which applying the set resizes both files, or the set's first
 /// fault: `NoSizes`, then `Order`, then `NotInLength`. Looks at each page's number, and at the bytes of the last page
-/// alone; takes no memory.
+/// alone.
 pub fn set_lengths(pages: &[NumberedPage]) -> Result<Lengths, PageFault>
     ensures { MatchResult result
         (λ lengths. (page_fault pages.now ≡ None) × (lengths ≡ lengths_in pages.now) × StateLengths pages.now lengths.main lengths.side)

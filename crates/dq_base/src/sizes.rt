@@ -18,7 +18,7 @@ pub struct Lengths {
 }
 
 /// The lengths that a sizes page states; `None` exactly where the page is none: its number isn't 1, a length is above
-/// 67,108,864, or a byte from byte 16 on isn't zero. Takes no memory.
+/// 67,108,864, or a byte from byte 16 on isn't zero.
 #[tactic(auto, using(crate::proofs::SizesTests::sizes_tests))]
 pub fn stated_lengths(page: &NumberedPage) -> Option<Lengths>
     ensures { MatchOption result (is_sizes page.now ≡ false)

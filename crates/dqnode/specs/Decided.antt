@@ -31,7 +31,7 @@ pub record BrokeWell {follows : List ℕ → Type 0} {left left' written written
   pub well : AllByRecursion GoesUntroubled (with_over breaks.turns breaks.safe.over)
 
 -- The same text was written behind what was written before, and the faults are the same. So is what happened at nodes, with what came of it,
--- and what is noted, but for the numbers of transactions.
+-- and what is noted, except for the numbers of transactions.
 pub record WroteSame (fault other : Option Fault) (turns others : List Turn) (journal items : List Item) (written written' shown shown' : Option (List ℕ))
     : Type 0 where
   pub text : List ℕ
@@ -64,6 +64,6 @@ BrokenDecideBy follows =
     BrokeWell one → WentWell also → (rest more : List ℕ) → follows left' rest → MayFollow from' more → one.read ++ rest ≡ also.read ++ more →
     WroteFront written written' shown shown'
 
--- by a fault of the input; by a fault of the output, or for want of memory
+-- by a fault of the input; by a fault of the output, or because memory ran out
 abbrev pub BrokenScriptsDecide : Type 0
 BrokenScriptsDecide = BrokenDecideBy (λ left. Anything) × BrokenDecideBy MayFollow

@@ -43,7 +43,7 @@ IsServeCode code = (code ≡ 5) ⊎ (code ≡ 6) ⊎ (code ≡ 7) ⊎ (code ≡ 
 abbrev pub IsStatus : ℕ → Type 0
 IsStatus code = (code ≡ 1) ⊎ IsScriptCode code ⊎ IsStatementCode code ⊎ IsCheckCode code ⊎ IsServeCode code
 
--- those of a fault of the output, and of want of memory
+-- those of a fault of the output, and of out of memory
 abbrev pub IsBroken : ℕ → Type 0
 IsBroken code = (code ≡ 4) ⊎ (code ≡ 7)
 

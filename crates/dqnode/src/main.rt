@@ -43,7 +43,7 @@ fn served(rt: &HostRuntime, words: &[String]) -> Option<Serve> {
 }
 
 /// Takes the folder for the node that the words name. Where it is another node's, or the disk fails, that is told, and the disk is
-/// refused, so that the node doesn't start. `Err` is want of memory.
+/// refused, so that the node doesn't start.
 fn take_folder(
     rt: &HostRuntime,
     words: &Serve,

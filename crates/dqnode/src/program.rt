@@ -166,17 +166,17 @@ fn run<S: Source, K: Sink, D: Disk, N: Dialer, H: Host<Read>, W: Notes>(
 /// - `gen NUMBER COUNT`: the script of a load of writes that these give is written; with `--run` it is run instead, with an engine of
 ///   cells at each node, and it is written how its nodes stand at its end.
 ///
-/// Other words give status 1 and the line `error words`. 4 is a fault of the output, an error line that could not be written
-/// included; 7 is want of memory.
+/// Other words give status 1 and the line `error words`. 4 is a fault of the output, an error line that could not be written included; 7
+/// means out of memory.
 ///
-/// A script: a line that isn't in the grammar, or that names what isn't there, the first fault of the script, gives status 2, behind
-/// the text of the lines before it, and `error line` with its number. A line behind the millionth, an event behind the twenty thousandth,
-/// or one whose messages have too many bytes, as the first fault gives 9 and `error large` instead. 3 is a fault of the input. The journal
-/// is that of this run afterwards: what the engines answered to the statements of clients, how each disk call was met at which a line
-/// aims, and what was loaded behind a stop or a failed call, in their order; what it held before is dropped, and after other words it is
-/// as it was. What was read, and what came of the events at the nodes, decide all else. What came of them is what whole nodes do, so every
-/// such run is safe, at each moment and at a later one, with stops and failing calls of disks at any place. Unless the input is at its end,
-/// every script that begins with the bytes read has the fault that is named; and after a fault of the outside or want of memory a front was
+/// A script: a line that isn't in the grammar, or that names what isn't there, the first fault of the script, gives status 2, behind the
+/// text of the lines before it, and `error line` with its number. A line behind the millionth, an event behind the twenty thousandth, or
+/// one whose messages have too many bytes, as the first fault gives 9 and `error large` instead. 3 is a fault of the input. The journal is
+/// that of this run afterwards: what the engines answered to the statements of clients, how each disk call was met at which a line aims,
+/// and what was loaded behind a stop or a failed call, in their order; what it held before is dropped, and after other words it is as it
+/// was. What was read, and what came of the events at the nodes, decide all else. What came of them is what whole nodes do, so every such
+/// run is safe, at each moment and at a later one, with stops and failing calls of disks at any place. Unless the input is at its end,
+/// every script that begins with the bytes read has the fault that is named; and after a fault of the outside or out of memory a front was
 /// written of what each of them gives, so nothing of a line that was read in part.
 ///
 /// A statement: 0 with the number of changed rows or the rows, 11 with the server's refusal, 12 where no leader was found in three
@@ -228,11 +228,12 @@ pub fn dqnode<S: Source, K: Sink, D: Disk, N: Dialer, H: Host<Read>, W: Notes>(
     // So is the run of every script where what came of its events is what whole nodes do.
     ensures always_safe { RunsAreSafe }
     // With an engine of cells a script alone decides what comes of its events, what is written and how it ends: in two calls that ran one script
-    // the same happened at nodes and was noted, but for the numbers of transactions, the same was written behind what was there, and the
-    // fault is the same, where in both no call of a disk stopped or failed, no engine wanted memory, and no checksum matched by chance in what
-    // a start found.
+    // the same happened at nodes and was noted, except for the numbers of transactions, the same was written behind what was there, and the
+    // fault is the same, where in both no call of a disk stopped or failed, no engine wanted memory, and no checksum matched by chance in what a
+    // start found.
     ensures determined { ScriptsDecide }
-    // And one that broke off, by a fault of the outside or for want of memory, wrote a front of what another one wrote.
+    // And one that broke off, by a fault of the outside or because memory ran out, wrote a front of what another one
+    // wrote.
     ensures determined_front { BrokenScriptsDecide }
     // A run has one list of commands: at every moment machines that have applied as many of them hold the same files and
     // pending pages, and are shown so. The files of each are together at most 67,108,864 bytes long.
@@ -243,7 +244,7 @@ pub fn dqnode<S: Source, K: Sink, D: Disk, N: Dialer, H: Host<Read>, W: Notes>(
     // After a fault of the input a front was written of what the script gives, whatever bytes follow those read.
     ensures cut { result ≡ 3 → RunsWith (asks_for words.now) (λ kind. BreaksOff kind Anything (S.left input.old)
         (S.left input.new) (K.written output.old) (K.written output.new)) }
-    // So it is after a fault of the output and want of memory; but where the input is at its end nothing follows.
+    // So it is after a fault of the output and out of memory; but where the input is at its end nothing follows.
     ensures broken { IsScript (asks_for words.now) → IsBroken result → RunsWith (asks_for words.now) (λ kind. BreaksOff kind
         (MayFollow (S.left input.new)) (S.left input.old) (S.left input.new) (K.written output.old) (K.written output.new)) }
     ensures words_broken { IsNothing (asks_for words.now) → IsBroken result → AppendsFront (K.written output.old) (K.written output.new) words_error }

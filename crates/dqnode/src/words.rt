@@ -8,7 +8,7 @@ use std::io::ErrorKind;
 use std::rt::Env;
 
 /// All words that the process was given, of which the first is the program's name. Where one of them isn't text there
-/// are none, since the program knows no such word. `Err` is want of memory.
+/// are none, since the program knows no such word.
 pub fn given<R: Env + AllocGlobal>(rt: &R) -> Result<Vec<String>, AllocError> {
     let alloc = rt.alloc();
     match env::args(rt) {
@@ -18,7 +18,7 @@ pub fn given<R: Env + AllocGlobal>(rt: &R) -> Result<Vec<String>, AllocError> {
     }
 }
 
-/// All but the first of the words: those behind the program's name. Takes no memory.
+/// All but the first of the words: those behind the program's name.
 pub fn behind_name(all: &[String]) -> &[String]
     ensures { result.now ≡ drop 1 all.now }
 {

@@ -82,7 +82,7 @@ fn copy_ran(alloc: Global, ran: &StatementResult) -> Result<StatementResult, All
     })
 }
 
-/// The item that keeps a copy of this answer. Each byte of the answer is copied once. `Err` is want of memory.
+/// The item that keeps a copy of this answer. Each byte of the answer is copied once.
 pub(crate) fn note(
     alloc: Global,
     answer: &Result<StatementResult, EngineFault>,

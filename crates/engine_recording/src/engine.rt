@@ -16,8 +16,8 @@ use wire_words::Value;
 /// A copy of an answer takes as many bytes as the answer: its rows, the names of its columns and its pages. A run costs what
 /// it costs in the engine, and that copy.
 ///
-/// Where there is no room for a copy the run answers want of memory, and from then on the list is cut: the engine in it knows
-/// nothing any more and isn't asked again, and each later run answers want of memory too.
+/// Where there is no room for a copy the run answers out of memory, and from then on the list is cut: the engine in it knows
+/// nothing any more and isn't asked again, and each later run answers out of memory too.
 #[derive(Drop)]
 pub struct RecordingEngine<E> {
     alloc: Global,
@@ -35,7 +35,7 @@ impl<E> Model for RecordingEngine<E> {
 }
 
 impl<E> RecordingEngine<E> {
-    /// An engine that keeps the answers of this one, from now on. Takes no memory.
+    /// An engine that keeps the answers of this one, from now on.
     pub fn new(alloc: Global, engine: E) -> RecordingEngine<E>
         ensures { result ≡ record { engine = engine; noted = []; cut = false } }
     {
@@ -47,14 +47,15 @@ impl<E> RecordingEngine<E> {
         }
     }
 
-    /// Whether a copy found no room, so that the list is cut. Takes no memory.
+    /// Whether a copy found no room, so that the list is cut.
     pub fn is_cut(&self) -> bool
         ensures { result ≡ self.now.cut }
     {
         self.cut
     }
 
-    // Moves the items to the end of others. `Err` is want of memory, and changes nothing.
+    // Moves the items to the end of others. `Err` means out of memory, and changes
+    // nothing.
     pub(crate) fn move_noted(&mut self, items: &mut Vec<RecordedItem>) -> Result<(), AllocError>
         ensures moved { OnOk result (items.new.items ≡ items.old.items ++ self.old.noted) }
         ensures emptied { OnOk result (self.new ≡ record self.old { noted = [] }) }
@@ -64,7 +65,8 @@ impl<E> RecordingEngine<E> {
     }
 }
 
-// Keeps a copy of the answer behind the others. `Err` is want of memory, and keeps nothing.
+// Keeps a copy of the answer behind the others. `Err` means out of memory, and keeps
+// nothing.
 fn keep(
     alloc: Global,
     noted: &mut Vec<RecordedItem>,

@@ -22,7 +22,7 @@ impl Model for Journal {
 }
 
 impl Journal {
-    /// A journal without items. Takes no memory.
+    /// A journal without items.
     pub fn new(alloc: Global) -> Journal
         ensures { result ≡ [] }
     {
@@ -31,7 +31,7 @@ impl Journal {
         }
     }
 
-    /// The items, in the order in which they came. Takes no memory.
+    /// The items, in the order in which they came.
     pub fn items(&self) -> &[RecordedItem]
         ensures { result.now ≡ self.now }
     {
@@ -39,8 +39,8 @@ impl Journal {
     }
 
     /// Moves the items that the engine has kept to the end of the journal, so that the engine begins an empty list. Whether
-    /// its list is cut stays. No answer is copied; an item is moved once, without what it owns. `Err` is want of memory, and
-    /// changes nothing.
+    /// its list is cut stays. No answer is copied; an item is moved once, without what it owns. `Err` means out of memory,
+    /// and changes nothing.
     pub fn take_from<E>(&mut self, engine: &mut RecordingEngine<E>) -> Result<(), AllocError>
         ensures taken { OnOk result (self.new ≡ self.old ++ engine.old.noted) }
         ensures emptied { OnOk result (engine.new ≡ record engine.old { noted = [] }) }

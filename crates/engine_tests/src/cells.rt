@@ -19,7 +19,7 @@ const NUMBERS: ImageNumbers = ImageNumbers {
 const SET_3_9: [u8; 80] =
     *b"\x01\x02\0\0\0\0\0\0d\0\0\0\0\0\0\0\x03\0\0\0\x01\0\0\0\x05\0\0\0\x01\0\0\0\x05\0\0\0\0\x10\0\0\x02\0\0\0\0\0\0\0\x03\0\0\0\0\0\0\0\x04\0\0\0\0\0\0\0\x06\0\0\0\0\0\0\0\x01\0\0\0\0\0\0\0";
 
-/// That command whole: its five pages are zeros but for these bytes.
+/// That command whole: its five pages are zeros except for these bytes.
 fn worked_command(alloc: Global) -> Result<Vec<u8>, AllocError> {
     let mut bytes = Vec::from_slice(alloc, &SET_3_9)?;
     for (front, len) in [

@@ -15,7 +15,8 @@ fn item(journal: &Journal, number: usize) -> Option<Kept> {
     }
 }
 
-/// Runs a statement without parameters, and applies its pages to the image. No answer is want of memory.
+/// Runs a statement without parameters, and applies its pages to the image. No answer means out of
+/// memory.
 fn run(engine: &mut RecordingEngine<CellEngine>, image: &mut Image, text: &str) {
     let numbers = ImageNumbers {
         before: ImageNumber::Working(0),

@@ -84,7 +84,7 @@ fn add_database(hasher: &mut Sha256, database: &Database)
 
 /// The digest of the newest files of databases, in their order: the SHA-256 of each one's name as a text of the wire, and
 /// of its main file and its side file, each behind the word of its length. Goes over the files page by page, and costs a
-/// look-up and the copy of one page for each. Takes no memory.
+/// look-up and the copy of one page for each.
 #[tactic(auto, unfolding(crate::specs::Digest::digest))]
 pub fn digest(databases: &[Database]) -> [u8; 32]
     ensures { result ≡ digest (contents_of databases.now) }

@@ -45,9 +45,9 @@ fn print<K: Sink>(text: &str, sink: &mut K) -> CheckEnd
 /// `files I DIGEST` with the digest of the databases at the snapshot, of index 0 where there is none; and where the log has
 /// entries `end L DIGEST`, with that of the databases after all of them.
 ///
-/// Only lists and reads: every file stays as it is. All is looked at and made before the first byte is printed, in one
-/// write, so that only after `Done` and `WriteFault` anything was written. A log whose last index has more than 64 bits is answered
-/// as want of memory.
+/// Only lists and reads: every file stays as it is. All is looked at and made before the first byte is printed, in one write, so
+/// that only after `Done` and `WriteFault` anything was written. A log whose last index has more than 64 bits is answered as out of
+/// memory.
 ///
 /// Takes memory for what is kept, one file at a time, the databases at the snapshot and what the log adds to them, and goes
 /// over all their pages once for each digest.

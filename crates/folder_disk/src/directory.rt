@@ -40,7 +40,7 @@ pub struct CallFault {
 /// other one is gone.
 ///
 /// The file that was written last stays open until another one is written, or it is removed: a sync is then of the handle
-/// that wrote, and no error of the system is lost between a close and an open. Each other call opens its file anew and
+/// that wrote, and no error of the system is lost between a close and an open. Each other call opens its file again and
 /// makes its path, which takes memory in the order of its name. Its count of faults rises at each `Failed`, that of wants
 /// at each `NoMemory`, and that of calls at each call; all stay at 18,446,744,073,709,551,615.
 #[derive(Drop)]
@@ -112,14 +112,14 @@ fn fill(file: &File, at: u64, into: &mut [u8]) -> io::Result<usize>
 }
 
 impl<R: Files<File = File> + AllocGlobal + Clone + Drop> DirDisk<R> {
-    /// A disk over the working folder, with no fault so far. `Err` is want of memory.
+    /// A disk over the working folder, with no fault so far.
     pub fn new(rt: R) -> Result<DirDisk<R>, AllocError>
         ensures { IfOk result (λ disk. disk ≡ record { faults = 0; wants = 0; made = 0 }) }
     {
         DirDisk::in_folder(rt, ".")
     }
 
-    /// A disk over the folder of a path, which is there. `Err` is want of memory.
+    /// A disk over the folder of a path, which is there.
     pub fn in_folder(rt: R, folder: &str) -> Result<DirDisk<R>, AllocError>
         ensures { IfOk result (λ disk. disk ≡ record { faults = 0; wants = 0; made = 0 }) }
     {
@@ -170,7 +170,7 @@ impl<R: Files<File = File> + AllocGlobal + Clone + Drop> DirDisk<R> {
         self.made = self.made.saturating_add(1);
     }
 
-    /// Counts a fault or a want of memory of a call, and keeps the last one.
+    /// Counts a fault or a out of memory of a call, and keeps the last one.
     fn fault(&mut self, call: &'static str, error: io::Error) -> DiskFault
         ensures never_falls { self.old.faults ≤ self.new.faults }
         ensures rose { result ≡ DiskFault.Failed → Rose self.old.faults self.new.faults }

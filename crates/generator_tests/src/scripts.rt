@@ -49,7 +49,7 @@ const ROWS: &[(u32, u32, u64, usize, bool, &[u8])] = &[
 ];
 
 /// Writes a script to a sink that fails at one call: whether it is written whole, how many bytes are written, and whether they
-/// end so. `None` is want of memory.
+/// end so. `None` means out of memory.
 fn written(
     alloc: Global,
     number: u32,

@@ -13,7 +13,7 @@ abbrev pub no_pages : List NumberedPage → Bool
 no_pages [] = true
 no_pages (p ∷ ps) = false
 
--- the numbers of pages, but for that of a sizes page
+-- the numbers of pages, except for that of a sizes page
 abbrev pub numbers_of : List NumberedPage → List ℕ
 numbers_of [] = []
 numbers_of (p ∷ ps) = if nat_lt 1 p.number then p.number ∷ numbers_of ps else numbers_of ps

@@ -20,7 +20,7 @@ pub record IsChange (from : Image) (pages : List NumberedPage) : Type 0 where
 abbrev pub page_under : Image → ℕ → List NumberedPage
 page_under image number = if nat_lt 1 number then changed_page number None (page_at image number) else []
 
--- the pages that an image has where these are, but for the sizes page
+-- the pages that an image has where these are, except for the sizes page
 unfoldable pub pages_under : Image → List NumberedPage → List NumberedPage
 pages_under image [] = []
 pages_under image (p ∷ ps) = page_under image p.number ++ pages_under image ps

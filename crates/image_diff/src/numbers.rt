@@ -7,7 +7,7 @@ use dq_base::NumberedPage;
 use std::alloc::{AllocError, Global};
 use std::collections::BTreeSet;
 
-/// Adds a number above 1. `Err` is want of memory.
+/// Adds a number above 1.
 fn add_number(numbers: &mut Vec<u64>, number: u64) -> Result<(), AllocError>
     ensures { OnOk result (numbers.new.items ≡ numbers.old.items ++ (if nat_lt 1 number then number ∷ [] else [])) }
 {
@@ -17,7 +17,7 @@ fn add_number(numbers: &mut Vec<u64>, number: u64) -> Result<(), AllocError>
     Ok(())
 }
 
-/// Adds the numbers of pages, but for that of the sizes page. `Err` is want of memory.
+/// Adds the numbers of pages, except for that of the sizes page.
 pub fn add_numbers(numbers: &mut Vec<u64>, pages: &[NumberedPage]) -> Result<(), AllocError>
     ensures { OnOk result (numbers.new.items ≡ numbers.old.items ++ numbers_of pages.now) }
 {
@@ -27,7 +27,7 @@ pub fn add_numbers(numbers: &mut Vec<u64>, pages: &[NumberedPage]) -> Result<(),
     Ok(())
 }
 
-/// Numbers as an ordered set. `Err` is want of memory.
+/// Numbers as an ordered set.
 fn set_of(alloc: Global, numbers: &[u64]) -> Result<BTreeSet<u64>, AllocError>
     ensures { IfOk result (λ set. set.keys ≡ put_in_order [] numbers.now) }
 {
@@ -38,7 +38,7 @@ fn set_of(alloc: Global, numbers: &[u64]) -> Result<BTreeSet<u64>, AllocError>
     Ok(set)
 }
 
-/// Numbers in ascending order, each once. Costs a look-up in an ordered set for each. `Err` is want of memory.
+/// Numbers in ascending order, each once. Costs a look-up in an ordered set for each.
 pub fn in_order(alloc: Global, numbers: &[u64]) -> Result<Vec<u64>, AllocError>
     ensures { IfOk result (λ list. list.items ≡ put_in_order [] numbers.now) }
 {

@@ -85,8 +85,7 @@ fn ends_within<P: ImagePages>(alloc: Global, earlier: &P, lengths: Lengths) -> b
     lacks(alloc, earlier, number_behind(3, lengths.side))
 }
 
-/// The pages at these numbers that a later image has and the earlier has not or has otherwise, in their order. `Err` is want of
-/// memory.
+/// The pages at these numbers that a later image has and the earlier has not or has otherwise, in their order.
 fn changed_at<P: ImagePages>(
     alloc: Global,
     earlier: &P,
@@ -135,7 +134,7 @@ fn is_unchanged<P: ImagePages>(
 
 /// The pages that lead from an earlier image to a later one, which differ only in the pages of these numbers: none where they
 /// are the same; else those pages that the later has and the earlier has not or has otherwise, in order, and its sizes page.
-/// Copies the pages of the numbers, one at a time, and keeps those that it lists. `Err` is want of memory.
+/// Copies the pages of the numbers, one at a time, and keeps those that it lists.
 pub fn change_between<P: ImagePages>(
     alloc: Global,
     earlier: &P,

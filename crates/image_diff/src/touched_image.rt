@@ -20,7 +20,7 @@ pub struct TouchedImage {
     pub lengths: Lengths,
 }
 
-/// The pages that an image has at these numbers, in their order. `Err` is want of memory.
+/// The pages that an image has at these numbers, in their order.
 fn pages_at(alloc: Global, image: &Image, numbers: &[u64]) -> Result<Vec<NumberedPage>, AllocError>
     ensures { IfOk result (λ pages. pages.items ≡ there.pages_at numbers.now image.now) }
 {
@@ -31,7 +31,7 @@ fn pages_at(alloc: Global, image: &Image, numbers: &[u64]) -> Result<Vec<Numbere
     Ok(pages)
 }
 
-/// Those of these pages that an earlier image has not, or has otherwise, in order. `Err` is want of memory.
+/// Those of these pages that an earlier image has not, or has otherwise, in order.
 fn newer(
     alloc: Global,
     before: &Image,
@@ -55,7 +55,7 @@ fn has_lengths(image: &Image, lengths: Lengths) -> bool
 }
 
 impl TouchedImage {
-    /// What an image is, of which these are the numbers of the pages that were touched. `Err` is want of memory.
+    /// What an image is, of which these are the numbers of the pages that were touched.
     pub fn of(alloc: Global, image: &Image, touched: &[u64]) -> Result<TouchedImage, AllocError>
         ensures value { IfOk result (λ reached. reached ≡ there.reached_at (put_in_order [] touched.now) image.now) }
         ensures main_fits { length image.now.main < 2 ^ 64 }
@@ -71,7 +71,7 @@ impl TouchedImage {
         })
     }
 
-    /// The change from an earlier image to it, where the two differ in touched pages alone. `Err` is want of memory.
+    /// The change from an earlier image to it, where the two differ in touched pages alone.
     pub fn change_from(
         &self,
         alloc: Global,

@@ -27,7 +27,7 @@ fn is_within(image: &Image, lengths: Lengths) -> bool
     image.main.len() <= lengths.main && image.side.len() <= lengths.side
 }
 
-/// Adds the page that an image has at a number above 1. `Err` is want of memory.
+/// Adds the page that an image has at a number above 1.
 fn add_under(under: &mut Vec<NumberedPage>, image: &Image, number: u64) -> Result<(), AllocError>
     ensures { OnOk result (under.new.items ≡ under.old.items ++ undoing.page_under image.now number) }
 {
@@ -37,7 +37,7 @@ fn add_under(under: &mut Vec<NumberedPage>, image: &Image, number: u64) -> Resul
     add_page(under, image, number)
 }
 
-/// The pages that an image has where these are, but for the sizes page. `Err` is want of memory.
+/// The pages that an image has where these are, except for the sizes page.
 fn pages_under(
     alloc: Global,
     image: &Image,
@@ -52,7 +52,7 @@ fn pages_under(
     Ok(under)
 }
 
-/// Puts the pages of a file into it, and cuts it to a length. Takes no memory.
+/// Puts the pages of a file into it, and cuts it to a length.
 fn cut_back(alloc: Global, file: &mut Bytes, pages: &[NumberedPage], parity: u64, length: usize)
     ensures { file.new ≡ undoing.cut_back (is_page_of parity) pages.now length file.old }
 {
@@ -64,7 +64,7 @@ fn cut_back(alloc: Global, file: &mut Bytes, pages: &[NumberedPage], parity: u64
 
 impl Undo {
     /// What puts an image back over which pages are applied that state these lengths: the pages that they lie over, or a copy
-    /// of the image, where a file of it gets shorter. `Err` is want of memory.
+    /// of the image, where a file of it gets shorter.
     fn of(
         alloc: Global,
         image: &Image,
@@ -81,7 +81,7 @@ impl Undo {
         Ok(Undo::Pages(lengths_of(image), Items::new(under)))
     }
 
-    /// Puts an image back. Takes no memory.
+    /// Puts an image back.
     fn put_back(self, alloc: Global, image: &mut Image)
         ensures { image.new ≡ undoing.undone self image.old }
     {
@@ -96,7 +96,7 @@ impl Undo {
     }
 }
 
-/// Puts an image back by each of these, the last one first, and forgets them. Takes no memory.
+/// Puts an image back by each of these, the last one first, and forgets them.
 pub fn put_back_all(alloc: Global, undoes: &mut Vec<Undo>, image: &mut Image)
     ensures { image.new ≡ all_undone undoes.old.items image.old }
 {
@@ -105,7 +105,7 @@ pub fn put_back_all(alloc: Global, undoes: &mut Vec<Undo>, image: &mut Image)
     }
 }
 
-/// Applies pages that can be applied. `Err` is want of memory.
+/// Applies pages that can be applied.
 fn apply_all(image: &mut Image, pages: &[NumberedPage]) -> Result<(), AllocError>
     ensures done { OnOk result (image.new ≡ applied image.old pages.now) }
     ensures kept { OnErr result (image.new ≡ image.old) }
@@ -116,7 +116,7 @@ fn apply_all(image: &mut Image, pages: &[NumberedPage]) -> Result<(), AllocError
     }
 }
 
-/// Applies the pages of a change, which state these lengths, and notes what puts the image back. `Err` is want of memory.
+/// Applies the pages of a change, which state these lengths, and notes what puts the image back.
 pub fn apply_noted(
     alloc: Global,
     undoes: &mut Vec<Undo>,

@@ -11,7 +11,7 @@ pub(crate) const MAX_FRAME_PAGES: usize = 64;
 impl Command {
     /// Whether no number of the command is out of its range. Frames have 1 to 64 pages. With `commit` the last is a sizes
     /// page, which states the page count; the others ascend. Without it all ascend, and the page count is 0. A number that
-    /// ascends is not 1 and at most 4,294,967,295. Takes no memory.
+    /// ascends is not 1 and at most 4,294,967,295.
     pub fn numbers_fit(&self) -> bool
         ensures { result ≡ numbers_fit self.now }
     {

@@ -29,7 +29,7 @@ fn kind(bytes: &[u8]) -> Result<CommandKind, CommandFault>
     }
 }
 
-/// The head, which the reader over the bytes is to pass: its type of command. Takes no memory.
+/// The head, which the reader over the bytes is to pass: its type of command.
 #[tactic(auto, unfolding(crate::specs::Reading::kind_at))]
 fn head(bytes: &[u8], words: &mut Words<'_>) -> Result<CommandKind, CommandFault>
     requires { words.old ≡ unread bytes.now }
@@ -148,8 +148,8 @@ fn whole_command(alloc: Global, bytes: &[u8]) -> Result<Command, CommandFault>
 /// Reads a command, which has to be all of the bytes. The first fault comes: `Format` where the first byte isn't 1,
 /// `Kind` where the second stands for no type, `Word` at the first item that isn't there, isn't filled up with zeros, or
 /// is a name without a NUL or not in UTF-8, then `PageSize`, `Number` and `Tail`. A name that isn't 1 to 255 bytes is
-/// `Word(Short(at))`, whatever bytes it has; no bytes, or a 1 alone, are `Word(Short(0))`. `NoMemory` is want of memory,
-/// which no fault of the first eight bytes waits for. Each page is copied once, into the command.
+/// `Word(Short(at))`, whatever bytes it has; no bytes, or a 1 alone, are `Word(Short(0))`. `NoMemory` means out of
+/// memory, which no fault of the first eight bytes waits for. Each page is copied once, into the command.
 pub fn read_command(alloc: Global, bytes: &[u8]) -> Result<Command, CommandFault>
     // What is read is what the bytes stand for.
     ensures found { IfOk result (λ command. Writes command bytes.now) }

@@ -49,7 +49,7 @@ fn frames(
 }
 
 /// Whether a page set may be split: it ends with a sizes page, and the numbers before that ascend from 2 on and are at most
-/// 4,294,967,295. Takes no memory.
+/// 4,294,967,295.
 pub fn can_split(set: &PageSet) -> bool
     ensures { result ≡ can_split set.now.pages }
 {
@@ -75,7 +75,7 @@ fn pages_can_split(pages: &[NumberedPage]) -> bool
 
 /// Cuts a page set into the commands that bring it to every node: Frames of 64 pages each but the last, in order, all of
 /// the set's transaction. Only the last one commits, and it states the page count of the image after; the others state
-/// 0. The name is that of a database, and the set may be split: `can_split` tells. Each page is copied once. `Err` is want of memory.
+/// 0. The name is that of a database, and the set may be split: `can_split` tells. Each page is copied once.
 pub fn split(alloc: Global, name: &str, set: &PageSet) -> Result<Vec<Command>, AllocError>
     requires name { IsName name.now }
     requires pages { can_split set.now.pages ≡ true }

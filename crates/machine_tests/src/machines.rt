@@ -8,7 +8,7 @@ use log_commands::{Command, can_split, split};
 use std::alloc::{AllocError, Global};
 use std::test::Fail;
 
-// A page of zeros but for its third byte.
+// A page of zeros except for its third byte.
 fn page_with(alloc: Global, third: u8) -> Result<Page, AllocError> {
     let mut bytes = Vec::new(alloc);
     bytes.resize(4096, 0)?;

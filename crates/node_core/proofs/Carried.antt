@@ -92,7 +92,7 @@ since_on event a b c xs ys x y =
       closed = y.closed ∙ ap (λ (l : List (ℕ × CloseReason)). l ++ flat_map closed_by y.moves) x.closed ∙ closed_joined first x.moves y.moves;
     }
 
--- where what is kept was counted anew before
+-- where what is kept was counted again before
 pub lines_counted : (a : Running) (replica : ReplicaValue) (event : Event) (b : Running) → BeginsLines event (record a { replica = replica }) b → LinesSince event a b []
 lines_counted a replica event b x = since_begins event a b (record { is = x.is; closed = x.closed })
 

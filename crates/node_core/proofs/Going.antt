@@ -84,7 +84,8 @@ one_more_due (x ∷ es) e a d = (a.0, one_more_due es e a.1 d)
 
 -- ---- what else may change
 
--- all that `IsGoing` speaks of but for the clients and what is due is the same
+-- all that `IsGoing` speaks of except for the clients and what is due is the
+-- same
 pub record SameRest (old new : Running) : Type 0 where
   pub replica : new.replica ≡ old.replica
   pub members : new.members ≡ old.members

@@ -1,5 +1,5 @@
--- What a turn of a node leads to, exactly: a relation of what decides before and after it, which is a function but for the answers of
--- the engine.
+-- What a turn of a node leads to, exactly: a relation of what decides before and after it, which is a function except for the answers
+-- of the engine.
 use Rattle.std.specs.Prelude.{◌≡◌, ◌⊎◌, ℕ, zero, suc, Bool, true, false, ◌&&◌, cond, nat_lt, List, [], ◌∷◌, ◌++◌, length, Option, Some, None, Result, Ok, Err}
 use Rattle.wire_msgs.specs.declared.fault.MsgFault.{MsgFault}
 use Rattle.wire_msgs.specs.declared.request.Request.{Request}

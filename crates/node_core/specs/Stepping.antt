@@ -61,8 +61,8 @@ IsOffer n event offers.Nothing = PutsNone n.replica event
 IsOffer n event (offers.Snapshot a) = Brings n.replica event a
 IsOffer n event offers.Lost = IsLostBy n event
 
--- What no step of Raft changes: the configurations of the log, what is applied but for marks, what sessions are told of servers, what is
--- due, and whether there are links.
+-- What no step of Raft changes: the configurations of the log, what is applied except for marks, what sessions are told of servers, what
+-- is due, and whether there are links.
 pub record KeepsRest (old new : Running) : Type 0 where
   pub members : new.members ≡ old.members
   pub index : new.applied.index ≡ old.applied.index

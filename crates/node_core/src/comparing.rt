@@ -15,7 +15,7 @@ fn is_same(one: &Server, other: &Server) -> bool
     one.id == other.id && one.role == other.role && one.address.as_str() == other.address.as_str()
 }
 
-/// Whether these are the same servers. Takes no memory.
+/// Whether these are the same servers.
 pub(crate) fn are_same(ones: &[Server], others: &[Server]) -> bool
     ensures is { result ≡ true → ones.now ≡ others.now }
     ensures differ { result ≡ false → ones.now ≢ others.now }

@@ -16,7 +16,8 @@ pub struct NodeSpec {
     pub links: bool,
     /// Whether readers answer queries beside it.
     pub readers: bool,
-    /// How many steps statements may take. A statement that would take more is refused with the code for want of memory.
+    /// How many steps statements may take. A statement that would take more is refused with the code because memory ran
+    /// out.
     pub steps: StepLimits,
 }
 

@@ -102,7 +102,8 @@ impl Running {
         ensures goes { (setup : Setup) (bytes : List ℕ) (joins : Option ℕ) →
             OnOk result (TurnsInTerm (E.meaning (E.kind engine.old)) (E.kind engine.old) setup bytes joins self.old self.new
             (E.told engine.old) (E.told engine.new)) }
-        // What it was decides all that follows, but for the answers to a query whose barrier it was.
+        // What it was decides all that follows, except for the answers to a query whose barrier it
+        // was.
         ensures exact { OnOk result (Answered (E.told engine.old) (E.told engine.new)
             (ExactEntry (E.meaning (E.kind engine.old)) (E.kind engine.old) (core_of self.old) (core_of self.new))) }
     {

@@ -35,7 +35,7 @@ pub(crate) enum Letter {
     Wrong(u64),
 }
 
-/// Only want of memory is a reason to give up; any other fault says that the bytes are no message.
+/// Only out of memory is a reason to give up; any other fault says that the bytes are no message.
 fn give_up_for_memory(fault: PeerFault) -> Result<(), AllocError>
     ensures { OnOk result (fault ≢ faults.NoMemory) }
 {
@@ -45,7 +45,7 @@ fn give_up_for_memory(fault: PeerFault) -> Result<(), AllocError>
     }
 }
 
-/// The message of the peer of this id to the node of another, if it is one. `Err` is want of memory.
+/// The message of the peer of this id to the node of another, if it is one.
 fn message_of(
     alloc: Global,
     message: &Message,
@@ -112,7 +112,7 @@ fn next_of(alloc: Global, links: &mut Vec<Link>, me: u64) -> Result<Option<Lette
 }
 
 impl Links {
-    /// No links. Takes no memory.
+    /// No links.
     pub(crate) fn new(alloc: Global) -> Links
         ensures { result.all.items ≡ [] }
     {

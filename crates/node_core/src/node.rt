@@ -116,7 +116,8 @@ impl Node {
             (AccountsForStop (E.meaning (E.kind engine.old)) (E.kind engine.old) (read_setup opening) self.old.running event) }
         ensures cause { StepCause (D.faults disk.old) (D.faults disk.new) result }
         ensures engine { Stays (E.kind engine.old) (E.kind engine.new) (E.refused_openings engine.old) (E.refused_openings engine.new) }
-        // What was before it decides what it leaves and says, but for the answers that the engine told.
+        // What was before it decides what it leaves and says, except for the answers that the engine
+        // told.
         ensures exact { IfOk result (λ outs. Answered (E.told engine.old) (E.told engine.new)
             (StepsExactly (E.meaning (E.kind engine.old)) (E.kind engine.old) event (core_of self.old.running) (core_of self.new.running) outs)) }
         // Its databases are those of its core.
@@ -133,7 +134,7 @@ impl Node {
         Ok(outs)
     }
 
-    /// How it stands. Takes no memory.
+    /// How it stands.
     pub fn state(&self) -> NodeState
         ensures term { result.term ≡ (raft_of self.now).term }
         ensures role { role_value result.role ≡ (raft_of self.now).role }
@@ -159,14 +160,14 @@ impl Node {
     }
 
     /// How many bytes it holds of what clients have said, and of what they are to be told, as `Clients::held` counts them; those of
-    /// connections that carry a peer's messages aren't counted. Takes no memory.
+    /// connections that carry a peer's messages aren't counted.
     pub fn held(&self) -> u64
         ensures { result ≡ all_held self.now.running.clients }
     {
         self.running.clients.held()
     }
 
-    /// The same of one client's connection; 0 where it is none. Takes no memory.
+    /// The same of one client's connection; 0 where it is none.
     pub fn held_bytes_of(&self, conn: u64) -> u64
         ensures { result ≡ held_for conn self.now.running.clients }
     {
@@ -174,7 +175,7 @@ impl Node {
     }
 
     /// What it keeps, as a load of the disk would answer it; right behind a start, what that has loaded. Entries and the snapshot
-    /// share their bytes with the node's. `Err` is want of memory.
+    /// share their bytes with the node's.
     pub fn loaded(&self) -> Result<Kept, AllocError>
         requires sound { IsSound self.now }
         requires up { IsUp self.now }

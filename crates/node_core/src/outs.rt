@@ -25,7 +25,7 @@ pub struct StepOutputs {
 }
 
 impl StepOutputs {
-    /// Nothing is said. Takes no memory.
+    /// Nothing is said.
     pub(crate) fn new(alloc: Global) -> StepOutputs
         ensures replies { result.replies.items ≡ [] }
         ensures closed { result.closed.items ≡ [] }

@@ -62,7 +62,8 @@ impl Running {
         ensures acts { (opening : List ServerValue) →
             IfOk result (λ outs. AccountsForStep (E.meaning (E.kind engine.old)) (E.kind engine.old) (read_setup opening) self.old self.new event outs
             (E.told engine.old) (E.told engine.new)) }
-        // What was before it decides what it leaves and says, but for the answers that the engine told.
+        // What was before it decides what it leaves and says, except for the answers that the engine
+        // told.
         ensures exact { IfOk result (λ outs. Answered (E.told engine.old) (E.told engine.new)
             (StepsExactly (E.meaning (E.kind engine.old)) (E.kind engine.old) event (core_of self.old) (core_of self.new) outs)) }
     {

@@ -67,8 +67,8 @@ abbrev pub AreAmong : List RaftMessage → List Letter → Type 0
 AreAmong messages letters = (k : ℕ) (m : RaftMessage) → slice_get messages k ≡ Some m → (j : ℕ) × (slice_get letters j ≡ Some (letter_of m))
 
 -- The step is events of the run. All that it says to other nodes is among the run's letters; what it says to clients is what the run
--- said, but for the refusals of messages that read as no request; and what it lends to readers is what the run has handed out. Its engine
--- told the answers that the events use.
+-- said, except for the refusals of messages that read as no request; and what it lends to readers is what the run has handed out. Its
+-- engine told the answers that the events use.
 pub record StepRuns (m : Meaning) (kind : EngineKind) (setup : Setup) (r : Run) (n : ℕ) (new : Running) (begins : List Begin) (outs : StepOutputs)
     (told_before told_now : Option Told) : Type 0 where
   pub letters : List Letter

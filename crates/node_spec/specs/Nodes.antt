@@ -61,7 +61,7 @@ pub record Stands (setup : Setup) (n : Node) (s : raft.Node) (w : Life) : Type 0
   -- the life goes with it
   pub coherent : Coherent w s
   pub serving : w.serving ≡ n.serving
-  -- sessions and databases are the life's, but for counts of commits
+  -- sessions and databases are the life's, except for counts of commits
   pub machine : IsMachine n.machine
   pub lacks : List ℕ → ℕ
   pub since : List ℕ → ℕ

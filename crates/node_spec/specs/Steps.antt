@@ -78,7 +78,8 @@ pub record TakesIn (setup : Setup) (me : ℕ) (old : Node) (s : raft.Node) (is :
   pub kept : (k : ℕ) → let a = steps (member_step setup me) s (take k is) in let b = steps (member_step setup me) s (take (suc k) is) in (a.commit ≤ b.commit) × SameUpTo a.commit a.log b.log
   -- a snapshot that comes, and is kept behind its step, is that of the log's front: the law `snapshot_fronts` gives it in every run
   pub fronts : (k : ℕ) → HasFrontOf (steps (member_step setup me) s (take (suc k) is)) (slice_get is k)
-  -- after each step up to which it was told so, it is the node of the world but for what is cut off: the law `cut_steps`
+  -- after each step up to which it was told so, it is the node of the world except for what is cut off: the law
+  -- `cut_steps`
   pub twins : (k : ℕ) → Told setup me s (take k is) → Twin (steps (member_step setup me) s (take k is)) (steps (compacted_step me) (node_of old.raft) (take k x.inputs))
 
 -- What a reader tells is what it makes of answers that the engine may give over the image at which the query was lent. So whoever
@@ -248,8 +249,8 @@ MembersKnown =
 
 -- ---- what follows
 
--- An event that ended well is an act that fits; the node goes on to stand for Raft's node and for its life; it says what they say, but
--- for what snapshots stand for; it hands to readers what the life lends, and its engine told the answers that the life uses.
+-- An event that ended well is an act that fits; the node goes on to stand for Raft's node and for its life; it says what they say,
+-- except for what snapshots stand for; it hands to readers what the life lends, and its engine told the answers that the life uses.
 pub record Moved (m : Meaning) (kind : EngineKind) (setup : Setup) (acts : List Act) (n : ℕ) (causes : List Cause) (places : List ℕ) (old new : Node) (x : Taken) (letters : List Letter) (replies : List (ℕ × Reply)) (jobs : List (ℕ × Job)) (answers : List Answer) : Type 0 where
   pub life : List Doing
   pub fit : ActsFit m kind setup first_cluster (acts ++ Moves n causes places life ∷ [])

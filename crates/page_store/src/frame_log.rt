@@ -45,7 +45,7 @@ impl Model for FrameLog {
 }
 
 impl FrameLog {
-    /// A log without frames. Takes no memory.
+    /// A log without frames.
     pub fn new(alloc: Global) -> FrameLog
         ensures { result ≡ record { pages = []; lengths = [] } }
     {
@@ -101,8 +101,8 @@ impl FrameLog {
         least_of(&self.frames, first, last)
     }
 
-    /// Adds the pages of a set, with the lengths that it states. `Err` is want of memory; the log is then unchanged.
-    /// Costs a look-up for each page, and now and then, as the frames grow, a move of all of them.
+    /// Adds the pages of a set, with the lengths that it states. `Err` means out of memory; the log is then
+    /// unchanged. Costs a look-up for each page, and now and then, as the frames grow, a move of all of them.
     pub fn append(&mut self, pages: &[NumberedPage], lengths: Lengths) -> Result<(), AllocError>
         ensures done { OnOk result (self.new ≡ extended self.old pages.now lengths) }
         ensures kept { OnErr result (self.new ≡ self.old) }
@@ -115,7 +115,7 @@ impl FrameLog {
         done
     }
 
-    /// Drops the first frames, or all where there are fewer. Costs a look-up for each. Takes no memory.
+    /// Drops the first frames, or all where there are fewer. Costs a look-up for each.
     pub fn drop_first(&mut self, count: usize)
         ensures { self.new ≡ without_first count self.old }
     {

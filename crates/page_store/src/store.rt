@@ -54,7 +54,8 @@ impl Model for PageStore {
 }
 
 impl PageStore {
-    /// A store over an image, before any commit. Takes no memory, and no byte is copied.
+    /// A store over an image, before any commit. Allocates nothing, and no byte is
+    /// copied.
     pub fn from_image(alloc: Global, image: Image) -> PageStore
         ensures { result ≡ fresh_store image }
     {
@@ -113,7 +114,7 @@ impl PageStore {
         Ok(newest)
     }
 
-    /// How many commits there were; a refused set is none. Constant cost; takes no memory.
+    /// How many commits there were; a refused set is none. Constant cost.
     pub fn newest(&self) -> u64
         ensures { result ≡ newest self.now }
     {
@@ -121,7 +122,7 @@ impl PageStore {
     }
 
     /// Pins a mark that sees all commits so far. `Full(64)` exactly where 64 marks are live; the store is then unchanged.
-    /// Constant cost; takes no memory.
+    /// Constant cost.
     pub fn pin(&mut self) -> Result<MarkId, MarkFault>
         ensures was_free { IfOk result (λ id. mark_at self.old.marks id ≡ None) }
         ensures done { IfOk result (λ id. self.new ≡ pinned self.old id) }
@@ -136,7 +137,7 @@ impl PageStore {
         self.marks.pin(count)
     }
 
-    /// Releases a mark that is live in this store; the id is spent. Constant cost; takes no memory.
+    /// Releases a mark that is live in this store; the id is spent. Constant cost.
     pub fn release(&mut self, id: MarkId)
         requires { IsLive self.old id }
         ensures done { self.new ≡ released self.old id }
@@ -148,7 +149,7 @@ impl PageStore {
     /// The page of a number in the image that a live mark shows, a last page that its file only partly fills with zeros to
     /// its end; `None` exactly where that image has no such page. Page 1 is the sizes page and always exists.
     ///
-    /// Costs a look-up and the copy of one page; takes no memory.
+    /// Costs a look-up and the copy of one page.
     pub fn page_under(&self, id: &MarkId, number: u64) -> Option<Page>
         requires { IsLive self.now id.now }
         ensures { result ≡ page_at (image_under self.now id.now) number }
@@ -160,7 +161,7 @@ impl PageStore {
     }
 
     /// The page of a number in the image with all commits, as `page_under` gives it. Costs a look-up and the copy of one
-    /// page; takes no memory.
+    /// page.
     pub fn newest_page(&self, number: u64) -> Option<Page>
         ensures { result ≡ page_at (newest_image self.now) number }
     {
@@ -170,7 +171,7 @@ impl PageStore {
         page_under(main, side, &self.log, all, number)
     }
 
-    /// How many pages the image with all commits has, the sizes page included. Constant cost; takes no memory.
+    /// How many pages the image with all commits has, the sizes page included. Constant cost.
     pub fn page_count(&self) -> u64
         ensures { result ≡ page_count (newest_image self.now) }
     {
@@ -180,7 +181,7 @@ impl PageStore {
         page_count_under(main, side, &self.log, all)
     }
 
-    /// The lengths of both files of the image with all commits, in bytes. Constant cost; takes no memory.
+    /// The lengths of both files of the image with all commits, in bytes. Constant cost.
     pub fn lengths(&self) -> Lengths
         ensures main { result.main ≡ length (newest_image self.now).main }
         ensures side { result.side ≡ length (newest_image self.now).side }
@@ -191,8 +192,7 @@ impl PageStore {
         lengths_under(main, side, &self.log, all)
     }
 
-    /// The image that a live mark shows. Copies the base, and lays the frames below the mark into the copy. `Err` is want
-    /// of memory.
+    /// The image that a live mark shows. Copies the base, and lays the frames below the mark into the copy.
     pub fn image_at(&self, id: &MarkId) -> Result<Image, AllocError>
         requires { IsLive self.now id.now }
         ensures { IfOk result (λ image. image ≡ image_under self.now id.now) }
@@ -204,7 +204,7 @@ impl PageStore {
     }
 
     /// The image with all commits. Copies the image that is kept whole, and where none is, copies the base and lays all
-    /// frames into the copy. `Err` is want of memory.
+    /// frames into the copy.
     pub fn newest_image(&self) -> Result<Image, AllocError>
         ensures { IfOk result (λ image. image ≡ newest_image self.now) }
     {
@@ -218,7 +218,7 @@ impl PageStore {
     }
 
     /// A share of the newest image: of the one that is kept whole, which costs nothing, and else of a fresh copy, as
-    /// `newest_image` makes it. Whoever holds it keeps that image, whatever is committed later. `Err` is want of memory.
+    /// `newest_image` makes it. Whoever holds it keeps that image, whatever is committed later.
     pub fn newest_shared(&self) -> Result<Arc<Image, Global>, AllocError>
         ensures { IfOk result (λ shared. arc_value shared ≡ newest_image self.now) }
     {
@@ -240,7 +240,7 @@ impl PageStore {
     /// which is the number of pages of the sets that moved. Every live mark shows what it showed before.
     ///
     /// Costs a look-up and the copy of a page for each frame that moves, and the bytes by which the files grow. The base
-    /// has the room already; takes no memory and can't fail.
+    /// has the room already; allocates nothing and can't fail.
     pub fn checkpoint(&mut self) -> u64
         ensures done { self.new ≡ checkpointed self.old }
         ensures moved { result ≡ pages_to_move self.old }

@@ -7,7 +7,7 @@ use session_outcomes::{Read, ReadJob, run_job};
 use sql_engine::Engine;
 use std::alloc::{AllocError, Global};
 
-/// What is told of a query, which goes back to the node exactly where memory ran out. Takes no memory.
+/// What is told of a query, which goes back to the node exactly where memory ran out.
 fn or_back(told: Result<Read, AllocError>) -> Read
     ensures { MatchResult told (λ read. result ≡ read) (λ _. result ≡ reads.GivenBack) }
 {

@@ -43,7 +43,7 @@ step_is h (events.Transfer to) r = refl
 step_is h (events.Snapped end) r = refl
 step_is h (events.Servers servers) r = absurd r
 
--- but for other servers
+-- except for other servers
 pub servers_step_is : (h : NodeValue) (servers : List rules.Server) → compacted_step h.id (node_of h) (rules.Local (rules.UseServers servers)) ≡ compact_outcome (serve h.id (on_servers h.id (node_of h) servers))
 unfolding compacted_step raft_step
 servers_step_is h servers = refl

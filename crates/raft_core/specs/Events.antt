@@ -35,7 +35,7 @@ abbrev pub EventFits : NodeValue → RaftEvent → Type 0
 EventFits h (events.Servers servers) = IsConfiguration servers × (h.role ≡ rules.Candidate → rules.voters servers ≡ rules.voters h.servers)
 EventFits h event = Unit {0}
 
--- the rule of an event, but for other servers
+-- the rule of an event, except for other servers
 abbrev pub rule_at : NodeValue → RaftEvent → rules.Outcome
 rule_at h events.Timeout = start_election (told h) h.id (node_of h)
 rule_at h events.Beat = on_beat (node_of h)

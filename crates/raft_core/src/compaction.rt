@@ -109,7 +109,8 @@ impl RaftNode {
         }
     }
 
-    // A snapshot was kept at an applied index: the log is cut off behind it, but for the last entries.
+    // A snapshot was kept at an applied index: the log is cut off behind it, except for the last
+    // entries.
     fn compact(&mut self, index: u64)
         requires newer { self.old.snapshot.index < index }
         requires applied { index ≤ self.old.commit }

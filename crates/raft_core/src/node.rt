@@ -145,7 +145,7 @@ impl RaftNode {
         let _ = &self.votes;
     }
 
-    /// The index after the last one. One that is too great is want of memory.
+    /// The index after the last one. One that is too great means out of memory.
     #[tactic(auto, using(raft_spec::proofs::NodeValues::whole_length))]
     pub(crate) fn next_index(&self) -> Result<u64, AllocError>
         ensures next { IfOk result (λ next. next ≡ suc (length (node_of self.now).log)) }
@@ -166,7 +166,7 @@ impl RaftNode {
         contains(self.voters(), self.id())
     }
 
-    /// The index after the cut. One that is too great is want of memory.
+    /// The index after the cut. One that is too great means out of memory.
     pub(crate) fn first_index(&self) -> Result<u64, AllocError>
         ensures { IfOk result (λ first. first ≡ suc self.now.base) }
     {

@@ -15,7 +15,7 @@ pub enum RaftRole {
 }
 
 impl RaftRole {
-    /// Whether it leads. Takes no memory.
+    /// Whether it leads.
     pub fn leads(self) -> bool
         ensures { result ≡ is_leader (role_value self) }
     {
@@ -25,7 +25,7 @@ impl RaftRole {
         }
     }
 
-    /// Whether it stands for election. Takes no memory.
+    /// Whether it stands for election.
     pub fn stands(self) -> bool
         ensures { result ≡ is_candidate (role_value self) }
     {

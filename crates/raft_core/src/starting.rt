@@ -59,7 +59,7 @@ fn progress_of(own: u64, voters: &[u64], peers: &[u64]) -> Progress
 
 impl RaftNode {
     /// The node of this id that starts with what its owner has kept: a follower that has applied its snapshot alone, with
-    /// these servers. The kept entries are moved into it. `Err` is want of memory.
+    /// these servers. The kept entries are moved into it.
     ///
     /// Conditions: the servers may stand together; the log begins at 1 or later, at most one past the snapshot's end, and
     /// reaches at least that far.

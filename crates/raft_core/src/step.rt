@@ -63,7 +63,7 @@ fn offered(event: &RaftEvent) -> Result<Option<Snapshot>, AllocError>
 }
 
 impl RaftNode {
-    // The rule of an event, but for other servers.
+    // The rule of an event, except for other servers.
     fn apply(&mut self, alloc: Global, event: RaftEvent) -> Result<Effects, AllocError>
         requires { IsRuled event }
         ensures outcome { IfOk result (λ effects. Ends self.old (rule_at self.old event) self.new effects) }
@@ -230,9 +230,9 @@ impl RaftNode {
     }
 
     /// One step of the node: the rules' step of the node that it stands for. Answers what is to be kept, then sent, and
-    /// up to which index to apply. It takes the event, and copies no bytes of an entry or a snapshot. `Err` is want of
+    /// up to which index to apply. It takes the event, and copies no bytes of an entry or a snapshot. `Err` means out of
     /// memory, or an index past 64 bits would be needed; then nothing of the step is to be kept or sent, and the node is
-    /// to be made anew from what its owner has kept.
+    /// to be made again from what its owner has kept.
     ///
     /// A condition on `Servers`: they may stand together, and a candidate is told the voters that it has.
     pub fn step(&mut self, alloc: Global, event: RaftEvent) -> Result<Todo, AllocError>

@@ -60,7 +60,7 @@ fn first_index(after: u64, from: Option<usize>) -> Option<u64>
 }
 
 impl Log {
-    /// A log without entries past the cut. Takes no memory.
+    /// A log without entries past the cut.
     pub fn new(alloc: Global, first: LogEnd) -> Log
         ensures { result ≡ record { first = first; entries = [] } }
     {
@@ -70,14 +70,15 @@ impl Log {
         }
     }
 
-    /// The place after which the entries stand. Takes no memory and constant time.
+    /// The place after which the entries stand. Allocates nothing and constant
+    /// time.
     pub fn first(&self) -> LogEnd
         ensures { result ≡ self.now.first }
     {
         self.first
     }
 
-    /// The last index. Takes no memory and constant time.
+    /// The last index. Allocates nothing and constant time.
     #[tactic(auto, using(crate::proofs::Places::whole_count))]
     pub fn last_index(&self) -> u64
         ensures { result ≡ length (whole_log self.now) }
@@ -122,7 +123,7 @@ impl Log {
         self.entry_term((index - cut - 1) as usize)
     }
 
-    /// Where the log ends. Takes no memory and constant time.
+    /// Where the log ends. Allocates nothing and constant time.
     #[tactic(auto, unfolding(raft_spec::specs::Log::log_end))]
     pub fn end(&self) -> LogEnd
         ensures { result ≡ log_end (whole_log self.now) }
@@ -134,7 +135,8 @@ impl Log {
         }
     }
 
-    /// The term at an index, where it is known: at the cut, and at each entry past it. Takes no memory and constant time.
+    /// The term at an index, where it is known: at the cut, and at each entry past it. Allocates nothing and constant
+    /// time.
     pub fn term_at(&self, index: u64) -> Option<u64>
         ensures { result ≡ known_term self.now index }
     {
@@ -144,8 +146,8 @@ impl Log {
         Some(self.whole_term(index))
     }
 
-    /// Whether the log has this place: it isn't before the cut, and the term at the index is known and the same. Takes no
-    /// memory and constant time.
+    /// Whether the log has this place: it isn't before the cut, and the term at the index is known and the same.
+    /// Allocates nothing and constant time.
     #[tactic(auto, unfolding(raft_spec::specs::Log::matches))]
     pub fn matches(&self, index: u64, term: u64) -> bool
         ensures { result ≡ meets self.now (record { index = index; term = term }) }
@@ -153,7 +155,8 @@ impl Log {
         self.term_at(index) == Some(term)
     }
 
-    /// The entry at an index, if it stands past the cut. Takes no memory and constant time.
+    /// The entry at an index, if it stands past the cut. Allocates nothing and constant
+    /// time.
     pub fn entry(&self, index: u64) -> Option<&Entry>
         ensures some { IsSome result ↔ (self.now.first.index < index) × (index ≤ length (whole_log self.now)) }
         ensures entry { IfSome result (λ e. e.now ≡ slice_index_or self.now.entries (index - self.now.first.index - 1) e.now) }
@@ -218,7 +221,7 @@ impl Log {
     }
 
     /// Whether the entries of an Append, which follow the index `prev`, would replace one at or below the index `through`.
-    /// Takes no memory; the cost is in the order of the entries that come.
+    /// Allocates nothing; the cost is in the order of the entries that come.
     #[tactic(auto, unfolding(raft_spec::specs::Log::first_replaced), using(crate::proofs::Places::whole_count, crate::proofs::Taking::rest))]
     pub fn replaces(&self, prev: u64, coming: &[Entry], through: u64) -> bool
         requires low { self.now.first.index ≤ prev }
@@ -242,8 +245,8 @@ impl Log {
         Ok(())
     }
 
-    /// The entries that stand past an index, the cut or a later one, lent; none past the last index. Takes no memory and
-    /// constant time.
+    /// The entries that stand past an index, the cut or a later one, lent; none past the last index. Allocates nothing
+    /// and constant time.
     pub fn tail(&self, after: u64) -> &[Entry]
         ensures { result.now ≡ drop (after - self.now.first.index) self.now.entries }
     {
@@ -253,7 +256,7 @@ impl Log {
     }
 
     /// The entries that stand past an index, the cut or a later one, and no more than so many of them, for one more
-    /// owner. `Err` is want of memory. The cost is in the order of how many they are; none of their bytes is copied.
+    /// owner. The cost is in the order of how many they are; none of their bytes is copied.
     pub fn copied(&self, alloc: Global, after: u64, most: usize) -> Result<Entries, AllocError>
         ensures { IfOk result (λ copy. copy ≡ take most (drop (after - self.now.first.index) self.now.entries)) }
     {
@@ -263,7 +266,7 @@ impl Log {
     }
 
     /// Cuts off the entries up to an index. At or below the cut nothing changes; past the last index all go, and the log is
-    /// cut off there. Takes no memory. The cost is in the order of the entries, those that stay too.
+    /// cut off there. The cost is in the order of the entries, those that stay too.
     pub fn cut_to(&mut self, index: u64)
         ensures { self.new ≡ cut_at self.old index }
     {

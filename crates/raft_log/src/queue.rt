@@ -6,7 +6,8 @@ ghost use Rattle.raft_log.specs.Agreeing.{has_term, agreeing_front, TakesIn};
 use raft_messages::{Entries, Entry};
 use std::alloc::{AllocError, Global};
 
-/// The index that so many entries after an index have the last of. An index that is too great is want of memory.
+/// The index that so many entries after an index have the last of. An index that is too great means out of
+/// memory.
 pub fn index_after(index: u64, count: usize) -> Result<u64, AllocError>
     ensures sum { IfOk result (λ last. last ≡ index + count) }
     ensures fits { IfOk result (λ last. last ≤ 18446744073709551615) }

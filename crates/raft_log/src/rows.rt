@@ -185,7 +185,8 @@ impl PeerRows {
         }
     }
 
-    // Adds the peers of these ids, but for the own one. Those that had a row keep it.
+    // Adds the peers of these ids, except for the own one. Those that had a row keep
+    // it.
     fn add(&mut self, ids: &[u64], own: u64, next: u64, old: &PeerRows)
         requires { length self.old + length ids.now ≤ 9 }
         ensures rows { self.new ≡ self.old ++ rows_for (others ids.now own) next old.now }
@@ -205,7 +206,8 @@ impl PeerRows {
     }
 }
 
-/// The rows of the peers of a leader, but for the own id: those that had a row keep it.
+/// The rows of the peers of a leader, except for the own id: those that had a row keep
+/// it.
 pub fn rows_of(peers: &[u64], own: u64, next: u64, old: &PeerRows) -> PeerRows
     requires { length peers.now ≤ 9 }
     ensures { result ≡ rows_for (others peers.now own) next old.now }

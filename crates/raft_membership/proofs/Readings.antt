@@ -9,7 +9,7 @@ use Rattle.raft_safety.specs.Members.{is_change, reads, servers_read, changes}
 use Rattle.raft_membership.specs.Members.{Configurations, configuration_in, with_read, changed, read_setup, IsOf}
 use Rattle.raft_membership.proofs.WholeLogs.{is_pushed, others_stay}
 
--- what no want of memory ended is no configuration
+-- what no out of memory ended is no configuration
 pub nothing_reads : (bytes : List ℕ) (fault : ServersFault) → fault ≢ NoMemory → ServersFail fault (servers_of bytes) → None ≡ configuration_of bytes
 nothing_reads bytes fault n h = ap (whole_servers bytes) (sym (is_fault fault n (servers_of bytes) h))
   where

@@ -7,7 +7,7 @@ ghost use Rattle.raft_membership.specs.Members.{configuration_in};
 use raft_messages::{Entry, EntryKind, Servers, ServersFault, read_servers};
 use std::alloc::{AllocError, Global};
 
-/// Only want of memory is a reason to give up; any other fault says that the bytes are no configuration.
+/// Only out of memory is a reason to give up; any other fault says that the bytes are no configuration.
 fn give_up_for_memory(fault: ServersFault) -> Result<(), AllocError>
     ensures only { IsErr result → fault ≡ NoMemory }
     ensures goes_on { OnOk result (fault ≢ NoMemory) }
@@ -56,7 +56,7 @@ pub(crate) fn standing_change(alloc: Global, entry: &Entry) -> Result<Option<Ser
 }
 
 /// The configuration that an entry changes to, if any: it is a change, and its bytes are a configuration and end with the
-/// last server. What reads may stand. Reads the entry once. `Err` is want of memory.
+/// last server. What reads may stand. Reads the entry once.
 pub fn change_in(alloc: Global, entry: &Entry) -> Result<Option<Servers>, AllocError>
     ensures is { IfOk result (λ read. read ≡ configuration_in entry.now) }
     ensures stands { IfOk result (λ read. MatchOption read (Unit {0}) IsConfiguration) }

@@ -12,7 +12,7 @@ fn either(one: bool, other: bool) -> bool
     one || other
 }
 
-// The index after one. One past 64 bits is want of memory.
+// The index after one. One past 64 bits means out of memory.
 fn index_after(index: u64) -> Result<u64, AllocError>
     ensures { IfOk result (λ next. next ≡ suc index) }
 {
@@ -43,7 +43,7 @@ fn join(
 
 impl Members {
     /// These entries join the log, the first one at an index past the last change's. True where one of them is a change that
-    /// reads: else all stays. Reads each entry once. `Err` is want of memory, or an index past 64 bits; some of them have
+    /// reads: else all stays. Reads each entry once. `Err` means out of memory, or an index past 64 bits; some of them have
     /// joined then.
     pub fn take_all(
         &mut self,

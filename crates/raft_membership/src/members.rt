@@ -50,7 +50,7 @@ fn below_count(changes: &[Change], index: u64) -> usize
 }
 
 impl Members {
-    /// Those of a log that ends at this index, whose configuration is this one. Takes no memory.
+    /// Those of a log that ends at this index, whose configuration is this one.
     pub fn new(alloc: Global, servers: Servers, at: u64) -> Members
         ensures value { result ≡ first_of servers at }
         ensures stand { IsConfiguration servers → AllStand result }
@@ -63,8 +63,8 @@ impl Members {
         }
     }
 
-    /// A change joins the log at an index past the last one. `Err` is want of memory; all stays then. Constant cost, but
-    /// for a `Vec` that grows.
+    /// A change joins the log at an index past the last one. `Err` means out of memory; all stays then. Constant cost,
+    /// except for a `Vec` that grows.
     pub fn push(&mut self, index: u64, servers: Servers) -> Result<(), AllocError>
         requires { last_index self.old < index }
         ensures pushed { OnOk result (self.new ≡ with_change self.old index servers) }
@@ -78,7 +78,7 @@ impl Members {
     }
 
     /// An entry joins the log at an index past the last one; true where it is a change that reads, which is pushed. `Err`
-    /// is want of memory; all stays then. Reads the entry once.
+    /// means out of memory; all stays then. Reads the entry once.
     pub fn take_in(&mut self, alloc: Global, index: u64, entry: &Entry) -> Result<bool, AllocError>
         requires { last_index self.old < index }
         ensures told { IfOk result (λ told. told ≡ changes (read_setup []) entry.now) }
@@ -96,7 +96,7 @@ impl Members {
     }
 
     /// The log is cut: entries at an index or past it are gone, and with them their changes. True where there were any.
-    /// The index is past the one that the log is applied up to. Looks at each change once; takes no memory.
+    /// The index is past the one that the log is applied up to. Looks at each change once.
     pub fn cut_from(&mut self, index: u64) -> bool
         requires { self.old.at < index }
         ensures cut { self.new ≡ cut_at self.old index }
@@ -125,7 +125,7 @@ impl Members {
     }
 
     /// The log is applied up to an index, which never falls: the last configuration at or below it, and those past it,
-    /// stay. The cost is in the order of the square of the number of changes; takes no memory.
+    /// stay. The cost is in the order of the square of the number of changes.
     pub fn settle(&mut self, applied: u64)
         requires { self.old.at ≤ applied }
         ensures settled { self.new ≡ settled self.old applied }
@@ -137,7 +137,7 @@ impl Members {
     }
 
     /// The configuration that counts for votes and commits: that of the last change that reads in the whole log, else the
-    /// opening one. A node that is told it was told the voters that its log gives. Constant cost; takes no memory.
+    /// opening one. A node that is told it was told the voters that its log gives. Constant cost.
     pub fn current(&self) -> &[Server]
         ensures value { result.now ≡ last_servers self.now }
         ensures stands { AllStand self.now → IsConfiguration result.now }
@@ -150,15 +150,14 @@ impl Members {
         }
     }
 
-    /// The index up to which the log is applied. Constant cost; takes no memory.
+    /// The index up to which the log is applied. Constant cost.
     pub fn applied_index(&self) -> u64
         ensures { result ≡ self.now.at }
     {
         self.at
     }
 
-    /// The index of the last change; the one up to which the log is applied, where no change stands after it. Constant cost;
-    /// takes no memory.
+    /// The index of the last change; the one up to which the log is applied, where no change stands after it. Constant cost.
     pub fn last_index(&self) -> u64
         ensures { result ≡ last_index self.now }
     {
@@ -168,7 +167,7 @@ impl Members {
         }
     }
 
-    /// The configuration at the index up to which the log is applied. Constant cost; takes no memory.
+    /// The configuration at the index up to which the log is applied. Constant cost.
     pub fn applied(&self) -> &[Server]
         ensures value { result.now ≡ self.now.servers }
         ensures stands { AllStand self.now → IsConfiguration result.now }

@@ -128,8 +128,8 @@ fn begun_servers(alloc: Global, bytes: &[u8]) -> Result<(Servers, u64), ServersF
 /// and of each its id in a word, its address as a text, and its role in a word. The fault of the first faulty server
 /// comes, and of one server the first of these: `Word` at an item that isn't there; `Order` at an id that is 0 or isn't
 /// above the one before; `Role` at a role that isn't 0 to 2; `Limit`, with the place of the id, at the tenth server, the
-/// eighth voter, or an address of more than 255 bytes. Bytes follow wherever the place isn't their end. `NoMemory` is want
-/// of memory.
+/// eighth voter, or an address of more than 255 bytes. Bytes follow wherever the place isn't their end. `NoMemory` means
+/// out of memory.
 pub fn read_servers(alloc: Global, bytes: &[u8]) -> Result<(Servers, u64), ServersFault>
     // What is read is what the bytes up to the place spell.
     ensures found { IfOk result (λ read. WritesServers read.0 (take read.1 bytes.now)) }
@@ -174,7 +174,7 @@ fn put_configuration(out: &mut Writer, servers: &[Server]) -> Result<(), AllocEr
 }
 
 /// Writes a configuration: its ids ascend from at least 1, no address holds a NUL or has more than 255 bytes, and there
-/// are at most 9 servers with at most 7 voters. `Err` is want of memory.
+/// are at most 9 servers with at most 7 voters.
 pub fn write_servers(alloc: Global, servers: &[Server]) -> Result<WireBytes, AllocError>
     requires { IsConfiguration servers.now }
     // What is written spells the configuration.

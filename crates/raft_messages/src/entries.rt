@@ -48,8 +48,8 @@ fn head(words: &mut Words<'_>) -> Result<EntryHead, WordFault>
 
 /// Reads so many heads of entries: for each the term in a word, and in the next word the kind's number in one byte,
 /// three zeros, and the number of bytes. The first fault comes: `Short`; in a head's second word `BadCode` where the
-/// number stands for no kind, then `Pad` where one of the three isn't zero. `NoMemory` is want of memory for the heads
-/// that are there.
+/// number stands for no kind, then `Pad` where one of the three isn't zero. `NoMemory` means out of memory for the
+/// heads that are there.
 pub fn read_entry_heads(
     alloc: Global,
     words: &mut Words<'_>,
@@ -79,8 +79,8 @@ fn entry(alloc: Global, words: &mut Words<'_>, head: &EntryHead) -> Result<Entry
 }
 
 /// Reads the entries of these heads: for each its bytes and zeros that fill them up to a whole word. The first fault
-/// comes: `Short`, then `Pad` where a byte in place of a zero isn't one. `NoMemory` is want of memory. Each byte is copied
-/// once, into its entry.
+/// comes: `Short`, then `Pad` where a byte in place of a zero isn't one. `NoMemory` means out of memory. Each byte is
+/// copied once, into its entry.
 pub fn read_entry_contents(
     alloc: Global,
     words: &mut Words<'_>,
@@ -126,7 +126,7 @@ fn write_head(out: &mut Writer, entry: &Entry) -> Result<(), AllocError>
 }
 
 /// Writes the heads of the entries. An entry of more than 4,294,967,295 bytes is answered as if memory had run out; any
-/// other `Err` is want of memory.
+/// other `Err` means out of memory.
 pub fn write_entry_heads(out: &mut Writer, entries: &[Entry]) -> Result<(), AllocError>
     ensures bytes { OnOk result (out.new ≡ out.old ++ heads_bytes entries.now) }
     ensures fit { OnOk result (HaveHeads entries.now) }
@@ -143,7 +143,7 @@ fn write_content(out: &mut Writer, entry: &Entry) -> Result<(), AllocError>
     out.raw(entry.bytes.as_slice())
 }
 
-/// Writes what the entries say, each with zeros to a whole word. `Err` is want of memory.
+/// Writes what the entries say, each with zeros to a whole word.
 pub fn write_entry_contents(out: &mut Writer, entries: &[Entry]) -> Result<(), AllocError>
     ensures { OnOk result (out.new ≡ out.old ++ contents_bytes entries.now) }
 {

@@ -64,7 +64,7 @@ fn what_fits(what: &MessageBody) -> bool
 
 impl RaftMessage {
     /// Whether no number of the message is out of range: terms and indexes are at most 4,294,967,295, and there are at
-    /// most 16 entries. Takes no memory.
+    /// most 16 entries.
     pub fn numbers_fit(&self) -> bool
         ensures { result ≡ numbers_fit self.now }
     {

@@ -41,7 +41,7 @@ fn whole_message(
 /// Reads a message of a peer to the node `to`. The first fault comes: `Kind` where no message has this type or the schema
 /// isn't 0; `Word` at the first item that isn't there, an entry's kind that isn't 1 to 3 being `BadCode`; `Range` where a
 /// term or an index is above 4,294,967,295, a flag above 1, or there are more than 16 entries; `Tail` where bytes follow.
-/// `NoMemory` is want of memory. The bytes of entries and of a snapshot are copied once, into the message.
+/// `NoMemory` means out of memory. The bytes of entries and of a snapshot are copied once, into the message.
 pub fn read_message(alloc: Global, message: &Message, to: u64) -> Result<RaftMessage, PeerFault>
     // What is read is what the message stands for, to this node.
     ensures found { IfOk result (λ peer. Reads message.now peer × (peer.to ≡ to)) }

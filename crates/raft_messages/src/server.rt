@@ -19,7 +19,7 @@ pub enum ServerRole {
 }
 
 impl ServerRole {
-    /// The number that stands for the role. Takes no memory.
+    /// The number that stands for the role.
     pub fn number(self) -> u64
         ensures { result ≡ role_number self }
     {
@@ -30,7 +30,7 @@ impl ServerRole {
         }
     }
 
-    /// Whether a server of this role votes. Takes no memory.
+    /// Whether a server of this role votes.
     pub fn votes(self) -> bool
         ensures { result ≡ (role_number self == 0) }
     {
@@ -40,7 +40,7 @@ impl ServerRole {
         }
     }
 
-    /// The role that a number stands for, if any. Takes no memory.
+    /// The role that a number stands for, if any.
     pub fn with_number(number: u64) -> Option<ServerRole>
         ensures role { result ≡ role_with number }
         ensures number { MatchOption result (nat_le number 2 ≡ false) (λ role. (role_number role ≡ number) × (nat_le number 2 ≡ true)) }
@@ -79,7 +79,7 @@ impl Model for Server {
 pub type Servers = Items<Server>;
 
 impl Server {
-    /// Whether it votes. Takes no memory.
+    /// Whether it votes.
     pub fn votes(&self) -> bool
         ensures { result ≡ (self.now.role == 0) }
     {

@@ -22,7 +22,8 @@ impl Model for SharedBytes {
 }
 
 impl SharedBytes {
-    /// Takes the bytes, with one owner. They aren't copied. `Err` is want of memory for the count.
+    /// Takes the bytes, with one owner. They aren't copied. `Err` means out of memory for the
+    /// count.
     pub fn new(alloc: Global, bytes: WireBytes) -> Result<SharedBytes, AllocError>
         ensures { IfOk result (λ shared. shared ≡ bytes) }
     {

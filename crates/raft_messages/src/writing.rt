@@ -115,7 +115,7 @@ fn put_message(out: &mut Writer, message: &RaftMessage) -> Result<(), AllocError
     put_what(out, &message.what)
 }
 
-/// The bytes of a message but for entries and a snapshot, at most.
+/// The bytes of a message except for entries and a snapshot, at most.
 const REST: usize = 64;
 
 /// The bytes of an entry's head and of what fills the entry up, at most.
@@ -151,7 +151,7 @@ fn whole_message(alloc: Global, message: &RaftMessage) -> Result<WireBytes, Allo
 }
 
 /// Writes a whole message of a peer, its header and its body. An entry of more than 4,294,967,295 bytes, and a body of
-/// more than 4,294,967,295 words, are answered as if memory had run out; any other `Err` is want of memory. A message
+/// more than 4,294,967,295 words, are answered as if memory had run out; any other `Err` means out of memory. A message
 /// with a number out of range (`RaftMessage::numbers_fit`) has no spelling, and `read_message` refuses what is written of
 /// it.
 pub fn write_message(alloc: Global, message: &RaftMessage) -> Result<WireBytes, AllocError>

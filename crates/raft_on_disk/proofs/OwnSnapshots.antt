@@ -31,7 +31,8 @@ use Rattle.raft_on_disk.proofs.KeptLogs.{drop_length, drop_drop, kept_behind, pu
 
 -- ---- the step
 
--- the node that has an own snapshot at an index, but for its commit index and what it knows of its peers
+-- the node that has an own snapshot at an index, except for its commit index and what it knows of its
+-- peers
 record Owns (s : Node) (i : ℕ) (u : Node) : Type 0 where
   term : u.term ≡ s.term
   vote : u.vote ≡ s.vote

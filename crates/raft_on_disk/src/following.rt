@@ -25,8 +25,8 @@ impl Replica {
     /// gone, and those that stand there now join. Where the answer is false the configurations are those that they were;
     /// where it is true, a node that doesn't lead tells its Raft the current one.
     ///
-    /// Reads each entry from there on once. `Err` is want of memory; the configurations are to be dropped then, with the
-    /// replica.
+    /// Reads each entry from there on once. `Err` means out of memory; the configurations are to be dropped then, with
+    /// the replica.
     pub fn follow(&self, members: &mut Members, first: u64) -> Result<bool, AllocError>
         requires cut { self.now.raft.base < first }
         requires past { members.old.at < first }
@@ -46,7 +46,8 @@ impl Replica {
     }
 
     /// The configurations of the whole log of a replica that has applied its snapshot alone, as one that starts, or one
-    /// to which a snapshot has come. These servers are the snapshot's. `Err` is want of memory, or an index past 64 bits.
+    /// to which a snapshot has come. These servers are the snapshot's. `Err` means out of memory, or an index past 64
+    /// bits.
     pub fn members(&self, servers: Servers) -> Result<Members, AllocError>
         requires { IsWhole self.now }
         ensures is { (opening : List ServerValue) (front : List EntryValue) → length front ≡ self.now.snap.index →

@@ -35,7 +35,7 @@ fn shared(snapshot: &Snapshot) -> Result<Option<Snapshot>, AllocError>
 
 impl Replica {
     /// What it keeps, as a load of the disk would answer it; right behind a start, what that load has answered. Entries and
-    /// snapshot share their bytes with the replica's, so that none is copied. `Err` is want of memory.
+    /// snapshot share their bytes with the replica's, so that none is copied.
     pub fn kept(&self) -> Result<Kept, AllocError>
         requires { IsWhole self.now }
         ensures { IfOk result (λ kept. kept ≡ kept_of self.now) }

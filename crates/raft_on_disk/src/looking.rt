@@ -62,7 +62,7 @@ impl Replica {
     /// Whether a step of this message would put the snapshot that it brings in the place of entries. Only then are the
     /// snapshot's bytes read: a node that can't read them drops the message, and then nothing changes, not even the term.
     /// An Install that ends at or below the commit index is taken, and acked, without its bytes being read. Looks at no
-    /// byte and takes no memory.
+    /// byte and allocates nothing.
     #[tactic(auto, using(crate::proofs::Looks::none_puts, crate::proofs::Looks::some_puts))]
     pub fn takes_snapshot(&self, message: &RaftMessage) -> bool
         requires { IsWhole self.now }

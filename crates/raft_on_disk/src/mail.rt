@@ -54,7 +54,7 @@ fn keep_others(logs: &mut Vec<RaftMessage>, to: u64)
     logs.retain(|message| message.to != to);
 }
 
-// Puts a message at its place. `Err` is want of memory.
+// Puts a message at its place.
 fn place(logs: &mut Vec<RaftMessage>, message: RaftMessage) -> Result<(), AllocError>
     ensures { OnOk result (logs.new.items ≡ placed message logs.old.items) }
 {
@@ -64,7 +64,7 @@ fn place(logs: &mut Vec<RaftMessage>, message: RaftMessage) -> Result<(), AllocE
 }
 
 impl Outgoing {
-    /// A mail without a message. Takes no memory.
+    /// A mail without a message.
     pub fn new(alloc: Global) -> Outgoing
         ensures { result ≡ no_mail }
     {
@@ -88,7 +88,7 @@ impl Outgoing {
     }
 
     /// The messages of one more step, in their order. An Append or Install takes the place of an earlier one to its peer.
-    /// `Err` is want of memory; the mail has some of them then, and is to be dropped.
+    /// `Err` means out of memory; the mail has some of them then, and is to be dropped.
     pub fn post_all(&mut self, messages: Vec<RaftMessage>) -> Result<(), AllocError>
         ensures { OnOk result (self.new ≡ all_posted self.old messages.items) }
     {
@@ -98,8 +98,7 @@ impl Outgoing {
         Ok(())
     }
 
-    /// What is sent: first the others as they were made, then Appends and Installs, ascending by peer. `Err` is want of
-    /// memory.
+    /// What is sent: first the others as they were made, then Appends and Installs, ascending by peer.
     pub fn into_messages(self) -> Result<Vec<RaftMessage>, AllocError>
         ensures { IfOk result (λ messages. messages.items ≡ sent self) }
     {

@@ -23,7 +23,7 @@ pub(crate) struct RaftStorage {
     pub(crate) keeps: u64,
 }
 
-// The number after one. One past 64 bits is want of memory.
+// The number after one. One past 64 bits means out of memory.
 pub(crate) fn one_more(number: u64) -> Result<u64, AllocError>
     ensures { IfOk result (λ next. next ≡ suc number) }
 {

@@ -84,7 +84,7 @@ fn held(alloc: Global, snapshot: Option<Snapshot>) -> Result<Snapshot, AllocErro
 
 impl Replica {
     /// Starts over what a load of the disk has answered: a follower that has applied its snapshot alone, and was told these
-    /// servers, which are those of its log. All that is kept is moved into it. `Err` is want of memory.
+    /// servers, which are those of its log. All that is kept is moved into it.
     ///
     /// Conditions: the servers may stand together; what was kept is what a load answers.
     pub fn start(

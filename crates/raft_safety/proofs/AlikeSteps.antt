@@ -167,7 +167,8 @@ finish_alike {voters_of} {ids} me d e sh a =
     subst (λ n. Alike voters_of ids (finish voters_of me d) (finish (always ids) me (record { node = n; out = e.out; recipients = e.recipients }))) (sym a.node)
     (subst (λ p. Alike voters_of ids (finish voters_of me d) (finish (always ids) me (record { node = with_whole_log d.node a.log; out = e.out; recipients = p }))) (sym a.recipients) (finish_at me d.node a.log d.out e.out d.recipients a.sees sh a.same a.out))
 
--- what is known of two steps: the same node but for what is cut off, and the same messages
+-- what is known of two steps: the same node except for what is cut off, and the same
+-- messages
 pub record AlikeStep (d e : Outcome) : Type 0 where
   pub log : List Entry
   pub node : e.node ≡ with_whole_log d.node log

@@ -14,7 +14,7 @@ pub record Same (b i : ℕ) (xs ys : List Entry) : Type 0 where
   pub rest : drop b xs ≡ drop b ys
   pub snapshot : term_at xs i ≡ term_at ys i
 
--- a node, and one that is the same but for the entries that are cut off
+-- a node, and one that is the same except for the entries that are cut off
 pub record Twin (s v : Node) : Type 0 where
   pub log : List Entry
   pub node : v ≡ with_whole_log s log
@@ -70,7 +70,8 @@ Told setup n s (i ∷ is) = (may_take setup s i ≡ true) × ToldAt setup s i ×
 abbrev pub ForgetsNothing : Type 0
 ForgetsNothing = (setup : Setup) (events : List Event) (n : ℕ) → Twin ((run setup events).nodes n) (compact ((run setup events).nodes n))
 
--- the steps of an event at a node and at its twin leave twins, and say the same but for what snapshots stand for
+-- the steps of an event at a node and at its twin leave twins, and say the same except for what snapshots stand
+-- for
 abbrev pub CutSteps : Type 0
 CutSteps =
     (setup : Setup) (events : List Event) (n : ℕ) (causes : List Cause) (v : Node) (js : List Input) → Twin ((run setup events).nodes n) v →

@@ -51,7 +51,8 @@ applies index (suc n) = Apply (suc index) ∷ applies (suc index) n
 abbrev pub applying : Node → Node → List Act
 applying s t = cond (nat_lt s.commit t.snapshot.index) (Restore t.commit ∷ []) (applies s.commit (t.commit - s.commit))
 
--- The acts of one step, but for its messages: metadata, then batch or snapshot, then what is applied. To keep what is kept already is no disk call.
+-- The acts of one step, except for its messages: metadata, then batch or snapshot, then what is applied. To keep what is kept already is no disk
+-- call.
 unfoldable pub step_acts : Node → Node → List Act
 step_acts s t = StoreMetadata t.term t.vote ∷ StoreLog t.log t.snapshot t.base ∷ applying s t
 
@@ -65,7 +66,7 @@ abbrev pub said : (Node → Input → Outcome) → Node → List Input → List 
 said step s [] = []
 said step s (i ∷ is) = (step s i).out ++ said step (step s i).node is
 
--- The account of several steps, but for their messages.
+-- The account of several steps, except for their messages.
 abbrev pub account : (Node → Input → Outcome) → Node → List Input → List Act
 account step s [] = []
 account step s (i ∷ is) = step_acts s (step s i).node ++ account step (step s i).node is

@@ -32,7 +32,7 @@ impl Model for FrameIndex {
 }
 
 impl FrameIndex {
-    /// An index without frames. Takes no memory.
+    /// An index without frames.
     pub fn new(alloc: Global) -> FrameIndex
         ensures { result ≡ [] }
     {
@@ -43,16 +43,16 @@ impl FrameIndex {
         }
     }
 
-    /// How many frames there are. Constant cost; takes no memory.
+    /// How many frames there are. Constant cost.
     pub fn len(&self) -> u64
         ensures { result ≡ length self.now }
     {
         self.numbers.len() as u64
     }
 
-    /// Adds a frame with this page number behind the others. `Err` is want of memory, which comes also where 2^64 frames
-    /// would have been pushed; the index is then unchanged. Costs a look-up in an ordered set, and now and then, as a
-    /// `VecDeque` grows, a move of all numbers.
+    /// Adds a frame with this page number behind the others. `Err` means out of memory, which comes also where 2^64
+    /// frames would have been pushed; the index is then unchanged. Costs a look-up in an ordered set, and now and then,
+    /// as a `VecDeque` grows, a move of all numbers.
     pub fn push(&mut self, number: u64) -> Result<(), AllocError>
         ensures done { OnOk result (self.new ≡ self.old ++ number ∷ []) }
         ensures kept { OnErr result (self.new ≡ self.old) }
@@ -68,7 +68,7 @@ impl FrameIndex {
     }
 
     /// The last frame with this page number among the first `mark` frames; `None` exactly where none of them has it.
-    /// Costs a look-up in an ordered set; takes no memory.
+    /// Costs a look-up in an ordered set.
     pub fn last_at(&self, number: u64, mark: u64) -> Option<u64>
         ensures { MatchOption result (NoneAt self.now number mark) (λ frame. IsLastAt self.now number mark frame) }
     {
@@ -80,7 +80,7 @@ impl FrameIndex {
     }
 
     /// Drops the first `count` frames, or all where there are fewer; the rest count from 1. Costs a look-up in an ordered
-    /// set for each frame that is dropped; takes no memory.
+    /// set for each frame that is dropped.
     pub fn drop_first(&mut self, count: u64)
         ensures { self.new ≡ drop count self.old }
     {
@@ -90,7 +90,7 @@ impl FrameIndex {
     }
 
     /// Keeps the first `count` frames, or all where there are fewer, and drops the rest. Costs a look-up in an ordered
-    /// set for each frame that is dropped; takes no memory.
+    /// set for each frame that is dropped.
     pub fn truncate(&mut self, count: u64)
         ensures { self.new ≡ take count self.old }
     {

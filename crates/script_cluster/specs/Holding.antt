@@ -17,7 +17,8 @@ use Rattle.script_cluster.specs.Places.{down_place}
 
 -- ---- what is held
 
--- a world but for its turns and for what is to come of events; and its places as the code has them
+-- a world except for its turns and for what is to come of events; and its places as the code has
+-- them
 pub record Held (P : Type 0) : Type 0 where
   pub voters : ℕ
   pub nodes : List P
@@ -171,7 +172,7 @@ abbrev pub DoesBy : {P : Type 0} → Knowing P → (World → Went) → Option H
 DoesBy knows go None old new before now = Leads knows go old new before now
 DoesBy knows go (Some why) old new before now = Halts knows go why old new before now
 
--- the same by its answer; after want of memory nothing is told
+-- the same by its answer; after out of memory nothing is told
 abbrev pub Does : {P T : Type 0} → Knowing P → (World → Went) → Result T EventFault → Held P → Held P → List ClusterLine → List ClusterLine → Type 0
 Does knows go (Ok x) old new before now = DoesBy knows go None old new before now
 Does knows go (Err faults.NotThere) old new before now = DoesBy knows go (Some NotThere) old new before now

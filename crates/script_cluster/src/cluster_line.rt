@@ -26,7 +26,7 @@ pub enum MessageKind {
 impl MessageKind {
     ghost use Rattle.script_cluster.specs.Kinds.{kind_of, kind_name};
 
-    /// The kind of what a message says. Takes no memory.
+    /// The kind of what a message says.
     pub fn of(what: &MessageBody) -> MessageKind
         ensures { result ≡ kind_of what.now }
     {

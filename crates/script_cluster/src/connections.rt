@@ -103,7 +103,7 @@ fn open_at(
 impl Connections {
     ghost use Rattle.script_cluster.specs.World.{is_known, node_of, with_link, without_node};
 
-    /// None. Takes no memory.
+    /// None.
     pub(crate) fn new(alloc: Global) -> Connections
         ensures { result ≡ [] }
     {
@@ -131,7 +131,8 @@ impl Connections {
         }
     }
 
-    /// A connection of a new number is made. `Err` is want of memory, and changes nothing.
+    /// A connection of a new number is made. `Err` means out of memory, and changes
+    /// nothing.
     pub(crate) fn make(&mut self, number: u64, node: u64, is_open: bool) -> Result<(), AllocError>
         requires { is_known self.old number ≡ false }
         ensures made { OnOk result (self.new ≡ with_link (record { conn = number; node = node; open_now = is_open }) self.old) }
@@ -141,14 +142,15 @@ impl Connections {
         Ok(())
     }
 
-    /// A connection is closed, where it was made. Takes no memory.
+    /// A connection is closed, where it was made.
     pub(crate) fn close(&mut self, number: u64)
         ensures { self.new ≡ without self.old number }
     {
         shut(&mut self.links, number);
     }
 
-    /// The open connections of a node close: answers their numbers, ascending. `Err` is want of memory, and changes nothing.
+    /// The open connections of a node close: answers their numbers, ascending. `Err` means out of memory, and changes
+    /// nothing.
     pub(crate) fn close_at(&mut self, node: u64) -> Result<Vec<u64>, AllocError>
         ensures numbers { IfOk result (λ closed. closed.items ≡ open_at self.old node) }
         ensures closed { OnOk result (self.new ≡ without_node self.old node) }

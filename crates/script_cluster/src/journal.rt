@@ -43,7 +43,7 @@ impl ClusterJournal {
     ghost use Rattle.std.specs.List.{flat_map};
     ghost use Rattle.script_cluster.specs.Seen.{items_of};
 
-    /// A journal without items. Takes no memory.
+    /// A journal without items.
     pub fn new(alloc: Global) -> ClusterJournal
         ensures { result ≡ [] }
     {
@@ -52,7 +52,7 @@ impl ClusterJournal {
         }
     }
 
-    /// The items, in their order. Takes no memory.
+    /// The items, in their order.
     pub fn items(&self) -> &[JournalItem]
         ensures { flat_map items_of result.now ≡ self.now }
     {
@@ -68,7 +68,7 @@ impl ClusterJournal {
     }
 
     /// Takes over what an engine has answered in an event, and notes how the call was met at which the line aims, if it aims at
-    /// one. No answer is copied. `Err` is want of memory.
+    /// one. No answer is copied.
     pub(crate) fn note(
         &mut self,
         answers: Journal,

@@ -107,7 +107,7 @@ fn next_waiting(letters: &[Letter], from: usize) -> usize
 impl Mail {
     ghost use Rattle.script_cluster.specs.World.{arrived_at, first_waiting};
 
-    /// No message. Takes no memory.
+    /// No message.
     pub(crate) fn new(alloc: Global) -> Mail
         ensures { result ≡ [] }
     {
@@ -140,8 +140,8 @@ impl Mail {
         }
     }
 
-    /// The message at a place arrives: answers it, unless a number of it is out of range. Copies its body twice. `Err` is want of
-    /// memory, and changes nothing.
+    /// The message at a place arrives: answers it, unless a number of it is out of range. Copies its body twice. `Err` means out
+    /// of memory, and changes nothing.
     pub(crate) fn arrive(&mut self, place: usize) -> Result<Option<RaftMessage>, AllocError>
         requires { place < length self.old }
         ensures read { IfOk result (λ message. (d : Seen) → Arrives (get_or self.old place d).to (get_or self.old place d).bytes message) }

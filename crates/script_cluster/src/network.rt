@@ -109,7 +109,7 @@ fn say_down(numbers: &[u64], said: &mut Vec<ClusterLine>) -> Result<(), AllocErr
 }
 
 impl Network {
-    /// Nothing was made or used. Takes no memory.
+    /// Nothing was made or used.
     pub(crate) fn new(alloc: Global) -> Network
         ensures { IsNothing result }
     {
@@ -122,7 +122,7 @@ impl Network {
         }
     }
 
-    /// The journal. Takes no memory.
+    /// The journal.
     pub(crate) fn into_journal(self) -> ClusterJournal
         ensures { result ≡ self.journal }
     {
@@ -211,7 +211,7 @@ impl Network {
     }
 
     /// What came of an event at a node, or of its start, is noted and said. Answers whether a script may make as many bytes of
-    /// messages; if not, nothing has happened. `Err` is want of memory.
+    /// messages; if not, nothing has happened.
     pub(crate) fn tell(
         &mut self,
         node: u64,

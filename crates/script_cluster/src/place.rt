@@ -91,12 +91,12 @@ pub trait NodePlace: Drop {
     /// Which turns have led to the place: of the node of a number, in a cluster that was opened with so many voters.
     ghost knows: { Self → ℕ → ℕ → List Turn → Type 0 };
 
-    /// A disk without files, and no node. `Err` is want of memory.
+    /// A disk without files, and no node.
     fn empty(&self) -> Result<Self, AllocError>
         ensures shows { IfOk result (λ place. shows place ≡ empty_place) }
         ensures knows { IfOk result (λ place. IsNew knows place) };
 
-    /// Whether a node runs here. Takes no memory.
+    /// Whether a node runs here.
     fn is_up(&self) -> bool
         ensures { result ≡ is_some (shows self.now).standing };
 
@@ -105,8 +105,7 @@ pub trait NodePlace: Drop {
         ensures { result ≡ option_map line_of (shows self.now).standing };
 
     /// An event happens at the node that runs here, while a line aims at a call of its disk, counted from here on. After an event
-    /// that didn't end well no node runs here, and a disk that stopped has taken the outcome of the line's pick. `Err` is want of
-    /// memory.
+    /// that didn't end well no node runs here, and a disk that stopped has taken the outcome of the line's pick.
     fn step(&mut self, event: NodeEvent, aim: FaultTarget) -> Result<EventResult, AllocError>
         requires { is_some (shows self.old).standing ≡ true }
         ensures comes { IfOk result (λ came. Comes (shows self.old) (shows self.new) came
@@ -114,7 +113,7 @@ pub trait NodePlace: Drop {
         ensures step { IfOk result (λ came. IsStep came.ended) };
 
     /// The node of this number starts over the disk of a place where none runs, in a cluster that was opened with so many voters, at
-    /// the addresses `n1` and so on; with an engine that knows nothing. `Err` is want of memory.
+    /// the addresses `n1` and so on; with an engine that knows nothing.
     fn start(
         &mut self,
         node: u64,
@@ -125,7 +124,7 @@ pub trait NodePlace: Drop {
         ensures comes { IfOk result (λ came. Comes (shows self.old) (shows self.new) came (StartsOn knows self.old self.new node voters aim)) }
         ensures start { IfOk result (λ came. IsStart came.ended) };
 
-    /// The node goes that runs here, and its disk takes the outcome of a pick. `Err` is want of memory.
+    /// The node goes that runs here, and its disk takes the outcome of a pick.
     fn crash(&mut self, pick: u32) -> Result<(), AllocError>
         requires { is_some (shows self.old).standing ≡ true }
         ensures stands { OnOk result (shows self.new ≡ place_after_crash (shows self.old)) }

@@ -34,7 +34,7 @@ fn standing_text(
     format!(in alloc; " term {term} role {role} applied {applied} files {digits}\n")
 }
 
-/// The line that is printed for what was said, with its LF. `Err` is want of memory.
+/// The line that is printed for what was said, with its LF.
 pub fn line_for(alloc: Global, said: &ClusterLine) -> Result<String, AllocError>
     ensures { IfOk result (λ line. string_bytes line ≡ printed_line said.now) }
 {

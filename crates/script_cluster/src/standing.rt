@@ -55,7 +55,7 @@ impl<P: NodePlace> Cluster<P> {
         Ok(said)
     }
 
-    /// The journal of the run so far. Takes no memory.
+    /// The journal of the run so far.
     pub fn into_journal(self) -> ClusterJournal
         ensures { result ≡ self.outside.journal }
     {

@@ -1,4 +1,5 @@
--- What is done to two worlds that are the same but for their pasts leads to such worlds, or ends early in one of them.
+-- What is done to two worlds that are the same except for their pasts leads to such worlds, or ends early in one of
+-- them.
 use Rattle.std.proofs.Common.{◌≡◌, ℕ, ◌-◌, ◌+◌, zero, suc, Bool, true, false, cond, List, [], ◌∷◌, ◌++◌, map, Option, Some, None, Result, Ok, Err, refl, sym, ap, subst, ◌∙◌, append_assoc}
 use Rattle.std.specs.Prelude.{slice_get, get_or}
 use Rattle.std.proofs.lemmas.List.{map-append}
@@ -27,7 +28,8 @@ use Rattle.script_determinism.proofs.Paths.{led_front, asked_same}
 
 -- ---- worlds
 
--- all of a world but for what happened in it, what is noted of that, and what is to come
+-- all of a world except for what happened in it, what is noted of that, and what is to
+-- come
 pub record Beside : Type 0 where
   pub voters : ℕ
   pub places : List Place
@@ -60,7 +62,7 @@ beside_of w = record { voters = w.voters; places = w.places; links = w.links; ma
 abbrev pub past_of : World → Past
 past_of w = record { turns = w.turns; journal = w.journal; outcomes = w.outcomes; over = w.over }
 
--- the same happened, but for the numbers of transactions
+-- the same happened, except for the numbers of transactions
 pub record SamePast (h k : Past) : Type 0 where
   pub turns : plain_turns h.turns ≡ plain_turns k.turns
   pub journal : plain_items h.journal ≡ plain_items k.journal
@@ -170,7 +172,8 @@ module _ (nodes : Nodes) (exact : AreExact nodes) where
       over None led = led
       over (Some turn) led = led_front nodes w.turns (turn ∷ []) led
 
-  -- From worlds that are the same but for their pasts it leads to the same, or ends early in one of them.
+  -- From worlds that are the same except for their pasts it leads to the same, or ends early in one of
+  -- them.
   abbrev pub Repeats : (World → Went) → Type 0
   Repeats go = (x : Beside) (h k : Past) → SamePast h k → Fits (go (world_with x h)) → Fits (go (world_with x k)) → Together (go (world_with x h)) (go (world_with x k))
 

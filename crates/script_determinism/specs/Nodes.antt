@@ -53,7 +53,8 @@ pub record AreLed (nodes : Nodes) (turns : List Turn) : Type 0 where
 abbrev pub MayCrash : Nodes → Type 0
 MayCrash nodes = (n k pick : ℕ) (old : nodes.Seat) → (new : nodes.Seat) × nodes.leads n old (Crashes k pick) new
 
--- By the same, from seats that are the same in what decides, the same comes, but for the numbers of transactions.
+-- By the same, from seats that are the same in what decides, the same comes, except for the numbers of
+-- transactions.
 pub record ComesTo (nodes : Nodes) (one other : Outcome) (new now : nodes.Seat) : Type 0 where
   pub outcome : plain_outcome one ≡ plain_outcome other
   pub core : nodes.core new ≡ nodes.core now

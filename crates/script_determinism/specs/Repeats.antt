@@ -8,7 +8,8 @@ use Rattle.script_runner.specs.Run.{Run, run, printed}
 use Rattle.script_determinism.specs.Plain.{plain_turns, plain_items}
 use Rattle.script_determinism.specs.Nodes.{Nodes, AreLed, AreExact, MayCrash}
 
--- The same is said, the fault is the same, and the same happened and was noted but for the numbers of transactions.
+-- The same is said, the fault is the same, and the same happened and was noted except for the numbers of
+-- transactions.
 pub record AreAlike (one other : Run) : Type 0 where
   pub said : one.said ≡ other.said
   pub fault : one.fault ≡ other.fault

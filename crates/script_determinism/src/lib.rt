@@ -12,8 +12,8 @@ pub trait AreNodes {
     ghost nodes: { Nodes };
 }
 
-/// A law: of two runs of one script, over nodes that do the same wherever the same is asked, the same is said and has happened, but for the
-/// numbers of transactions, and they have the same fault; or one of them isn't told all and has said a front of what the other says. So
+/// A law: of two runs of one script, over nodes that do the same wherever the same is asked, the same is said and has happened, except for
+/// the numbers of transactions, and they have the same fault; or one of them isn't told all and has said a front of what the other says. So
 /// two that are told all print the same; and one that isn't prints a front of what such a one prints.
 pub fn scripts_repeat<N: AreNodes>()
     ensures compared { RunsCompare N.nodes }

@@ -48,7 +48,7 @@ fn put_write<K: Sink>(
 /// for the first, times 1,103,515,245 and 12,345 more, modulo 2^31; `a` is one more than its bits 16 to 21, and `b` its
 /// remainder by 1,000. After each hundredth write node 3 crashes and is started again.
 ///
-/// An `Err` is a failure of the sink, which has counted it, or want of memory; a front of the script was written then. The
+/// An `Err` is a failure of the sink, which has counted it, or out of memory; a front of the script was written then. The
 /// first six lines go to the sink in one call, and so do those of each write, so that it has `count` calls and one more. At
 /// most 157 bytes of the script are held at a time, beside the bytes that the client sends in them, at most 48, and their hex.
 pub fn generate<K: Sink>(

@@ -110,7 +110,7 @@ fn other_in(alloc: Global, line: &[u8]) -> Result<Option<Event>, AllocError>
     Ok(None)
 }
 
-/// A line that has something happen: words, each behind one space. `Err` is want of memory.
+/// A line that has something happen: words, each behind one space.
 #[tactic(auto, unfolding(crate::specs::Events::event_of))]
 pub(crate) fn event_in(alloc: Global, line: &[u8]) -> Result<Option<Event>, AllocError>
     ensures { IfOk result (λ event. event ≡ event_of line.now) }

@@ -191,7 +191,7 @@ fn says_nothing(line: &[u8]) -> bool
 }
 
 /// What a line says, or `None` where it isn't in the grammar. What depends on the run, as whether a node, a connection or a
-/// message is there, isn't looked at. It copies the bytes that a line spells in hex, and nothing else. `Err` is want of memory.
+/// message is there, isn't looked at. It copies the bytes that a line spells in hex, and nothing else.
 #[tactic(auto, unfolding(crate::specs::Grammar::line_of))]
 pub fn line_in(alloc: Global, line: &[u8]) -> Result<Option<ScriptLine>, AllocError>
     ensures { IfOk result (λ said. said ≡ line_of line.now) }

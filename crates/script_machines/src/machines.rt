@@ -153,7 +153,7 @@ impl Machines {
     }
 
     /// Has an event happen, and answers what was said. `NotThere` is an event that names what isn't there, and nothing has
-    /// happened then; want of memory may come after it has. No event is one too many here.
+    /// happened then; out of memory may come after it has. No event is one too many here.
     #[tactic(auto, unfolding(crate::specs::Machines::applies))]
     pub fn take(&mut self, alloc: Global, event: Event) -> Result<Vec<MachineLine>, EventFault>
         ensures ok { IfOk result (λ said. applies (fleet_of self.old) event ≡ Some (fleet_of self.new, said.items)) }

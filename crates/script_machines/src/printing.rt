@@ -19,7 +19,7 @@ fn machine_line(
     format!(in alloc; "node {number} applied {applied} files {digits}\n")
 }
 
-/// The line that is printed for what was said, with its LF. `Err` is want of memory.
+/// The line that is printed for what was said, with its LF.
 pub fn line_for(alloc: Global, said: &MachineLine) -> Result<String, AllocError>
     ensures { IfOk result (λ line. string_bytes line ≡ printed_line said.now) }
 {

@@ -89,7 +89,7 @@ pub record Ends {P : Type 0} (knows : Knowing P) (go : Stage → Next) (fault : 
   pub told : (earlier : List Turn) → Known knows old earlier → Told knows (turns earlier) over
   pub uses : (earlier : List Turn) → outcomes_in (turns earlier) ++ outcomes_over over ≡ outcomes_in (turns_of old earlier) ++ outcomes
 
--- what a line of this number did by its answer; after want of memory nothing is told
+-- what a line of this number did by its answer; after out of memory nothing is told
 abbrev pub DoesLine : {P T : Type 0} → Knowing P → ℕ → (Stage → Next) → Result T EventFault → Holds P → Holds P → List Said → Type 0
 DoesLine knows number go (Ok x) old new now = Goes knows go old new now
 DoesLine knows number go (Err faults.NotThere) old new now = Ends knows go (Line number) old new now

@@ -88,7 +88,7 @@ abbrev pub MayOpen : ScriptLine → Type 0
 MayOpen (says.Nodes voters spare) = IsVoterCount voters
 MayOpen line = Unit {0}
 
--- what a line of this number did by its answer; after want of memory nothing is told
+-- what a line of this number did by its answer; after out of memory nothing is told
 abbrev pub DoesLine : {P T : Type 0} → Knowing P → ℕ → (run.Stage → Next) → Result T EventFault → Stands P → Stands P → List ClusterLine → List ClusterLine → Type 0
 DoesLine knows number go (Ok x) old new before now = Goes knows go old new before now
 DoesLine knows number go (Err faults.NotThere) old new before now = Ends knows go (Line number) old new before now

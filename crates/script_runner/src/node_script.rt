@@ -116,7 +116,7 @@ impl<P: NodePlace> NodeScript<P> {
         }
     }
 
-    /// The journal of the run, which is empty where no node was opened. Takes no memory.
+    /// The journal of the run, which is empty where no node was opened.
     pub(crate) fn into_journal(self, alloc: Global) -> ClusterJournal
         ensures { result ≡ journal_of (stands P.shows self) }
     {

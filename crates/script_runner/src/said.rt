@@ -17,7 +17,7 @@ impl LineSaid {
     ghost use Rattle.std.specs.Prelude.{◌≡◌, []};
     ghost use Rattle.script_runner.specs.Scenes.{said_in};
 
-    /// Nothing was said so far. Takes no memory.
+    /// Nothing was said so far.
     pub(crate) fn nothing(alloc: Global) -> LineSaid
         ensures { said_in result ≡ [] }
     {

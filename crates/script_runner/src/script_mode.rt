@@ -202,7 +202,7 @@ impl<P: NodePlace> ScriptMode<P> {
         }
     }
 
-    /// The journal of the run, which is empty where no node was opened. Takes no memory.
+    /// The journal of the run, which is empty where no node was opened.
     pub(crate) fn into_journal(self, alloc: Global) -> ClusterJournal
         ensures { result ≡ journal_of (holds P.shows self) }
     {

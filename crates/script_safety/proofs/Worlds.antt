@@ -91,7 +91,7 @@ all_read (t ∷ turns) h k m e = one_reads (messages_in t) (sent_in turns) k m h
 
 -- ---- letters
 
--- a letter but for whether it has arrived
+-- a letter except for whether it has arrived
 abbrev strip : Letter → ℕ × List ℕ
 strip l = (l.to, l.bytes)
 

@@ -14,8 +14,8 @@ use Rattle.script_cluster.specs.Outcomes.{Turn}
 use Rattle.script_safety.specs.Laws.{IsSafe}
 use Rattle.script_safety.specs.Turns.{events_of}
 
--- By each call of a node: what is asked on a connection that is open after it, and didn't come by it, is answered in the call, once each, but
--- for what waits for an entry that the node, still leading its term, hasn't applied, or for a reader.
+-- By each call of a node: what is asked on a connection that is open after it, and didn't come by it, is answered in the call, once each,
+-- except for what waits for an entry that the node, still leading its term, hasn't applied, or for a reader.
 abbrev pub IsComplete : (m : Meaning) (kind : EngineKind) (setup : Setup) (turns : List Turn) → IsSafe m kind setup turns → Type 0
 IsComplete m kind setup turns safe =
     (events rest : List Event) (n : ℕ) (came : Comes) (added : List LocalEvent) (new : Node) (letters : List Letter) (replies : List (ℕ × Reply))

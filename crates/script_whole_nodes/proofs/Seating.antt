@@ -64,7 +64,7 @@ quiet_with : (e : Noting AnyEngine) (seated : Option Node) → (e.noted ≡ []) 
 quiet_with e (Some node) quiet = quiet
 quiet_with e None quiet = tt
 
--- what a place holds stays so but for the answers that its engine had kept
+-- what a place holds stays so except for the answers that its engine had kept
 pub seated_again : (old new : NodeSlot) → Sits old → any_kind old.engine.engine ≡ old.kind → new.engine.engine ≡ old.engine.engine → new.node ≡ old.node → new.has_failed ≡ old.has_failed → new.kind ≡ old.kind
     → (new.engine.noted ≡ []) × (new.engine.cut ≡ false) → IsSeated new
 seated_again old new well kind same node failed of_kind quiet = (

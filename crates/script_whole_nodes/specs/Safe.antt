@@ -20,7 +20,7 @@ pub record NodeLife (kind : EngineKind) (voters n : ℕ) (turns : List Turn) : T
   pub node : Option Running
   pub life : Lives (any_meaning kind) kind (setup_of voters) n finds (states_in disk) turns node
 
--- so each node has one, but for those at which nothing happened
+-- so each node has one, except for those at which nothing happened
 pub data LifeOf (kind : EngineKind) (voters n : ℕ) (turns : List Turn) : Type 0 where
   idle : turns ≡ [] → LifeOf kind voters n turns
   lived : NodeLife kind voters n turns → LifeOf kind voters n turns

@@ -59,7 +59,7 @@ fn core_event(event: NodeEvent) -> CoreEvent
     }
 }
 
-/// Aims at a call of a disk, counted from here on. Takes no memory.
+/// Aims at a call of a disk, counted from here on.
 fn take_aim(disk: &mut MemDisk, aim: FaultTarget)
     ensures { disk.new.contents ≡ disk.old.contents }
 {

@@ -46,7 +46,7 @@ pub(crate) fn new_engine(alloc: Global, kind: EngineKind) -> RecordingEngine<Any
     RecordingEngine::new(alloc, engine)
 }
 
-/// A disk without files, and no node. Takes no memory.
+/// A disk without files, and no node.
 pub(crate) fn empty_seat(alloc: Global, kind: EngineKind) -> NodeSlot
     ensures place { place_of result ≡ empty_place }
     ensures new { IsNew (Knows kind) result }
@@ -94,7 +94,8 @@ fn outs_in(outs: CoreOuts) -> Outs
     }
 }
 
-/// The answers that an engine has kept. `Err` is want of memory, also of the engine's, which has lost an answer then.
+/// The answers that an engine has kept. `Err` means out of memory, also of the engine's, which has lost an answer
+/// then.
 fn answers_of(alloc: Global, engine: &mut RecordingEngine<AnyEngine>) -> Result<Journal, AllocError>
     ensures engine { engine.new.engine ≡ engine.old.engine }
     ensures answers { IfOk result (λ answers. (answers ≡ engine.old.noted) × (engine.old.cut ≡ false)) }
@@ -109,8 +110,8 @@ fn answers_of(alloc: Global, engine: &mut RecordingEngine<AnyEngine>) -> Result<
 }
 
 #[tactic(auto, using(crate::proofs::Seating::seated_again, crate::proofs::Seating::none_seated))]
-/// What came of an event that ended so: the answers that the engine has kept belong to it. `Err` is want of memory, also of the
-/// engine's; no node runs then.
+/// What came of an event that ended so: the answers that the engine has kept belong to it. `Err` means out of memory, also of
+/// the engine's; no node runs then.
 fn came(seat: &mut NodeSlot, ended: EventEnd) -> Result<EventResult, AllocError>
     requires sits { Sits seat.old }
     requires kind { any_kind seat.old.engine.engine ≡ seat.old.kind }
@@ -131,8 +132,7 @@ fn came(seat: &mut NodeSlot, ended: EventEnd) -> Result<EventResult, AllocError>
     }
 }
 
-/// A disk is found as the next start finds it: a stopped one has crashed, by the pick of its stop. Answers whether it was stopped. `Err`
-/// is want of memory.
+/// A disk is found as the next start finds it: a stopped one has crashed, by the pick of its stop. Answers whether it was stopped.
 #[tactic(auto, using(crate::proofs::Turning::found_crashed, crate::proofs::Turning::found_same))]
 fn find(disk: &mut MemDisk) -> Result<bool, AllocError>
     ensures { IfOk result (λ stopped. IsFound stopped disk.old.contents disk.new.contents) }

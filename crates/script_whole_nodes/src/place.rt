@@ -15,7 +15,7 @@ pub trait EngineChoice: Drop {
     /// The kind of engine.
     ghost kind: { EngineKind };
 
-    /// The kind of engine. Takes no memory.
+    /// The kind of engine.
     fn kind() -> EngineKind
         ensures { result ≡ kind };
 }
@@ -80,7 +80,7 @@ impl<C: EngineChoice> WholePlace<C> {
     ghost use Rattle.script_whole_nodes.specs.Seats.{place_of};
     ghost use Rattle.script_whole_nodes.specs.Turns.{Knows};
 
-    /// A disk without files, and no node. Takes no memory.
+    /// A disk without files, and no node.
     pub fn new(alloc: Global) -> WholePlace<C>
         ensures place { place_of result ≡ empty_place }
         ensures new { IsNew (Knows C.kind) result }

@@ -16,7 +16,7 @@ use Rattle.store_laws.specs.Snapshots.{snapshot_calls, remove_snapshots, keep_ca
 use Rattle.store_format.specs.NodeFormat.{node_format}
 use Rattle.segment_store.proofs.LoadRooms.{segments_up, kept_of}
 
--- no segment from a number on is there, for sure
+-- no segment from a number on is there, certainly
 pub record NoneFrom (top : ℕ) (e : NodeDisk) : Type 0 where
   pub none : (j : ℕ) → top ≤ j → ((e.read (Segment j)).there ≡ false) × Rest (e.held (Segment j)) (e.read (Segment j))
 

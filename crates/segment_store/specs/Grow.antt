@@ -15,7 +15,7 @@ grow_calls n at batch = WriteAt n at batch ∷ Sync n ∷ []
 abbrev pub begin_calls : Text → List ℕ → List ℕ → List (Call Text)
 begin_calls n word batch = replace_calls n word false ++ grow_calls n (length word) batch
 
--- no file has this name, for sure
+-- no file has this name, certainly
 pub record IsFree (n : Text) (d : Disk Text) : Type 0 where
   pub not_there : (d.read n).there ≡ false
   pub rest : Rest (d.held n) (d.read n)

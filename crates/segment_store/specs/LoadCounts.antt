@@ -43,7 +43,8 @@ snapshot_reads (suc n) g = cond (g (Snapshot n)).there (reads_for (length (g (Sn
 abbrev pub file_reads : NodeFiles → ℕ
 file_reads g = reads_of (g First) + (reads_of (g Second) + (snapshot_reads 10000000000000000 g + segment_reads 10000000000000000 g))
 
--- a look lists the folder and reads each file once, but for snapshots of a smaller index than one that is whole
+-- a look lists the folder and reads each file once, except for snapshots of a smaller index than one that is
+-- whole
 abbrev pub look_count : NodeFiles → ℕ
 look_count g = suc (file_reads g)
 

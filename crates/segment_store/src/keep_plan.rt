@@ -39,7 +39,7 @@ pub(crate) struct OldFiles {
     pub(crate) snapshots: Vec<Name>,
 }
 
-/// What keeping a snapshot writes and removes. It is made whole before anything is written, so that want of memory for
+/// What keeping a snapshot writes and removes. It is made whole before anything is written, so that out of memory for
 /// it leaves the disk as it is.
 #[derive(Drop)]
 pub(crate) struct KeepPlan<'a> {
@@ -76,7 +76,7 @@ pub(crate) fn new_snapshot<'a>(
 }
 
 /// The segment of a number with these entries. Each entry is copied once; one of more than 4,294,967,295 bytes is
-/// answered as want of memory.
+/// answered as out of memory.
 pub(crate) fn new_segment(
     alloc: Global,
     number: u64,

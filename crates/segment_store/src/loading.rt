@@ -172,12 +172,11 @@ fn settle<D: Disk>(
 impl Store {
     /// Opens the store of a node over a disk, and answers what is kept: a folder without files has term 0 and no entry.
     ///
-    /// Lists the folder and reads each file of a node once, but for snapshots of a smaller index than one that is whole.
-    /// It judges first: after `NoMeta`, `Damaged` and `Gap` the disk is as it was. Then it syncs all files of a node and
-    /// the names, cuts off a torn tail of the last segment, or removes that segment where its first word says no format,
-    /// and where the snapshot drops the whole log it empties that log by a batch in a new segment. So what it answers
-    /// stands after each crash. The store's first batch begins a segment. Inside the call a crash leaves what a load of the files before may give. After
-    /// `DiskFault` and `NoMemory` the disk may be loaded again.
+    /// Lists the folder and reads each file of a node once, except for snapshots of a smaller index than one that is whole. It judges first: after
+    /// `NoMeta`, `Damaged` and `Gap` the disk is as it was. Then it syncs all files of a node and the names, cuts off a torn tail of the last segment,
+    /// or removes that segment where its first word says no format, and where the snapshot drops the whole log it empties that log by a batch in a new
+    /// segment. So what it answers stands after each crash. The store's first batch begins a segment. Inside the call a crash leaves what a load of the
+    /// files before may give. After `DiskFault` and `NoMemory` the disk may be loaded again.
     ///
     /// Other names in the folder are left alone. Takes memory for the entries, the newest snapshot, and one file at a
     /// time.

@@ -109,7 +109,7 @@ fn as_name(text: String) -> Result<Name, AllocError>
     }
 }
 
-/// The name of a file. `Err` is want of memory.
+/// The name of a file.
 #[tactic(auto, using(crate::proofs::NoTwoAlike::named))]
 pub(crate) fn file_name(alloc: Global, file: File) -> Result<Name, AllocError>
     requires { number_of file < 10000000000000000 }

@@ -184,7 +184,7 @@ impl Store {
     }
 
     /// Keeps a term and a vote; 0 is no vote. Writes one file of 40 bytes, in format 2. A version past the last number of
-    /// 64 bits is answered as want of memory, with nothing written.
+    /// 64 bits is answered as out of memory, with nothing written.
     pub fn set_meta<D: Disk>(
         &mut self,
         disk: &mut D,
@@ -293,9 +293,9 @@ impl Store {
     /// Replaces the log from the index `first` on by these entries. `first` lies past the kept snapshot and at most one
     /// past the log's end, and a term is kept: else nothing is said of what is kept.
     ///
-    /// One write and one sync of the batch, in the segment that is there where it has fewer than 8,388,608 bytes and a batch
-    /// went to it since the load, else in a new one, which takes three calls more. Each entry is copied once. An entry of more than 4,294,967,295 bytes and a
-    /// segment of more than sixteen digits are answered as want of memory, with nothing written.
+    /// One write and one sync of the batch, in the segment that is there where it has fewer than 8,388,608 bytes and a batch went to it since the load, else
+    /// in a new one, which takes three calls more. Each entry is copied once. An entry of more than 4,294,967,295 bytes and a segment of more than sixteen
+    /// digits are answered as out of memory, with nothing written.
     pub fn append<D: Disk>(
         &mut self,
         disk: &mut D,
@@ -368,10 +368,9 @@ impl Store {
     ///
     /// The snapshot's file is written and synced, and the names; an old file of its name is first cut to nothing. A new
     /// segment begins with the entries. Then older segments go ascending, with a sync of the names after each, and older
-    /// snapshots. Each byte of the snapshot is written from where
-    /// it lies, and each entry is copied once. A snapshot's index or a
-    /// segment's number of more than sixteen digits, an entry of more than 4,294,967,295 bytes and want of the store's own
-    /// memory are answered as want of memory, with nothing written.
+    /// snapshots. Each byte of the snapshot is written from where it lies, and each entry is copied once. A snapshot's
+    /// index or a segment's number of more than sixteen digits, an entry of more than 4,294,967,295 bytes and want of the
+    /// store's own memory are answered as out of memory, with nothing written.
     pub fn keep_snapshot<D: Disk>(
         &mut self,
         disk: &mut D,

@@ -6,7 +6,7 @@ use Rattle.serve_node.specs.declared.fault.CrewFault.{CrewFault}
 use Rattle.serve_node.specs.declared.fault.CrewFault.TheVariants as crew
 use Rattle.serve_node.specs.Crew.{Hires, HasBegun}
 
--- want of memory is none of the host's faults
+-- out of memory is none of the host's faults
 pub no_host : {P : Type 0} (fault : CrewFault) → fault ≡ crew.NoMemory → fault ≡ crew.Host → P
 no_host fault wants failed = let bad : crew.NoMemory ≡ crew.Host = sym wants ∙ failed in absurd cc
 

@@ -16,7 +16,8 @@ use Rattle.serve_node.specs.Crew.{HasBegun}
 use Rattle.serve_node.specs.Ending.{end_of_start, end_of_loop}
 use Rattle.serve_node.specs.Rules.{IsNodeOf}
 
--- how many threads work beside a node: a keeper and a writer at each of 72 places, a ticker and four readers, and one for each peer
+-- how many threads work beside a node: a connection reader and a writer at each of 72 places, a ticker and four readers, and one
+-- for each peer
 abbrev pub workers_of : Serve → ℕ
 workers_of words = 149 + length words.peers
 

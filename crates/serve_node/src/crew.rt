@@ -25,11 +25,11 @@ use std::alloc::Global;
 /// How many readers answer queries beside the node.
 const READERS: u64 = 4;
 
-/// The link of a host's door.
+/// The link of a host's listener.
 pub(crate) type LinkOf<H> = <<H as Host<Read>>::Door as Door>::Link;
 
-/// Has a keeper and a writer work at a place, and answers the writer's queue. The keeper accepts at this door, and what waits at the
-/// place beyond its own share takes of the common room.
+/// Has a connection reader and a writer work at a place, and answers the writer's queue. The connection reader accepts at this
+/// listener, and what waits at the place beyond its own share takes of the common room.
 #[tactic(auto, using(crate::proofs::Hiring::no_host, crate::proofs::Hiring::hires_then))]
 fn keep<E: Engine + Send + Drop + 'static, H: Host<Read>>(
     alloc: Global,
@@ -62,7 +62,8 @@ fn keep<E: Engine + Send + Drop + 'static, H: Host<Read>>(
     Ok(queue)
 }
 
-/// Has a keeper and a writer work at each place of connections, the first at the door itself and the others at twins of it.
+/// Has a connection reader and a writer work at each place of connections, the first at the listener itself and the others
+/// at twins of it.
 #[tactic(auto, using(crate::proofs::Hiring::no_host, crate::proofs::Hiring::hires_none, crate::proofs::Hiring::pair_more))]
 fn keep_all<E: Engine + Send + Drop + 'static, H: Host<Read>>(
     alloc: Global,

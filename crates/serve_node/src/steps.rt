@@ -10,7 +10,7 @@ pub(crate) const MAX_HELD_BYTES: u64 = 33_554_432;
 /// has to keep them a row of few columns and few bytes takes it 30 to 300 bytes.
 ///
 /// - A query that a reader can take over has 40,000, some 20 milliseconds: so long all other clients wait at most for a query that is then
-///   run anew at a reader.
+///   run again at a reader.
 /// - What has to run at the node has 2,000,000, some second. A follower stands for election after one to two seconds without a heartbeat,
 ///   which a leader sends between two steps.
 /// - A query at a reader has 2,000,000 too. Ten times as many would be some ten seconds, as long as a client waits; but a reader would take

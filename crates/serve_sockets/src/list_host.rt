@@ -12,8 +12,8 @@ use std::sync::Wait;
 use std::thread::Threads;
 use std::time::Clock;
 
-/// A host over memory whose events are those of a list: a take fails where none is left. It tells them. At its doors no link comes, each
-/// dial fails, and what is posted at its ends is never taken.
+/// A host over memory whose events are those of a list: a take fails where none is left. It tells them. At its listeners no link comes,
+/// each dial fails, and what is posted at its ends is never taken.
 #[derive(Drop)]
 pub struct ListHost<R: Wait + Copy + Drop, T: Drop> {
     host: MemHost<R, T>,
@@ -21,7 +21,7 @@ pub struct ListHost<R: Wait + Copy + Drop, T: Drop> {
 }
 
 impl<R: Wait + Copy + Drop, T: Drop> ListHost<R, T> {
-    /// A host with these events that did nothing yet. `Err` is want of memory.
+    /// A host with these events that did nothing yet.
     pub fn new(rt: R, alloc: Global, events: Vec<Event<T>>) -> Result<ListHost<R, T>, AllocError> {
         let host = MemHost::new(rt, alloc, Vec::new(alloc), Vec::new(alloc), Vec::new(alloc))?;
         Ok(ListHost {

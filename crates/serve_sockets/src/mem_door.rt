@@ -1,4 +1,4 @@
-//! A door over memory.
+//! A listener over memory.
 
 ghost use Rattle.std.specs.Prelude.{◌≡◌};
 ghost use Rattle.serve_threads.specs.Counts.{IsCounted};
@@ -8,7 +8,8 @@ use serve_traits::{Door, MemLink};
 use std::alloc::Global;
 use std::collections::VecDeque;
 
-/// A door over memory, at which some links come. An accept fails where none is left, and a dial always does.
+/// A listener over memory, at which some links come. An accept fails where none is left, and a dial always
+/// does.
 #[derive(Drop)]
 pub struct MemDoor {
     links: VecDeque<MemLink>,
@@ -16,7 +17,7 @@ pub struct MemDoor {
 }
 
 impl MemDoor {
-    /// A door at which these links come. Takes no memory.
+    /// A listener at which these links come.
     pub(crate) fn new(links: Vec<MemLink>) -> MemDoor {
         MemDoor {
             links: VecDeque::from(links),
@@ -24,7 +25,7 @@ impl MemDoor {
         }
     }
 
-    /// A door at which no link comes. Takes no memory.
+    /// A listener at which no link comes.
     pub(crate) fn closed(alloc: Global) -> MemDoor {
         MemDoor::new(Vec::new(alloc))
     }

@@ -16,9 +16,9 @@ use std::time::Clock;
 
 /// A host over memory, whose workers run in threads of the runtime. Some of its calls may be told to fail.
 ///
-/// Its first listen that succeeds gives a door at which some links come; at others, and at second ends of doors, none comes. Each dial
-/// that succeeds gives the next of other links, and one that finds none left fails. Its events come by a channel, so it tells none, but
-/// counts them. Its moments are the numbers of the calls that asked for them, and its random words are the same in each run.
+/// Its first listen that succeeds gives a listener at which some links come; at others, and at second ends of listeners, none comes.
+/// Each dial that succeeds gives the next of other links, and one that finds none left fails. Its events come by a channel, so it tells
+/// none, but counts them. Its moments are the numbers of the calls that asked for them, and its random words are the same in each run.
 #[derive(Drop)]
 pub struct MemHost<R: Wait + Copy + Drop, T: Drop> {
     pub(crate) rt: R,
@@ -33,8 +33,7 @@ pub struct MemHost<R: Wait + Copy + Drop, T: Drop> {
 }
 
 impl<R: Wait + Copy + Drop, T: Drop> MemHost<R, T> {
-    /// A host that did nothing yet. `fails` lists the numbers, from 1, of the calls that are to fail, of those that may. `Err` is want
-    /// of memory.
+    /// A host that did nothing yet. `fails` lists the numbers, from 1, of the calls that are to fail, of those that may.
     pub fn new(
         rt: R,
         alloc: Global,
@@ -56,7 +55,7 @@ impl<R: Wait + Copy + Drop, T: Drop> MemHost<R, T> {
         })
     }
 
-    /// The door of a listen: the first one has the links.
+    /// The listener of a listen: the first one has the links.
     fn door(&mut self) -> MemDoor
         ensures done { self.new.done ≡ self.old.done }
         ensures calls { self.new.calls ≡ self.old.calls }
@@ -82,7 +81,7 @@ impl<R: Wait + Copy + Drop, T: Drop> MemHost<R, T> {
         Ok(self.door())
     }
 
-    /// A second end of a door, unless the call is to fail.
+    /// A second end of a listener, unless the call is to fail.
     pub(crate) fn twin_of(&mut self, _door: &MemDoor) -> Result<MemDoor, Failed>
         ensures done { self.new.done ≡ self.old.done }
         ensures taken { self.new.inbox.taken ≡ self.old.inbox.taken }

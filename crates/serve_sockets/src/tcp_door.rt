@@ -1,4 +1,4 @@
-//! A door over sockets of the operating system.
+//! A listener over sockets of the operating system.
 
 ghost use Rattle.std.specs.Prelude.{◌≡◌};
 ghost use Rattle.serve_threads.specs.Counts.{IsCounted};
@@ -18,7 +18,7 @@ const FIRST_SECONDS: u64 = 5;
 /// How long a dial of one address may take, in seconds.
 const DIAL_SECONDS: u64 = 10;
 
-/// A door over a listening TCP socket.
+/// A listener over a listening TCP socket.
 ///
 /// It gives a link only once its first 16 bytes came, for which it has five seconds: so a dial that says nothing takes no session.
 /// The accept of such a link has failed. A dial tries each address that a name has, in their order, for at most ten seconds each;
@@ -31,7 +31,7 @@ pub struct TcpDoor {
 }
 
 impl TcpDoor {
-    /// A door at this listening socket.
+    /// A listener at this listening socket.
     pub(crate) fn new(rt: HostRuntime, listener: TcpListener) -> TcpDoor {
         TcpDoor {
             rt,
@@ -40,7 +40,7 @@ impl TcpDoor {
         }
     }
 
-    /// A second end of the door.
+    /// A second end of the listener.
     pub(crate) fn twin(&self) -> io::Result<TcpDoor> {
         Ok(TcpDoor::new(self.rt, self.listener.try_clone()?))
     }

@@ -18,7 +18,8 @@ use std::time::Clock;
 /// A call of a host that failed.
 #[derive(Debug, Drop)]
 pub struct HostFault {
-    /// What was called: `listen`, `accept` for a second end of a door, `dial`, `start a thread` or `take`.
+    /// What was called: `listen`, `accept` for a second end of a listener, `dial`, `start a thread` or
+    /// `take`.
     pub call: &'static str,
     /// What the system said, where it did.
     pub error: Option<io::Error>,
@@ -37,7 +38,7 @@ pub struct TcpHost<R: Wait + Copy + Drop, T: Drop> {
 }
 
 impl<R: Wait + Copy + Drop, T: Drop> TcpHost<R, T> {
-    /// A host that did nothing yet. The runtime is passed twice, once for threads and once for sockets. `Err` is want of memory.
+    /// A host that did nothing yet. The runtime is passed twice, once for threads and once for sockets.
     pub fn new(rt: R, sockets: HostRuntime, alloc: Global) -> Result<TcpHost<R, T>, AllocError> {
         let (inbox, post) = event_channel(rt, alloc)?;
         Ok(TcpHost {

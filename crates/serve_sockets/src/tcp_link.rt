@@ -31,7 +31,7 @@ const MAX_RETRIES: u32 = 1_000;
 /// write of which only a front was taken has failed, since its time was over. An interrupted call is tried again, up to 1,000 times in a
 /// row. Once an end of it was shut no end reads any more, not even what came before: so a client that is gone is not read for long.
 ///
-/// The error stream is told that a door's link to another machine is up, and that it is down once a write fails.
+/// The error stream is told that a listener's link to another machine is up, and that it is down once a write fails.
 #[derive(Drop)]
 pub struct TcpLink {
     stream: TcpStream,

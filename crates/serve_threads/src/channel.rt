@@ -54,7 +54,7 @@ impl<R: Wait + Copy + Drop, T: Drop> Model for ChannelInbox<R, T> {
     ghost view = { λ a. record { taken = a.taken; faults = a.faults } };
 }
 
-/// An inbox with an end that isn't metered. `Err` is want of memory.
+/// An inbox with an end that isn't metered.
 pub fn event_channel<R: Wait + Copy + Drop, T: Drop>(
     rt: R,
     alloc: Global,
@@ -117,7 +117,7 @@ impl<R: Wait + Copy + Drop, T: Drop> Inbox<T> for ChannelInbox<R, T> {
 }
 
 impl<R: Wait + Copy + Drop, T: Drop> ChannelPost<R, T> {
-    /// Another end of the same channel, which isn't metered. `Err` is want of memory.
+    /// Another end of the same channel, which isn't metered.
     pub fn again(&self) -> Result<ChannelPost<R, T>, AllocError> {
         Ok(ChannelPost {
             rt: self.rt,
@@ -127,7 +127,7 @@ impl<R: Wait + Copy + Drop, T: Drop> ChannelPost<R, T> {
         })
     }
 
-    /// Another end of the same channel, of which at most so many events wait at a time. `Err` is want of memory.
+    /// Another end of the same channel, of which at most so many events wait at a time.
     pub fn metered(&self, alloc: Global, events: u32) -> Result<ChannelPost<R, T>, AllocError> {
         Ok(ChannelPost {
             rt: self.rt,

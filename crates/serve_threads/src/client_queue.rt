@@ -50,7 +50,7 @@ pub struct ClientWrites<L: Drop> {
     place: Place,
 }
 
-/// The two ends of a queue in which nothing waits, at a place that shares its room with no other. `Err` is want of memory.
+/// The two ends of a queue in which nothing waits, at a place that shares its room with no other.
 pub fn write_queue<L: Drop>(
     alloc: Global,
 ) -> Result<(ClientQueue<L>, ClientWrites<L>), AllocError> {
@@ -58,7 +58,7 @@ pub fn write_queue<L: Drop>(
     write_queue_in(alloc, &common)
 }
 
-/// The two ends of a queue in which nothing waits, at a place that shares this room with others. `Err` is want of memory.
+/// The two ends of a queue in which nothing waits, at a place that shares this room with others.
 pub fn write_queue_in<L: Drop>(
     alloc: Global,
     common: &CommonRoom,
@@ -79,7 +79,7 @@ fn hold(place: &Place, bytes: WireBytes) -> Result<Waiting, CutCause> {
 }
 
 impl<L: Drop> ClientQueue<L> {
-    /// Another end. `Err` is want of memory.
+    /// Another end.
     pub fn again(&self) -> Result<ClientQueue<L>, AllocError> {
         Ok(ClientQueue {
             queue: self.queue.clone()?,

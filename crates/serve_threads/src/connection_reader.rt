@@ -13,16 +13,19 @@ use std::sync::Wait;
 use std::thread;
 use std::time::{Clock, Duration};
 
-/// How many keepers serve one door, and so how many connections there are at most.
+/// How many connection readers serve one listener, and so how many connections
+/// there are at most.
 pub const KEEPERS: u64 = 72;
 
-/// How long a keeper waits after its door failed, in milliseconds.
+/// How long a connection reader waits after its listener failed, in
+/// milliseconds.
 const PAUSE: u64 = 10;
 
-/// Accepts one link after the other at a door, and reads each to its end, or until its connection is cut. The numbers of its connections
-/// are `first` and each 72nd behind it; `first` is 1 to 72, so that no two keepers give the same number, and 0 is none.
+/// Accepts one link after the other at a listener, and reads each to its end, or until its connection is cut. The numbers of its
+/// connections are `first` and each 72nd behind it; `first` is 1 to 72, so that no two connection readers give the same number, and 0 is
+/// none.
 ///
-/// Where the door fails it is tried again, ten milliseconds later.
+/// Where the listener fails it is tried again, ten milliseconds later.
 #[derive(Drop)]
 pub struct ConnectionReader<R: Wait + Clock + Copy + Drop, D: Door, T: Drop> {
     /// For room to read.

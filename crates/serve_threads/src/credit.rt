@@ -24,7 +24,7 @@ pub(crate) struct Debit {
 }
 
 impl Credit {
-    /// So many events may be posted. `Err` is want of memory.
+    /// So many events may be posted.
     pub(crate) fn new(alloc: Global, events: u32) -> Result<Credit, AllocError> {
         let shared = Shared {
             free: AtomicU64::new(events as u64),

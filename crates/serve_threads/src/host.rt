@@ -31,7 +31,7 @@ pub trait Host<T: Drop>: Inbox<T> {
     /// The runtime.
     fn rt(&self) -> Self::Rt;
 
-    /// An end at which events are posted that `take` gives, where the host doesn't tell its events. `Err` is want of memory.
+    /// An end at which events are posted that `take` gives, where the host doesn't tell its events.
     fn post(&self) -> Result<ChannelPost<Self::Rt, T>, AllocError>;
 
     /// Listens at an address, as `localhost:9001`.
@@ -41,7 +41,7 @@ pub trait Host<T: Drop>: Inbox<T> {
         ensures left { Self.left self.new ≡ Self.left self.old }
         ensures cause { HasCause (Self.faults self.old) (Self.faults self.new) result };
 
-    /// A second end of the same door.
+    /// A second end of the same listener.
     fn twin(&mut self, door: &Self::Door) -> Result<Self::Door, Failed>
         ensures done { done self.new ≡ done self.old }
         ensures events { Self.taken self.new ≡ Self.taken self.old }

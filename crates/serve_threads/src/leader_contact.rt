@@ -25,7 +25,7 @@ fn is_heard(message: &RaftMessage) -> bool
 }
 
 impl LeaderContact {
-    /// Nothing was noted. `Err` is want of memory.
+    /// Nothing was noted.
     pub fn new(alloc: Global) -> Result<LeaderContact, AllocError> {
         Ok(LeaderContact {
             noted: Arc::new(alloc, AtomicU64::new(0))?,

@@ -12,8 +12,8 @@ use raft_messages::RaftMessage;
 use std::sync::Wait;
 use wire_words::WireBytes;
 
-/// The queues to all threads that carry what a node says. None of its calls waits for one of them but for the moment in which that
-/// one touches the queue, and each queue is bounded.
+/// The queues to all threads that carry what a node says. None of its calls waits for one of them except for the moment in which
+/// that one touches the queue, and each queue is bounded.
 ///
 /// Once it is dropped the writers shut their links and end, and the threads of peers end, each behind what waits.
 pub struct Queues<R: Wait + Copy + Drop, L: Drop, J: Drop> {

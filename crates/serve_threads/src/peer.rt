@@ -8,7 +8,7 @@ use std::sync::Wait;
 use wire_words::{WireBytes, WireText};
 
 /// Sends messages to one peer, over a link that it dials. Where the link fails it is dropped, and so is the message; the next one
-/// has the peer dialled anew.
+/// has the peer dialled again.
 #[derive(Drop)]
 pub struct Peer<R: Wait + Copy + Drop, D: Door> {
     /// For the bytes of messages, of which there is one at a time.

@@ -31,7 +31,7 @@ fn is_bulk(message: &RaftMessage) -> bool
 }
 
 impl PeerMail {
-    /// Nothing waits. Takes no memory.
+    /// Nothing waits.
     pub(crate) fn new(alloc: Global) -> PeerMail {
         PeerMail {
             bulk: None,

@@ -21,7 +21,7 @@ pub struct PeerQueue {
 }
 
 impl PeerQueue {
-    /// A queue in which nothing waits. `Err` is want of memory.
+    /// A queue in which nothing waits.
     pub fn new(alloc: Global) -> Result<PeerQueue, AllocError> {
         let shared = Shared {
             mail: Mutex::new(PeerMail::new(alloc)),

@@ -47,7 +47,7 @@ pub(crate) struct Held {
 }
 
 impl CommonRoom {
-    /// Room of which nothing is taken. `Err` is want of memory.
+    /// Room of which nothing is taken.
     pub fn new(alloc: Global) -> Result<CommonRoom, AllocError> {
         Ok(CommonRoom {
             count: Arc::new(alloc, Count::new())?,
@@ -70,7 +70,7 @@ impl CommonRoom {
 }
 
 impl Place {
-    /// A place at which nothing waits. `Err` is want of memory.
+    /// A place at which nothing waits.
     pub(crate) fn new(alloc: Global, common: &CommonRoom) -> Result<Place, AllocError> {
         let shared = Shared {
             own: Count::new(),

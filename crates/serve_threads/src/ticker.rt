@@ -16,8 +16,8 @@ const BEAT: u64 = 100;
 /// milliseconds.
 const PATIENCE: u64 = 1_000;
 
-/// Posts a Beat every 100 ms; and a Timeout every 1,000 to 1,999 ms, anew by chance each time, but not where the node answered a
-/// leader or gave its vote in that time.
+/// Posts a Beat every 100 ms; and a Timeout every 1,000 to 1,999 ms, again by chance each time, but not where the node answered
+/// a leader or gave its vote in that time.
 #[derive(Drop)]
 pub struct Ticker<R: Wait + Clock + Copy + Drop, T: Drop> {
     /// For its clock.

@@ -28,7 +28,8 @@ Says budget left read (Spent count) = (count ≡ budget) × (read ≡ budget)
 Says budget left read Closed = Unit {0}
 Says budget left read NoMemory = Unit {0}
 
--- The bytes that were read are posted in order, as bytes of the connection, but for some at the end where they may be lost.
+-- The bytes that were read are posted in order, as bytes of the connection, except for some at the end where they may be
+-- lost.
 pub record Serves {T : Type 0} (conn budget : ℕ) (left left_after : Option (List ℕ)) (posted posted_after : Option (List (Event T))) (end : LinkEnd) : Type 0 where
   pub pieces : List (List ℕ)
   pub lost : List ℕ

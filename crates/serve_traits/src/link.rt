@@ -1,4 +1,4 @@
-//! Links, and the doors by which they come.
+//! Links, and the listeners by which they come.
 
 use dq_base::Failed;
 

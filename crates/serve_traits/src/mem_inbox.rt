@@ -24,7 +24,7 @@ impl<T> Model for MemInbox<T> {
 }
 
 impl<T> MemInbox<T> {
-    /// An inbox with these events, of which none was taken. Takes no memory.
+    /// An inbox with these events, of which none was taken.
     pub fn new(events: Vec<Event<T>>) -> MemInbox<T>
         ensures { result ≡ record { events = events.items; taken = 0; faults = 0 } }
     {

@@ -10,7 +10,7 @@ use crate::serving::LinkEnd;
 use dq_base::Bytes;
 use std::alloc::{AllocError, Global};
 
-/// Room for so many bytes. `Err` is want of memory.
+/// Room for so many bytes.
 pub(crate) fn room_for(alloc: Global, size: usize) -> Result<Vec<u8>, AllocError>
     ensures { IfOk result (λ room. vec_len room ≡ size) }
 {

@@ -19,7 +19,7 @@ pub(crate) struct Feed<R: Wait + Copy + Drop> {
 }
 
 impl<R: Wait + Copy + Drop> Feed<R> {
-    /// A queue without events. `Err` is want of memory.
+    /// A queue without events.
     pub(crate) fn new(rt: R, alloc: Global) -> Result<Feed<R>, AllocError> {
         Ok(Feed {
             rt,

@@ -25,7 +25,7 @@ pub(crate) struct Gate {
 }
 
 impl Gate {
-    /// Nothing was reached. `Err` is want of memory.
+    /// Nothing was reached.
     pub(crate) fn new(alloc: Global) -> Result<Gate, AllocError> {
         Ok(Gate {
             stage: Arc::new(alloc, AtomicU64::new(0))?,

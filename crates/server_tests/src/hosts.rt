@@ -1,4 +1,4 @@
-//! Hosts over memory, and a keeper at the door of one.
+//! Hosts over memory, and a keeper at the listener of one.
 
 use crate::echo::Next;
 use dq_base::Failed;
@@ -9,8 +9,8 @@ use std::alloc::Global;
 use std::sync::Wait;
 use std::test::*;
 
-/// A byte for each call: whether it succeeded. The calls are a listen, a dial, a dial, a second end of the door, and two workers' starts,
-/// of which the second one isn't.
+/// A byte for each call: whether it succeeded. The calls are a listen, a dial, a dial, a second end of the listener, and two workers'
+/// starts, of which the second one isn't.
 fn calls<H: Host<u8>>(host: &mut H) -> [bool; 7] {
     let listened = host.listen("here:1");
     let dialled = host.dial("there:1").is_ok();
@@ -165,7 +165,7 @@ fn is_silent<H: Host<u8>>(host: &mut H, conn: u64) -> Option<bool> {
     Some([begun, over] == *b"ch")
 }
 
-/// A host at whose door two links come.
+/// A host at whose listener two links come.
 fn door_host<R: Wait + Copy + Drop>(rt: R, alloc: Global) -> Option<MemHost<R, u8>> {
     let mut accepts = Vec::new(alloc);
     accepts.push(link(alloc, b"one")?).ok()?;

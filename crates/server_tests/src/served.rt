@@ -31,7 +31,7 @@ impl<R: Wait + Copy + Drop, L: Drop> Outbox<Said> for Replies<R, L> {
     }
 }
 
-/// Has a host serve one place of its door: the queues to it.
+/// Has a host serve one place of its listener: the queues to it.
 pub(crate) fn begin<H: Host<u8>>(
     host: &mut H,
     alloc: Global,

@@ -25,7 +25,8 @@ fn talk<L: Link>(mut near: L, mut far: L) -> Option<([u8; 16], [u8; 5], [u8; 4],
     Some((front, asked, told, is_over))
 }
 
-/// A talk over a host's door, which gives the far end once the first 16 bytes came.
+/// A talk over a host's listener, which gives the far end once the first 16 bytes
+/// came.
 fn talked<H: Host<u8>>(host: &mut H, address: &str) -> Option<([u8; 16], [u8; 5], [u8; 4], bool)> {
     let mut door = host.listen(address).ok()?;
     let mut near = host.dial(address).ok()?;
@@ -46,7 +47,8 @@ fn a_host_talks_over_sockets(rt: HostRuntime) -> Result<(), Fail> {
 const MESSAGES: &[u8; 56] =
     b"\x01\0\0\0\0\0\0\0\x01\0\0\0\x03\0\0\0one word\x02\0\0\0\x03\0\0\0and two of them!\0\0\0\0\x03\0\0\0";
 
-/// How many bytes each read at a host's door gives, where they all came in one piece and there is room for all of them.
+/// How many bytes each read at a host's listener gives, where they all came in one piece and there is room for all of
+/// them.
 fn read_of<H: Host<u8>>(host: &mut H, address: &str) -> Option<[usize; 4]> {
     let mut door = host.listen(address).ok()?;
     let mut near = host.dial(address).ok()?;

@@ -1,4 +1,4 @@
-//! Links and doors that note what is done to them, a byte for each deed.
+//! Links and listeners that note what is done to them, a byte for each deed.
 
 ghost use Rattle.std.specs.Prelude.{◌≡◌, None};
 
@@ -104,7 +104,8 @@ impl Link for Tap {
     }
 }
 
-/// A door that dials links which note the byte at one place of each write. The first of them fails at some writes.
+/// A listener that dials links which note the byte at one place of each write. The first of them fails at some
+/// writes.
 #[derive(Drop)]
 pub(crate) struct TapDoor {
     pub(crate) alloc: Global,

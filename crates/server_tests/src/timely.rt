@@ -13,8 +13,8 @@ const FRONT: &[u8; 16] = b"\x01\0\0\0\0\0\0\0\x01\0\0\0\x03\0\0\0";
 /// More bytes than two sockets hold: 64 MiB.
 const MANY: usize = 67_108_864;
 
-/// Whether a door gives a link that says nothing, for which it waits five seconds; and whether a link takes many bytes that nobody reads,
-/// for which it has ten.
+/// Whether a listener gives a link that says nothing, for which it waits five seconds; and whether a link takes many bytes that nobody
+/// reads, for which it has ten.
 fn hurry<H: Host<u8>>(host: &mut H, alloc: Global, address: &str) -> Option<(bool, bool)> {
     let mut door = host.listen(address).ok()?;
     let _quiet = host.dial(address).ok()?;

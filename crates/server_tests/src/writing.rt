@@ -138,8 +138,8 @@ fn a_writer_writes_what_its_link_is_for(rt: HostRuntime) -> Result<(), Fail> {
     Ok(())
 }
 
-/// Messages at four places of one room, each with its place, its connection and its size: the last three places fill the room, but for
-/// what each has of its own.
+/// Messages at four places of one room, each with its place, its connection and its size: the last three places fill the room, except
+/// for what each has of its own.
 const FILLING: &[(usize, u64, usize)] = &[
     (3, 4, LARGEST),
     (2, 3, LARGEST),
@@ -191,7 +191,8 @@ fn places(alloc: Global, count: u64) -> Option<Vec<Place>> {
     Some(places)
 }
 
-/// Whether a place has no room for a large message while others fill it, but for a small one, and has it again once one of them is gone.
+/// Whether a place has no room for a large message while others fill it, except for a small one, and has it again once one of them is
+/// gone.
 fn shares<R: Wait>(rt: &R, alloc: Global) -> Option<bool> {
     let mut places = places(alloc, 4)?;
     let fills = comes(rt, alloc, places.as_slice(), FILLING, b"wwwnw")?;

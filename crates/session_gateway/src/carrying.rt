@@ -29,14 +29,14 @@ use std::alloc::{AllocError, Global};
 use std::collections::VecDeque;
 use wire_msgs::Response;
 
-/// A response as what a node has to do. `Err` is want of memory.
+/// A response as what a node has to do.
 fn told(alloc: Global, response: Response) -> Result<Act, AllocError>
     ensures { IfOk result (λ act. act ≡ acts.Reply (response ∷ [])) }
 {
     Ok(Act::Reply(Items::new(vec![in alloc; response]?)))
 }
 
-/// A refusal as what a node has to do. `Err` is want of memory.
+/// A refusal as what a node has to do.
 pub(crate) fn refused(alloc: Global, cause: Cause) -> Result<Act, AllocError>
     ensures { IfOk result (λ act. act ≡ acts.Reply (causes.failure (cause_named cause) ∷ [])) }
 {
@@ -44,7 +44,7 @@ pub(crate) fn refused(alloc: Global, cause: Cause) -> Result<Act, AllocError>
     told(alloc, response)
 }
 
-/// The responses of those that are told to connections. `Err` is want of memory.
+/// The responses of those that are told to connections.
 fn responses_in(
     alloc: Global,
     mut said: VecDeque<(u64, Response)>,
@@ -58,7 +58,7 @@ fn responses_in(
     Ok(responses)
 }
 
-/// A reply as what a node has to do. `Err` is want of memory.
+/// A reply as what a node has to do.
 pub(crate) fn answered(alloc: Global, reply: Reply) -> Result<Act, AllocError>
     ensures { IfOk result (λ act. act ≡ acts.Reply (rules.responses_of (reply_named reply))) }
 {
@@ -78,7 +78,8 @@ fn nothing_affected() -> Reply
     })
 }
 
-/// Something beside the sessions. `Err` is want of memory; nothing has changed then.
+/// Something beside the sessions. `Err` means out of memory; nothing has changed
+/// then.
 fn affect(alloc: Global, weight: &mut u64, effect: ClusterEffect) -> Result<Act, AllocError>
     ensures act { IfOk result (λ act. act ≡ act_for (effect_named effect)) }
     ensures weight { OnOk result ((databases : List Database) (sessions : List SessionValue) →
@@ -96,7 +97,8 @@ fn affect(alloc: Global, weight: &mut u64, effect: ClusterEffect) -> Result<Act,
     }
 }
 
-/// A transaction of the session at a place begins. `Err` is want of memory; nothing has changed then.
+/// A transaction of the session at a place begins. `Err` means out of memory; nothing has changed
+/// then.
 fn begin_told(
     alloc: Global,
     sessions: &mut Vec<Session>,
@@ -122,7 +124,8 @@ fn begin_told(
     Ok(act)
 }
 
-/// The transaction of a connection's session ends without its changes. `Err` is want of memory; nothing has changed then.
+/// The transaction of a connection's session ends without its changes. `Err` means out of memory; nothing has changed
+/// then.
 fn end_told(
     alloc: Global,
     sessions: &mut Vec<Session>,
@@ -144,7 +147,8 @@ fn end_told(
     Ok(act)
 }
 
-/// The session at a place changes so, and this is to be done. `Err` is want of memory; nothing has changed then.
+/// The session at a place changes so, and this is to be done. `Err` means out of memory; nothing has changed
+/// then.
 fn change_told(
     sessions: &mut Vec<Session>,
     place: usize,
@@ -171,7 +175,7 @@ fn change_told(
 }
 
 /// Carries out what comes of a request, at the session at a place, which is that of a connection: the sessions and the weight
-/// change so, and the answer is what the node has to do. `Err` is want of memory; nothing has changed then.
+/// change so, and the answer is what the node has to do. `Err` means out of memory; nothing has changed then.
 pub(crate) fn carry_out(
     alloc: Global,
     sessions: &mut Vec<Session>,

@@ -38,8 +38,8 @@ use std::alloc::AllocError;
 use wire_msgs::Request;
 use wire_words::Value;
 
-/// What comes of what is wanted of the session at a place. The number was drawn for the image that its statements leave. `Err` is
-/// want of memory; nothing has changed but what the engine told.
+/// What comes of what is wanted of the session at a place. The number was drawn for the image that its statements leave. `Err`
+/// means out of memory; nothing has changed but what the engine told.
 fn decision_of<E: Engine>(
     call: &Call,
     sessions: &mut [Session],
@@ -111,7 +111,7 @@ fn decision_of<E: Engine>(
 }
 
 /// What comes of a request at the session at a place, which is that of a connection. The number was drawn for the image that its
-/// statements leave. `Err` is want of memory; nothing has changed but what the engine told.
+/// statements leave. `Err` means out of memory; nothing has changed but what the engine told.
 pub(crate) fn decide<E: Engine>(
     call: &Call,
     sessions: &mut [Session],

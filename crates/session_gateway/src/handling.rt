@@ -25,8 +25,8 @@ use sql_engine::Engine;
 use std::alloc::AllocError;
 use wire_msgs::Request;
 
-/// Handles a request of a connection that has a session. The number was drawn for the image that its statements leave. `Err` is
-/// want of memory; nothing has changed then but what the engine told.
+/// Handles a request of a connection that has a session. The number was drawn for the image that its statements leave. `Err`
+/// means out of memory; nothing has changed then but what the engine told.
 pub(crate) fn handle<E: Engine>(
     call: &Call,
     sessions: &mut Vec<Session>,

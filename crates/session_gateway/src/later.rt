@@ -108,7 +108,7 @@ fn put_back(sessions: &mut Vec<Session>, conn: u64, later: WaitingQuery)
 }
 
 /// What comes of a query that was yet to be answered, at its session without it. The number was drawn for the image that it leaves.
-/// `Err` is want of memory; nothing has changed but what the engine told.
+/// `Err` means out of memory; nothing has changed but what the engine told.
 fn decide<E: Engine>(
     call: &Call,
     sessions: &[Session],
@@ -155,7 +155,7 @@ fn decide<E: Engine>(
 }
 
 /// Runs a query that was yet to be answered, at the session at a place, which is that of a connection and is without it. The number
-/// was drawn for the image that it leaves. `Err` is want of memory; nothing has changed then but what the engine told.
+/// was drawn for the image that it leaves. `Err` means out of memory; nothing has changed then but what the engine told.
 fn run<E: Engine>(
     call: &Call,
     sessions: &mut Vec<Session>,
@@ -191,7 +191,7 @@ fn run<E: Engine>(
 }
 
 /// Runs the query that a connection's session has yet to answer, if there is one. The number was drawn for the image that it leaves.
-/// `Err` is want of memory; nothing has changed then but what the engine told.
+/// `Err` means out of memory; nothing has changed then but what the engine told.
 pub(crate) fn resume<E: Engine>(
     call: &Call,
     sessions: &mut Vec<Session>,
@@ -235,7 +235,7 @@ pub(crate) fn resume<E: Engine>(
     }
 }
 
-/// What a reader tells as what a node has to do; none where the query goes back to the node. `Err` is want of memory.
+/// What a reader tells as what a node has to do; none where the query goes back to the node.
 fn told(alloc: Global, read: Read) -> Result<Option<Act>, AllocError>
     ensures { IfOk result (λ act. act ≡ option_map (λ (reply : RuleReply). acts.Reply (responses_of reply)) (read_named read)) }
 {
@@ -257,7 +257,8 @@ fn is_lent(session: &Session) -> bool
     }
 }
 
-/// A reader is done with the query of a connection, and tells this. `Err` is want of memory; nothing has changed then.
+/// A reader is done with the query of a connection, and tells this. `Err` means out of memory; nothing has changed
+/// then.
 pub(crate) fn read_done(
     alloc: Global,
     sessions: &mut Vec<Session>,
@@ -298,7 +299,7 @@ fn is_next(session: &Session) -> bool
     }
 }
 
-/// The first connection whose query is run next, if there is one. Takes no memory.
+/// The first connection whose query is run next, if there is one.
 pub(crate) fn next_due(sessions: &[Session]) -> Option<u64>
     requires { AreApart sessions.now }
     ensures { (databases : List Database) (weight : ℕ) → MatchOption result

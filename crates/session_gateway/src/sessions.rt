@@ -59,8 +59,8 @@ impl Model for Gateway {
     ghost invariant = { λ g. IsTable g.sessions.items };
 }
 
-/// Draws the number of a working image. No number is drawn twice: where none is left there is want of memory, and nothing has
-/// changed then.
+/// Draws the number of a working image. No number is drawn twice: where none is left there means out of memory, and nothing
+/// has changed then.
 fn draw(next: &mut u64) -> Result<u64, AllocError>
     ensures drawn { IfOk result (λ number. number ≡ next.old) }
     ensures later { OnOk result (next.new ≡ next.old + 1) }
@@ -87,7 +87,7 @@ fn is_busy(session: &Session) -> bool
 }
 
 impl Gateway {
-    /// A gateway without sessions. Takes no memory.
+    /// A gateway without sessions.
     #[tactic(auto, using(crate::proofs::Holding::none_seen, crate::proofs::Holding::none_pinned))]
     pub fn new(alloc: Global) -> Gateway
         ensures sessions { (databases : List Database) → seen result databases ≡ no_sessions }
@@ -103,7 +103,7 @@ impl Gateway {
     }
 
     /// Gives a connection a session; false exactly where it has one, or where 64 are there, hung-up ones counted. Nothing has
-    /// changed at false. `Err` is want of memory; nothing has changed then either.
+    /// changed at false. `Err` means out of memory; nothing has changed then either.
     pub fn connect(&mut self, conn: u64) -> Result<bool, AllocError>
         ensures connected { OnOk result ((databases : List Database) → seen self.new databases
             ≡ (if events.connects (seen self.old databases) conn then events.connected (seen self.old databases) conn else seen self.old databases)) }
@@ -119,7 +119,7 @@ impl Gateway {
     /// or something for the node to do. The connection's session is there, is not hung up and has answered the last request; `busy`
     /// tells. The request is moved. The machine is that of the earlier calls with the commands applied since.
     ///
-    /// A refused request has changed nothing. `Err` is want of memory, which also comes where no number is left, after
+    /// A refused request has changed nothing. `Err` means out of memory, which also comes where no number is left, after
     /// 18,446,744,073,709,551,615 requests; then nothing has changed either but what the engine told.
     ///
     /// For each request a number is drawn, which that working image of a transaction gets that the request's statements leave.
@@ -176,8 +176,8 @@ impl Gateway {
 
     /// The entry of an index is applied: the proposal that ends with it is done, and its client, if it is there, is answered; but
     /// where it was the barrier before a query, nothing is told, and the query is to be run next: `next_due` tells it. The machine
-    /// has the entry applied. (A proposal in flight is of the node's term, so its index tells it alone.) `Err` is want of memory;
-    /// nothing has changed then.
+    /// has the entry applied. (A proposal in flight is of the node's term, so its index tells it alone.) `Err` means out of
+    /// memory; nothing has changed then.
     pub fn on_applied(
         &mut self,
         index: u64,
@@ -195,7 +195,7 @@ impl Gateway {
     }
 
     /// The first connection whose query is to be run next, since its barrier is applied; none where there is none. Looks at each
-    /// session; takes no memory.
+    /// session.
     pub fn next_due(&self) -> Option<u64>
         ensures { (databases : List Database) → MatchOption result
             ((conn : ℕ) → is_due ((seen self.now databases).session conn).later ≡ false)
@@ -206,7 +206,7 @@ impl Gateway {
 
     /// Runs the query that a connection has yet to answer: its barrier is applied, or its reader gave it back, since it would change
     /// pages. It is run as if it was asked now, but with no barrier and no reader any more; where the node doesn't serve any more it
-    /// is refused. None where the connection has no such query; then nothing is done. `Err` is want of memory; nothing has changed
+    /// is refused. None where the connection has no such query; then nothing is done. `Err` means out of memory; nothing has changed
     /// then but what the engine told, and the query waits on.
     ///
     /// For each call a number is drawn, as for a request; it costs as one.
@@ -252,7 +252,7 @@ impl Gateway {
 
     /// A reader is done with the query of a connection, and tells this of it: what the node has to tell the connection. None where
     /// no reader has a query of the connection any more, since its client has gone; and where the reader gives the query back, which
-    /// `on_later` then runs. Nothing has changed at none. `Err` is want of memory; nothing has changed then either.
+    /// `on_later` then runs. Nothing has changed at none. `Err` means out of memory; nothing has changed then either.
     pub fn on_read_done(&mut self, conn: u64, read: Read) -> Result<Option<Act>, AllocError>
         ensures done { IfOk result (λ act. (databases : List Database) → ReadDone (seen self.old databases) conn
             (lent_query ((seen self.old databases).session conn).later) (read_named read) (seen self.new databases) act) }
@@ -263,10 +263,10 @@ impl Gateway {
         read_done(self.alloc, &mut self.sessions, conn, read)
     }
 
-    /// The node no longer leads the term of the proposals in flight: they and all transactions end, and each client that
-    /// waits is told so, in the order of the proposals' last entries, those whose queries were to be run next before all others.
-    /// Databases and statements stay, and readers go on. No mark of the machine
-    /// is live then. `Err` is want of memory; nothing has changed then.
+    /// The node no longer leads the term of the proposals in flight: they and all transactions end, and each client that waits
+    /// is told so, in the order of the proposals' last entries, those whose queries were to be run next before all others.
+    /// Databases and statements stay, and readers go on. No mark of the machine is live then. `Err` means out of memory; nothing
+    /// has changed then.
     pub fn on_lost(&mut self, machine: &mut Machine) -> Result<Vec<(u64, Response)>, AllocError>
         requires pins { PinsOf self.old machine.old }
         ensures lost { OnOk result (seen self.new machine.new ≡ events.on_lost (seen self.old machine.old)) }
@@ -281,7 +281,7 @@ impl Gateway {
     }
 
     /// The client of a connection has gone. Its session goes too, with its transaction; where a proposal is in flight, that,
-    /// and the turn to write with it, stays until it is applied or lost. Takes no memory.
+    /// and the turn to write with it, stays until it is applied or lost.
     pub fn on_hangup(&mut self, conn: u64, machine: &mut Machine)
         requires there { ((seen self.old machine.old).session conn).there ≡ true }
         requires open { ((seen self.old machine.old).session conn).hung ≡ false }
@@ -302,7 +302,7 @@ impl Gateway {
     }
 
     /// Whether the connection's last request is yet to be answered: its proposal is in flight, its query is to be run next, or a
-    /// reader has it. Takes no memory.
+    /// reader has it.
     pub fn busy(&self, conn: u64) -> bool
         ensures { (databases : List Database) → result ≡ is_busy ((seen self.now databases).session conn) }
     {
@@ -313,14 +313,14 @@ impl Gateway {
     }
 
     /// How many bytes the sessions keep of what their clients have said, and of what they are to be told, as `kept_size` of
-    /// `session_table` counts them. Looks at each number of a statement; takes no memory.
+    /// `session_table` counts them. Looks at each number of a statement.
     pub fn held(&self) -> u64
         ensures { result ≡ kept_size self.now.sessions }
     {
         kept_size(self.sessions.as_slice())
     }
 
-    /// The same of the session of one connection; 0 where it has none. Takes no memory.
+    /// The same of the session of one connection; 0 where it has none.
     pub fn held_bytes_of(&self, conn: u64) -> u64
         ensures { result ≡ kept_size_at conn self.now.sessions }
     {

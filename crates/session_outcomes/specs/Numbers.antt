@@ -25,7 +25,7 @@ work_in (decisions.Creates flight entries barriers) tx = []
 work_in (decisions.Lends query job) tx = []
 work_in (decisions.Affects effect) tx = []
 
--- the same where the decision may be missing for want of memory
+-- the same where the decision may be missing because memory ran out
 abbrev pub works_in : Result Decision AllocError → Option Transaction → List Known
 works_in (Ok decision) tx = work_in decision tx
 works_in (Err e) tx = []

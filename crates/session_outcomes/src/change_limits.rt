@@ -26,7 +26,7 @@ fn pages_of(bytes: usize) -> u64
 }
 
 /// How many pages an image has after these pages, the sizes page included; none where they can't be applied. Looks at their
-/// numbers; takes no memory.
+/// numbers.
 pub(crate) fn pages_after(pages: &[NumberedPage]) -> Option<u64>
     ensures { MatchOption result (is_none (page_fault pages.now) ≡ false)
         (λ count. (is_none (page_fault pages.now) ≡ true) × (HaveSizes pages.now → (image : Image) → page_count (applied image pages.now) ≡ count)) }
@@ -42,7 +42,7 @@ pub(crate) fn pages_after(pages: &[NumberedPage]) -> Option<u64>
 }
 
 /// How many pages a database has after this change of it; none where all databases would have too many then, or it can't be
-/// applied. There are pages. `Err` is want of memory.
+/// applied. There are pages.
 fn room(
     alloc: Global,
     machine: &Machine,
@@ -74,7 +74,7 @@ fn is_out_of_date(machine: &Machine, name: &str, mark: u64) -> bool
 /// What hinders a change of pages of a database by the session of a connection, which began when the database had so many
 /// commits: another session has the turn to write; there were commits since; or there would be too many pages. Where nothing
 /// does, how many pages the database has after it. There are pages. Looks at each session for each database. The outer `Err`
-/// is want of memory.
+/// means out of memory.
 pub(crate) fn change_refusal(
     alloc: Global,
     machine: &Machine,

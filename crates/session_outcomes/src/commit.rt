@@ -38,7 +38,7 @@ use session_requests::{View, log_full};
 use session_table::{Cause, PendingProposal, ProposalKind, Session, Transaction};
 use std::alloc::{AllocError, Global};
 
-/// The pages that a transaction has changed, which lead to its working image. `Err` is want of memory.
+/// The pages that a transaction has changed, which lead to its working image.
 fn pages_of(
     alloc: Global,
     machine: &Machine,
@@ -59,7 +59,7 @@ fn pages_of(
     )
 }
 
-/// A commit of entries that come next in the log, which isn't full. `Err` is want of memory.
+/// A commit of entries that come next in the log, which isn't full.
 fn flight(
     alloc: Global,
     view: &View,
@@ -93,7 +93,7 @@ fn set_of(view: &View, pages: Vec<NumberedPage>) -> PageSet
     }
 }
 
-/// The entries that bring a change of pages to every node, in the term. `Err` is want of memory.
+/// The entries that bring a change of pages to every node, in the term.
 fn entries_of(alloc: Global, view: &View, name: &Name, set: &PageSet) -> Result<Entries, AllocError>
     requires { is_none (page_fault set.now.pages) ≡ true }
     ensures entries { IfOk result (λ entries. entries ≡ written view.now.term (map Does (split name.now set.now))) }
@@ -102,7 +102,7 @@ fn entries_of(alloc: Global, view: &View, name: &Name, set: &PageSet) -> Result<
     change_entries(alloc, view.term, name, set)
 }
 
-/// A change of these pages, which nothing hinders, is proposed. `Err` is want of memory.
+/// A change of these pages, which nothing hinders, is proposed.
 fn proposed(
     alloc: Global,
     view: &View,
@@ -124,7 +124,7 @@ fn proposed(
     Ok(Decision::Proposes(flight, entries))
 }
 
-/// What hinders a commit of these pages. The outer `Err` is want of memory.
+/// What hinders a commit of these pages. The outer `Err` means out of memory.
 fn refused_commit(
     alloc: Global,
     machine: &Machine,
@@ -151,8 +151,7 @@ fn refused_commit(
     )
 }
 
-/// What the commit of a transaction's pages comes to, where there are some: a proposal, where nothing hinders it. `Err` is want
-/// of memory.
+/// What the commit of a transaction's pages comes to, where there are some: a proposal, where nothing hinders it.
 fn commit(
     alloc: Global,
     view: &View,
@@ -185,7 +184,7 @@ fn commit(
 /// What COMMIT comes to at a session of a node that serves: its transaction is over, where it never took the turn to write or
 /// has changed no page; else its changes are proposed, where nothing hinders them. Where it took the turn, the pages that its
 /// statements changed are compared with those of the pinned image, for which both are copied, one at a time; those that differ
-/// are kept. No other page is looked at but three. `Err` is want of memory.
+/// are kept. No other page is looked at but three.
 #[tactic(auto, unfolding(session_spec::specs::Requests::does, session_spec::specs::Requests::committed))]
 pub fn committing(
     alloc: Global,

@@ -29,7 +29,7 @@ use session_table::{Cause, Change, PendingProposal, ProposalKind};
 use sql_engine::StatementResult;
 use std::alloc::{AllocError, Global};
 
-/// Statements that ran are refused: their rows can't be told, or else for this cause. `Err` is want of memory.
+/// Statements that ran are refused: their rows can't be told, or else for this cause.
 pub(crate) fn refused(
     alloc: Global,
     rows: bool,
@@ -47,7 +47,7 @@ pub(crate) fn refused(
     }
 }
 
-/// Statements that changed no page are answered. `Err` is want of memory.
+/// Statements that changed no page are answered.
 pub(crate) fn idle(
     alloc: Global,
     rows: bool,
@@ -64,7 +64,7 @@ pub(crate) fn idle(
     }
 }
 
-/// Statements that changed pages in a transaction are answered; the number is that of its working image then. `Err` is want of memory.
+/// Statements that changed pages in a transaction are answered; the number is that of its working image then.
 #[tactic(auto, using(crate::proofs::InsideRun::works_on))]
 pub(crate) fn worked(
     alloc: Global,
@@ -99,7 +99,7 @@ pub(crate) fn flight(view: &View, entries: &Entries, kind: ProposalKind) -> Pend
     }
 }
 
-/// A write outside a transaction is proposed. `Err` is want of memory.
+/// A write outside a transaction is proposed.
 pub(crate) fn proposed(
     alloc: Global,
     view: &View,

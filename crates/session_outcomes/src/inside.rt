@@ -32,7 +32,7 @@ use session_table::{Cause, Session, Transaction};
 use sql_engine::StatementResult;
 use std::alloc::{AllocError, Global};
 
-/// A copy of the pages that statements changed. `Err` is want of memory.
+/// A copy of the pages that statements changed.
 fn change_of(alloc: Global, ran: &AllRan) -> Result<PageSet, AllocError>
     ensures { IfOk result (λ copy. copy ≡ change_in ran.now) }
 {
@@ -41,7 +41,7 @@ fn change_of(alloc: Global, ran: &AllRan) -> Result<PageSet, AllocError>
     Ok(PageSet { tx: set.tx, pages })
 }
 
-/// The pages of a statement can't be applied. `Err` is want of memory.
+/// The pages of a statement can't be applied.
 fn too_large(
     setting: &DecisionContext,
     sessions: &[Session],
@@ -74,7 +74,7 @@ fn too_large(
     refused(alloc, rows, answer, cause)
 }
 
-/// Statements changed pages: the transaction takes the turn, where nothing hinders it. `Err` is want of memory.
+/// Statements changed pages: the transaction takes the turn, where nothing hinders it.
 fn work(
     setting: &DecisionContext,
     sessions: &[Session],
@@ -112,8 +112,8 @@ fn work(
     }
 }
 
-/// What statements come to that ran in a transaction, over its own image: they are answered, and the transaction takes the turn
-/// to write with the first that changes pages, where nothing hinders it; the number is that of its working image then. `Err` is want of memory.
+/// What statements come to that ran in a transaction, over its own image: they are answered, and the transaction takes the turn to write with
+/// the first that changes pages, where nothing hinders it; the number is that of its working image then.
 pub(crate) fn decision_inside(
     setting: &DecisionContext,
     sessions: &[Session],

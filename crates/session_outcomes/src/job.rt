@@ -54,7 +54,7 @@ pub enum Read {
     GivenBack,
 }
 
-/// What an answer that changed no page is told as. `Err` is want of memory.
+/// What an answer that changed no page is told as.
 fn rows_told(alloc: Global, answer: StatementResult) -> Result<Read, AllocError>
     requires { IsTable answer.columns answer.rows }
     ensures { IfOk result (RowsTold answer) }
@@ -65,7 +65,8 @@ fn rows_told(alloc: Global, answer: StatementResult) -> Result<Read, AllocError>
     }
 }
 
-/// Runs a query over an image, by an engine that forgets all numbers of images. Takes no memory beside the engine's.
+/// Runs a query over an image, by an engine that forgets all numbers of images. Allocates nothing beside the
+/// engine's.
 fn run_query<E: Engine>(engine: &mut E, image: &Image, query: &Query, limit: Option<u64>) -> Ending
     ensures stays { Stays (E.kind engine.old) (E.kind engine.new) (E.refused_openings engine.old) (E.refused_openings engine.new) }
     ensures ran { RanTo (call_on E.meaning E.kind E.told engine.old engine.new) 0 image.now (query.now ∷ []) result }
@@ -74,7 +75,7 @@ fn run_query<E: Engine>(engine: &mut E, image: &Image, query: &Query, limit: Opt
     run_unnumbered(engine, image, query.text(), query.params(), options)
 }
 
-/// What is told of a query that ended so. `Err` is want of memory.
+/// What is told of a query that ended so.
 fn read_of(alloc: Global, ending: Ending) -> Result<Read, AllocError>
     requires { IsWellFormed ending }
     ensures { (tx : ℕ) (job : Job) (ended : engines.Ending) → Shows tx job.image ended ending → IfOk result (λ read. job_reply job ended ≡ read_named read) }
@@ -92,7 +93,7 @@ fn read_of(alloc: Global, ending: Ending) -> Result<Read, AllocError>
 }
 
 /// Runs a job by an engine of the reader's own, which forgets all numbers of images: what is told of it, or that the query goes
-/// back to the node, where it would change pages. The image isn't copied. `Err` is want of memory; the job then stands.
+/// back to the node, where it would change pages. The image isn't copied. `Err` means out of memory; the job then stands.
 pub fn run_job<E: Engine>(alloc: Global, job: &ReadJob, engine: &mut E) -> Result<Read, AllocError>
     ensures stays { Stays (E.kind engine.old) (E.kind engine.new) (E.refused_openings engine.old) (E.refused_openings engine.new) }
     ensures ran { IfOk result (TellsJob (E.meaning (E.kind engine.old)) (E.kind engine.old) job.now (E.told engine.old) (E.told engine.new)) }

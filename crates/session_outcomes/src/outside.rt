@@ -29,7 +29,7 @@ use session_table::{Cause, Session, newest_of};
 use sql_engine::StatementResult;
 use std::alloc::{AllocError, Global};
 
-/// The pages of a statement can't be applied. `Err` is want of memory.
+/// The pages of a statement can't be applied.
 fn too_large(
     setting: &DecisionContext,
     sessions: &[Session],
@@ -60,7 +60,7 @@ fn too_large(
     refused(alloc, rows, answer, cause)
 }
 
-/// Statements changed pages: a write is proposed, where nothing hinders it. `Err` is want of memory.
+/// Statements changed pages: a write is proposed, where nothing hinders it.
 fn write(
     setting: &DecisionContext,
     sessions: &[Session],
@@ -99,8 +99,7 @@ fn write(
 }
 
 /// What statements come to that ran outside a transaction, over the newest image of their session's database, whose name this
-/// is: they are answered, where they changed no page; else a write is proposed, where nothing hinders it. `Err` is want of
-/// memory.
+/// is: they are answered, where they changed no page; else a write is proposed, where nothing hinders it.
 pub(crate) fn decision_outside(
     setting: &DecisionContext,
     sessions: &[Session],

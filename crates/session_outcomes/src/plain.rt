@@ -30,7 +30,7 @@ use session_table::{
 use std::alloc::{AllocError, Global};
 use wire_msgs::Response;
 
-/// The entry that makes a new database, in a term. `Err` is want of memory.
+/// The entry that makes a new database, in a term.
 fn opening_entry(alloc: Global, term: u64, name: &Name) -> Result<Entry, AllocError>
     ensures entry { IfOk result (λ entry. written term (Does (OpenDb name.now) ∷ []) ≡ entry ∷ []) }
     ensures spelled { OnOk result (HasSpelling (Does (OpenDb name.now))) }
@@ -54,7 +54,7 @@ fn next_index(view: &View) -> u64
     view.last + 1
 }
 
-/// The proposal of a new database, with barrier reads or not, where the log has room. `Err` is want of memory.
+/// The proposal of a new database, with barrier reads or not, where the log has room.
 fn opening(alloc: Global, view: &View, name: Name, barriers: bool) -> Result<Decision, AllocError>
     requires { limits.log_full view.now ≡ false }
     ensures works { IfOk result (λ decision. (tx : Option TransactionValue) → work_in decision tx ≡ []) }
@@ -75,7 +75,7 @@ fn opening(alloc: Global, view: &View, name: Name, barriers: bool) -> Result<Dec
 }
 
 /// What comes of OPEN where a new database is wanted, and the log has room: a proposal, or a refusal where the pages of all
-/// databases would be too many. `Err` is want of memory.
+/// databases would be too many.
 #[tactic(auto, unfolding(session_spec::specs::Requests::does))]
 pub fn creating(
     alloc: Global,
@@ -100,7 +100,7 @@ pub fn creating(
     opening(alloc, view, name, barriers)
 }
 
-/// What comes of a BEGIN where no transaction is open. Takes no memory.
+/// What comes of a BEGIN where no transaction is open.
 #[tactic(auto, unfolding(session_spec::specs::Requests::does))]
 pub fn beginning(sessions: &[Session], conn: u64, session: &Session, at_once: bool) -> Decision
     requires apart { AreApart sessions.now }
@@ -121,7 +121,7 @@ pub fn beginning(sessions: &[Session], conn: u64, session: &Session, at_once: bo
     Decision::Begins(true)
 }
 
-/// What comes of PREPARE, where there is room for one more statement. Takes no memory.
+/// What comes of PREPARE, where there is room for one more statement.
 #[tactic(auto, unfolding(session_spec::specs::Requests::does))]
 pub fn preparing(session: &Session, prepared: Prepared, tail: Option<u64>) -> Decision
     requires { statements.free_id session.now.statements.items < 64 }
@@ -140,7 +140,7 @@ pub fn preparing(session: &Session, prepared: Prepared, tail: Option<u64>) -> De
     Decision::Answers(Change::Prepares(prepared), reply)
 }
 
-/// What comes of FINALIZE, where the statement is there. Takes no memory.
+/// What comes of FINALIZE, where the statement is there.
 #[tactic(auto, unfolding(session_spec::specs::Requests::does))]
 pub fn finalizing(session: &Session, id: u32) -> Decision
     requires { IsSome (statements.prepared_at session.now.statements.items id) }
@@ -152,7 +152,7 @@ pub fn finalizing(session: &Session, id: u32) -> Decision
     Decision::Answers(Change::Drops(id), Reply::Single(Response::Empty))
 }
 
-/// What comes of OPEN where the database is there. Takes no memory.
+/// What comes of OPEN where the database is there.
 #[tactic(auto, unfolding(session_spec::specs::Requests::does))]
 pub fn opened(name: Name, barriers: bool) -> Decision
     ensures works { (tx : Option TransactionValue) → work_in result tx ≡ [] }
@@ -165,7 +165,7 @@ pub fn opened(name: Name, barriers: bool) -> Decision
     )
 }
 
-/// What comes of a request that is told a response, and nothing else. Takes no memory.
+/// What comes of a request that is told a response, and nothing else.
 #[tactic(auto, unfolding(session_spec::specs::Requests::does))]
 pub fn telling(response: Response) -> Decision
     ensures works { (tx : Option TransactionValue) → work_in result tx ≡ [] }

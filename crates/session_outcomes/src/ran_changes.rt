@@ -26,8 +26,8 @@ use session_table::{Cause, Session};
 use sql_engine::StatementResult;
 use std::alloc::{AllocError, Global};
 
-/// What hinders a set of pages, or how many pages the database has after it. There are pages. The outer `Err` is want of
-/// memory.
+/// What hinders a set of pages, or how many pages the database has after it. There are pages. The outer `Err` means out
+/// of memory.
 fn refusal_by_limits(
     alloc: Global,
     machine: &Machine,
@@ -67,7 +67,7 @@ pub(crate) fn refused_change(
     refusal_by_limits(alloc, machine, sessions, conn, name, mark, ran.change())
 }
 
-/// What hinders pages that can't be applied. `Err` is want of memory.
+/// What hinders pages that can't be applied.
 pub(crate) fn oversize_refusal(
     alloc: Global,
     machine: &Machine,
@@ -89,7 +89,7 @@ pub(crate) fn oversize_refusal(
     }
 }
 
-/// The entries of the pages that statements changed, which can be applied. `Err` is want of memory.
+/// The entries of the pages that statements changed, which can be applied.
 pub(crate) fn entries_of(
     alloc: Global,
     term: u64,

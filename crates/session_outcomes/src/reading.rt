@@ -102,7 +102,7 @@ fn is_lent(view: &View, session: &Session, ending: &Ending) -> bool
 }
 
 /// A query as a reader's job, over the newest image of the session's database, which the machine shares where it keeps it whole;
-/// else it is copied. `Err` is want of memory.
+/// else it is copied.
 fn job(setting: &DecisionContext, session: &Session, query: &Query) -> Result<ReadJob, AllocError>
     requires { IsSome session.now.database }
     ensures { IfOk result (λ job. job ≡ job_of (machine_of setting.now.machine.now) (session_of setting.now.machine.now session.now) query.now) }
@@ -126,7 +126,7 @@ fn job(setting: &DecisionContext, session: &Session, query: &Query) -> Result<Re
     })
 }
 
-/// A query is lent to a reader. `Err` is want of memory.
+/// A query is lent to a reader.
 fn lent(
     setting: &DecisionContext,
     session: &Session,
@@ -144,7 +144,7 @@ fn lent(
     Ok(Decision::Lends(query, job))
 }
 
-/// What a query that ran comes to: where the engine cut it off, and it may be lent, a reader runs it. `Err` is want of memory.
+/// What a query that ran comes to: where the engine cut it off, and it may be lent, a reader runs it.
 fn decision_of_query(
     setting: &DecisionContext,
     sessions: &[Session],
@@ -181,7 +181,7 @@ fn query_limit(view: &View, session: &Session) -> Option<u64> {
     view.steps.statement
 }
 
-/// What a query comes to that the node runs now. `Err` is want of memory.
+/// What a query comes to that the node runs now.
 fn read_now<E: Engine>(
     setting: &DecisionContext,
     sessions: &[Session],
@@ -225,7 +225,7 @@ fn read_now<E: Engine>(
 /// What a query comes to at a session of a node that serves. Outside a transaction, where its connection asked for barrier reads, it
 /// waits for a barrier, and nothing is run now. Else it runs, as `run_single` runs a statement; where the engine cuts it off outside
 /// a transaction, and the node has readers, it is lent to one of them, with the newest image of the database. Nothing has changed
-/// yet. Text and parameters are moved. `Err` is want of memory.
+/// yet. Text and parameters are moved.
 #[tactic(auto, unfolding(session_spec::specs::Requests::does))]
 pub fn read_statement<E: Engine>(
     setting: &DecisionContext,

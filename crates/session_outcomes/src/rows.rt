@@ -10,7 +10,6 @@ use std::alloc::{AllocError, Global};
 use wire_msgs::Response;
 
 /// The reply to statements that ran with this answer of the last: its rows, where these are to be told; or why they can't be.
-/// `Err` is want of memory.
 pub(crate) fn told(
     alloc: Global,
     rows: bool,

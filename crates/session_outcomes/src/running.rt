@@ -84,7 +84,7 @@ fn run_on<E: Engine>(
 }
 
 /// Runs a statement over the newest image of the database of a name, which the machine lends: where it keeps that image whole
-/// nothing is copied. `Err` is want of memory.
+/// nothing is copied.
 fn run_lent<E: Engine>(
     setting: &DecisionContext,
     name: &str,
@@ -115,8 +115,7 @@ fn run_lent<E: Engine>(
     Ok(run_on(engine, &image, before, number, text, params, options))
 }
 
-/// Runs a statement over the image of a session: that of its transaction, or the newest of its database, which is lent. `Err`
-/// is want of memory.
+/// Runs a statement over the image of a session: that of its transaction, or the newest of its database, which is lent.
 pub(crate) fn run_statement<E: Engine>(
     setting: &DecisionContext,
     session: &Session,
@@ -153,8 +152,7 @@ pub(crate) fn run_statement<E: Engine>(
     }
 }
 
-/// Runs the statements of a text one after another over a copy of the newest image of the database of a name. `Err` is want of
-/// memory.
+/// Runs the statements of a text one after another over a copy of the newest image of the database of a name.
 fn run_newest<E: Engine>(
     setting: &DecisionContext,
     name: &str,
@@ -178,7 +176,7 @@ fn run_newest<E: Engine>(
     Ok(ending)
 }
 
-/// Runs the statements of a text one after another over the image of a session, which is put back. `Err` is want of memory.
+/// Runs the statements of a text one after another over the image of a session, which is put back.
 fn run_statements<E: Engine>(
     setting: &DecisionContext,
     session: &mut Session,
@@ -237,7 +235,7 @@ fn run_at<E: Engine>(
     run_statements(setting, session, script, params, options, engine)
 }
 
-/// What statements that ran come to at their session: in its transaction, or outside of one. `Err` is want of memory.
+/// What statements that ran come to at their session: in its transaction, or outside of one.
 pub(crate) fn decision_of(
     setting: &DecisionContext,
     sessions: &[Session],
@@ -273,7 +271,6 @@ pub(crate) fn decision_of(
 /// What a statement comes to that runs with these parameters, and whose rows are told or not, at a session of a node that serves.
 /// Nothing has changed yet. The number was drawn for the image that the statement leaves. No image is copied: outside a transaction
 /// the machine lends the newest one of the database, where it keeps that whole, and inside one the statement runs over its own.
-/// `Err` is want of memory.
 pub fn run_single<E: Engine>(
     setting: &DecisionContext,
     sessions: &[Session],
@@ -307,7 +304,7 @@ pub fn run_single<E: Engine>(
 /// What the statements of a text come to, which run one after another with as many parameters as each counts, and whose rows are
 /// dropped, at the session at a place, of a node that serves. The number was drawn for the image that they leave. Nothing has
 /// changed yet: the statements work on the transaction's image in place, and it is put back; outside a transaction they work so on
-/// a copy of the newest image of the database. Besides that copy, only pages are copied that they change. `Err` is want of memory.
+/// a copy of the newest image of the database. Besides that copy, only pages are copied that they change.
 pub fn run_script<E: Engine>(
     setting: &DecisionContext,
     sessions: &mut [Session],

@@ -23,7 +23,7 @@ use session_requests::{View, log_full};
 use session_table::{Cause, ProposalKind, Query};
 use std::alloc::{AllocError, Global};
 
-/// The entry that gives the cluster these servers, in a term. `Err` is want of memory.
+/// The entry that gives the cluster these servers, in a term.
 fn servers_entry(alloc: Global, term: u64, servers: &Servers) -> Result<Entry, AllocError>
     requires { IsConfiguration servers.now }
     ensures entry { IfOk result (λ entry. entry ≡ written_in term (Configures servers.now)) }
@@ -38,7 +38,7 @@ fn servers_entry(alloc: Global, term: u64, servers: &Servers) -> Result<Entry, A
     })
 }
 
-/// A barrier of a term. `Err` is want of memory.
+/// A barrier of a term.
 fn barrier_entry(alloc: Global, term: u64) -> Result<Entry, AllocError>
     ensures { IfOk result (λ entry. entry ≡ written_in term Other) }
 {
@@ -50,7 +50,7 @@ fn barrier_entry(alloc: Global, term: u64) -> Result<Entry, AllocError>
     })
 }
 
-/// The proposal of an entry that comes next in the log, which isn't full. `Err` is want of memory.
+/// The proposal of an entry that comes next in the log, which isn't full.
 fn proposed_alone(
     alloc: Global,
     view: &View,
@@ -69,7 +69,7 @@ fn proposed_alone(
 }
 
 /// What comes of ADD, ASSIGN and REMOVE where the cluster is to get these servers: one entry, which is answered once it is applied;
-/// or a refusal where nothing more is appended to the log. `Err` is want of memory.
+/// or a refusal where nothing more is appended to the log.
 #[tactic(auto, unfolding(session_spec::specs::Requests::does))]
 pub fn changing(alloc: Global, view: &View, servers: &Servers) -> Result<Decision, AllocError>
     requires { IsConfiguration servers.now }
@@ -85,7 +85,7 @@ pub fn changing(alloc: Global, view: &View, servers: &Servers) -> Result<Decisio
 }
 
 /// What comes of a query that waits for a barrier: the barrier, behind which the query is run; or a refusal where nothing more is
-/// appended to the log. `Err` is want of memory.
+/// appended to the log.
 pub(crate) fn waiting(alloc: Global, view: &View, query: Query) -> Result<Decision, AllocError>
     ensures works { IfOk result (λ decision. (tx : Option TransactionValue) → work_in decision tx ≡ []) }
     ensures comes { (m : RuleMachine) (s : RuleSession) → IfOk result (MatchesOutcome view.now m s (barrier_first view.now s query)) }

@@ -13,7 +13,7 @@ use log_commands::{Command, split, write_command};
 use raft_messages::{Entries, Entry, EntryKind, SharedBytes};
 use std::alloc::{AllocError, Global};
 
-/// A command as an entry of a term. No number of it is out of its range. `Err` is want of memory.
+/// A command as an entry of a term. No number of it is out of its range.
 pub(crate) fn entry(alloc: Global, term: u64, command: &Command) -> Result<Entry, AllocError>
     requires { numbers_fit command.now ≡ true }
     ensures entry { IfOk result (λ entry. entry ≡ written_in term (Does command.now)) }
@@ -28,7 +28,7 @@ pub(crate) fn entry(alloc: Global, term: u64, command: &Command) -> Result<Entry
     })
 }
 
-/// Commands as entries of a term, in order. No number of them is out of its range. `Err` is want of memory.
+/// Commands as entries of a term, in order. No number of them is out of its range.
 pub(crate) fn entries(alloc: Global, term: u64, commands: &[Command]) -> Result<Entries, AllocError>
     requires { AllByRecursion (λ command. numbers_fit command ≡ true) commands.now }
     ensures entries { IfOk result (λ entries. entries ≡ written term (map Does commands.now)) }
@@ -43,7 +43,7 @@ pub(crate) fn entries(alloc: Global, term: u64, commands: &[Command]) -> Result<
 }
 
 /// The entries that bring a change of a database's pages to every node, as commands of a term. The pages can be applied. Each is
-/// copied once. `Err` is want of memory.
+/// copied once.
 #[tactic(auto, using(crate::proofs::LowNumbers::splits))]
 pub(crate) fn change_entries(
     alloc: Global,
@@ -61,7 +61,7 @@ pub(crate) fn change_entries(
 }
 
 /// The number of the transaction whose entries come next behind an index in a term; 0 where the two have no such number of
-/// 64 bits: the term is above 4,294,967,295, or the index is not below it. Takes no memory.
+/// 64 bits: the term is above 4,294,967,295, or the index is not below it.
 #[tactic(auto, unfolding(session_spec::specs::Entries::tx_of))]
 pub(crate) fn transaction_number(term: u64, last: u64) -> u64
     ensures number { term ≤ 4294967295 → last < 4294967295 → result ≡ tx_of term (suc last) }

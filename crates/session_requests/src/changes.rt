@@ -65,7 +65,7 @@ fn copied(alloc: Global, servers: &[Server]) -> Result<Vec<Server>, AllocError>
     Ok(copies)
 }
 
-/// The servers with a new one. `Err` is want of memory.
+/// The servers with a new one.
 fn with_server(alloc: Global, servers: &[Server], new: Server) -> Result<Servers, AllocError>
     ensures { IfOk result (λ all. all ≡ rule_servers.with_server new servers.now) }
 {
@@ -86,7 +86,7 @@ fn is_barred_node(servers: &[Server], id: u64, address: &WireText) -> bool
         || servers.len() >= MAX_SERVERS
 }
 
-/// What ADD wants of a serving leader. `Err` is want of memory.
+/// What ADD wants of a serving leader.
 pub(crate) fn wanted_by_add(
     alloc: Global,
     view: &View,
@@ -124,7 +124,7 @@ fn in_role(alloc: Global, id: u64, role: ServerRole, server: &Server) -> Result<
     Ok(changed)
 }
 
-/// The servers with another role of one. `Err` is want of memory.
+/// The servers with another role of one.
 fn with_role(
     alloc: Global,
     servers: &[Server],
@@ -159,7 +159,7 @@ fn role_hindrance(view: &View, id: u64, role: ServerRole) -> Option<Cause>
     }
 }
 
-/// What ASSIGN wants of a serving leader for another server than this one. `Err` is want of memory.
+/// What ASSIGN wants of a serving leader for another server than this one.
 fn wanted_by_role(
     alloc: Global,
     view: &View,
@@ -181,7 +181,7 @@ fn is_this_node(view: &View, id: u64) -> bool
     id == view.id
 }
 
-/// What ASSIGN wants of a serving leader. `Err` is want of memory.
+/// What ASSIGN wants of a serving leader.
 pub(crate) fn wanted_by_assign(
     alloc: Global,
     view: &View,
@@ -202,7 +202,7 @@ pub(crate) fn wanted_by_assign(
     wanted_by_role(alloc, view, id, role)
 }
 
-/// The servers without one. `Err` is want of memory.
+/// The servers without one.
 fn without_server(alloc: Global, servers: &[Server], id: u64) -> Result<Servers, AllocError>
     ensures { IfOk result (λ rest. rest ≡ rule_servers.without_server id servers.now) }
 {
@@ -215,7 +215,7 @@ fn without_server(alloc: Global, servers: &[Server], id: u64) -> Result<Servers,
     Ok(Items::new(rest))
 }
 
-/// What REMOVE wants of a serving leader. `Err` is want of memory.
+/// What REMOVE wants of a serving leader.
 pub(crate) fn wanted_by_remove(
     alloc: Global,
     view: &View,

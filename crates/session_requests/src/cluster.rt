@@ -1,4 +1,5 @@
-//! Requests about the cluster and its servers, but for those that change these.
+//! Requests about the cluster and its servers, except for those that change
+//! these.
 
 ghost use Rattle.std.specs.Prelude.{◌≡◌, ◌==◌, ℕ, List, [], map, Some, None, IfOk};
 ghost use Rattle.std.specs.List.{list_any};
@@ -80,7 +81,7 @@ fn leader_known(
     }
 }
 
-/// What LEADER wants. `Err` is want of memory.
+/// What LEADER wants.
 pub(crate) fn wanted_by_leader(alloc: Global, view: &View) -> Result<RequestPlan, AllocError>
     ensures { IfOk result (λ wanted. meant [] wanted ≡ rules.Tells (rules.leader_known view.now.servers view.now.leader)) }
 {
@@ -128,7 +129,7 @@ fn infos_of(alloc: Global, roles: bool, servers: &[Server]) -> Result<Vec<NodeIn
     Ok(infos)
 }
 
-/// What CLUSTER wants in a format. `Err` is want of memory.
+/// What CLUSTER wants in a format.
 pub(crate) fn wanted_by_cluster(
     alloc: Global,
     view: &View,

@@ -31,7 +31,7 @@ pub(crate) fn has_database(session: &Session) -> bool
     }
 }
 
-/// The text as a name, where it may be one. It holds no NUL. `Err` is want of memory.
+/// The text as a name, where it may be one. It holds no NUL.
 fn name_of(alloc: Global, text: &str) -> Result<Option<Name>, AllocError>
     requires { has_nul text.now ≡ false }
     ensures { IfOk result (λ name. MatchOption name (rules.is_name text.now ≡ false) (λ name. (rules.is_name text.now ≡ true) × (name ≡ text.now))) }
@@ -39,7 +39,7 @@ fn name_of(alloc: Global, text: &str) -> Result<Option<Name>, AllocError>
     Ok(Name::new(String::from_str(alloc, text)?))
 }
 
-/// The database of a name, lent; `None` exactly where there is none. Looks at the databases; takes no memory.
+/// The database of a name, lent; `None` exactly where there is none. Looks at the databases.
 pub fn database_named<'a>(databases: &'a [Database], name: &str) -> Option<&'a Database>
     ensures { MatchOption result (named name.now databases.now ≡ None) (λ database. named name.now databases.now ≡ Some database.now) }
 {
@@ -58,7 +58,7 @@ fn is_there(machine: &Machine, name: &str) -> bool
     machine.newest(name).is_some()
 }
 
-/// What OPEN wants by a name of which there is no database, with barrier reads or not. `Err` is want of memory.
+/// What OPEN wants by a name of which there is no database, with barrier reads or not.
 fn wanted_by_new(
     alloc: Global,
     view: &View,
@@ -80,7 +80,7 @@ fn wanted_by_new(
     Ok(RequestPlan::Creates(name, barriers))
 }
 
-/// What OPEN wants of a serving leader by a name that holds no NUL, with barrier reads or not. `Err` is want of memory.
+/// What OPEN wants of a serving leader by a name that holds no NUL, with barrier reads or not.
 pub(crate) fn wanted_by_open(
     alloc: Global,
     view: &View,
@@ -130,7 +130,7 @@ fn is_too_big(name: &str, lengths: Lengths) -> bool
     files_size(name.len() as u64, lengths.main as u64, lengths.side as u64) > MAX_QUERY_ANSWER
 }
 
-/// The name of the side file of a database. `Err` is want of memory.
+/// The name of the side file of a database.
 fn side_name(alloc: Global, name: &str) -> Result<String, AllocError>
     ensures { IfOk result (λ side. string_bytes side ≡ name.now ++ codes "-side") }
 {
@@ -139,7 +139,7 @@ fn side_name(alloc: Global, name: &str) -> Result<String, AllocError>
     Ok(side)
 }
 
-/// The files of a database as they are told. `Err` is want of memory.
+/// The files of a database as they are told.
 fn files_of(alloc: Global, name: &str, image: Image) -> Result<Response, AllocError>
     ensures { IfOk result (λ response. response ≡ rules.files_of name.now image) }
 {
@@ -156,7 +156,7 @@ fn files_of(alloc: Global, name: &str, image: Image) -> Result<Response, AllocEr
     })
 }
 
-/// What DUMP wants of a database. `Err` is want of memory.
+/// What DUMP wants of a database.
 pub(crate) fn wanted_by_dump(
     alloc: Global,
     machine: &Machine,

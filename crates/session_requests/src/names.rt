@@ -35,7 +35,7 @@ fn place_of(names: &[Name], name: &Name) -> Result<usize, usize>
     Err(names.len())
 }
 
-/// Puts a name among names that ascend, where it isn't there. `Err` is want of memory.
+/// Puts a name among names that ascend, where it isn't there.
 fn add_name(alloc: Global, names: &mut Vec<Name>, name: &Name) -> Result<(), AllocError>
     ensures { OnOk result (names.new.items ≡ with_name name.now names.old.items) }
 {
@@ -62,7 +62,7 @@ fn proposed_by(session: &Session) -> Option<&Name>
     }
 }
 
-/// Puts the name of the new database that a session's proposal is for among others. `Err` is want of memory.
+/// Puts the name of the new database that a session's proposal is for among others.
 fn add_proposed(alloc: Global, names: &mut Vec<Name>, session: &Session) -> Result<(), AllocError>
     ensures { OnOk result (names.new.items ≡ limits.with_names names.old.items (proposed_by session.now)) }
 {
@@ -73,7 +73,6 @@ fn add_proposed(alloc: Global, names: &mut Vec<Name>, session: &Session) -> Resu
 }
 
 /// The names of the databases that there are and of those that are proposed, ascending by their bytes. Looks at each session.
-/// `Err` is want of memory.
 pub fn all_names(
     alloc: Global,
     machine: &Machine,
@@ -96,7 +95,7 @@ fn is_among(names: &[Name], name: &Name) -> bool
     names.iter().any(|other| name == other)
 }
 
-/// Whether there would be more than 16 databases with the one of a name. `Err` is want of memory.
+/// Whether there would be more than 16 databases with the one of a name.
 pub(crate) fn one_too_many(
     alloc: Global,
     machine: &Machine,

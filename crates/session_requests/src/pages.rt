@@ -72,7 +72,7 @@ fn is_full(own: u64, others: u64) -> bool
 }
 
 /// Whether all databases would have more than 16,384 pages together, those that are proposed counted, if the one of a name had
-/// so many. Looks at each session for each database. `Err` is want of memory.
+/// so many. Looks at each session for each database.
 pub fn pages_full(
     alloc: Global,
     machine: &Machine,

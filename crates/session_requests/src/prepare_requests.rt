@@ -35,7 +35,7 @@ fn tail_of(wide: bool, piece: &StatementSpan) -> Option<u64>
     if wide { Some(piece.after) } else { None }
 }
 
-/// What a PREPARE wants whose first statement may be prepared. `Err` is want of memory.
+/// What a PREPARE wants whose first statement may be prepared.
 fn prepares_first(
     alloc: Global,
     session: &Session,
@@ -53,7 +53,7 @@ fn prepares_first(
     Ok(with_room(session, prepared, tail))
 }
 
-/// What a PREPARE of the only statement of a text wants. `Err` is want of memory.
+/// What a PREPARE of the only statement of a text wants.
 fn prepares_only(
     alloc: Global,
     session: &Session,
@@ -72,7 +72,7 @@ fn prepares_only(
     prepares_first(alloc, session, sql, wide, piece)
 }
 
-/// What a PREPARE of a text with several statements wants. `Err` is want of memory.
+/// What a PREPARE of a text with several statements wants.
 fn prepares_several(
     alloc: Global,
     session: &Session,
@@ -95,7 +95,7 @@ fn prepares_several(
     prepares_first(alloc, session, sql, wide, &pieces[0])
 }
 
-/// What a PREPARE of the statements of a text wants. `Err` is want of memory.
+/// What a PREPARE of the statements of a text wants.
 fn prepares_pieces(
     alloc: Global,
     session: &Session,
@@ -115,7 +115,7 @@ fn prepares_pieces(
     }
 }
 
-/// What a PREPARE wants by its text, wide or not. `Err` is want of memory.
+/// What a PREPARE wants by its text, wide or not.
 pub(crate) fn wanted_by_prepare(
     alloc: Global,
     session: &Session,

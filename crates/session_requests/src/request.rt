@@ -28,7 +28,7 @@ use wire_words::{Value, WireText};
 /// The flag of OPEN that asks for barrier reads.
 const BARRIERS: u64 = 4_294_967_296;
 
-/// The parameters of a request; none where it has no place for them. Takes no memory.
+/// The parameters of a request; none where it has no place for them.
 pub fn params_of(request: &Request) -> &[Value]
     ensures { result.now ≡ params_of request.now }
 {
@@ -48,7 +48,7 @@ fn barriers_asked(flags: u64) -> bool
     flags / BARRIERS % 2 == 1
 }
 
-/// What OPEN wants by a name that holds no NUL. `Err` is want of memory.
+/// What OPEN wants by a name that holds no NUL.
 fn opens(
     alloc: Global,
     view: &View,
@@ -78,7 +78,7 @@ fn opens(
     )
 }
 
-/// What ADD wants. `Err` is want of memory.
+/// What ADD wants.
 fn adds(
     alloc: Global,
     view: &View,
@@ -96,7 +96,7 @@ fn adds(
     }
 }
 
-/// What ASSIGN wants. `Err` is want of memory.
+/// What ASSIGN wants.
 fn assigns(
     alloc: Global,
     view: &View,
@@ -114,7 +114,7 @@ fn assigns(
     }
 }
 
-/// What REMOVE wants. `Err` is want of memory.
+/// What REMOVE wants.
 fn removes(
     alloc: Global,
     view: &View,
@@ -239,7 +239,7 @@ fn ask(
 /// opens holds no NUL.
 ///
 /// Costs in the order of the request's bytes and of the sessions; for a prepared statement also in that of its text, which is
-/// copied, and for the files of a database in that of the files. `Err` is want of memory.
+/// copied, and for the files of a database in that of the files.
 pub fn wanted_by(
     alloc: Global,
     view: &View,

@@ -113,7 +113,7 @@ pub(crate) fn wanted_by_reading(
 }
 
 /// What an EXEC of a prepared statement wants, where a transaction is open or none is, and where this hinders a write. The
-/// statement is that of the request's number, if there is one. Takes no memory.
+/// statement is that of the request's number, if there is one.
 pub(crate) fn wanted_by_exec(
     hinders: Option<Cause>,
     inside: bool,
@@ -129,7 +129,7 @@ pub(crate) fn wanted_by_exec(
     }
 }
 
-/// What a QUERY of a prepared statement wants, where this hinders a write. Takes no memory.
+/// What a QUERY of a prepared statement wants, where this hinders a write.
 pub(crate) fn wanted_by_query(
     hinders: Option<Cause>,
     statement: Option<Prepared>,
@@ -143,7 +143,7 @@ pub(crate) fn wanted_by_query(
     }
 }
 
-/// What a FINALIZE wants of the statement of a number. Takes no memory.
+/// What a FINALIZE wants of the statement of a number.
 pub(crate) fn wanted_by_finalize(session: &Session, id: u32) -> RequestPlan
     ensures wants { meant [] result ≡ rules.asks_finalize (statements.prepared_at session.now.statements.items id) id }
     ensures can { FitsStatements session.now.statements.items [] result }

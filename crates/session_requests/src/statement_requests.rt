@@ -65,7 +65,7 @@ fn copied(alloc: Global, prepared: &Prepared) -> Result<Prepared, AllocError>
     })
 }
 
-/// The prepared statement of a number, copied. `Err` is want of memory.
+/// The prepared statement of a number, copied.
 fn statement_at(alloc: Global, session: &Session, id: u32) -> Result<Option<Prepared>, AllocError>
     ensures { IfOk result (λ statement. statement ≡ statements.prepared_at session.now.statements.items id) }
 {
@@ -82,7 +82,7 @@ fn is_inside(session: &Session) -> bool
     session.transaction.is_some()
 }
 
-/// What PREPARE wants. `Err` is want of memory.
+/// What PREPARE wants.
 pub(crate) fn prepares(
     alloc: Global,
     view: &View,
@@ -102,7 +102,7 @@ pub(crate) fn prepares(
     }
 }
 
-/// What EXEC wants, where this hinders a write. `Err` is want of memory.
+/// What EXEC wants, where this hinders a write.
 pub(crate) fn executes(
     alloc: Global,
     view: &View,
@@ -126,7 +126,7 @@ pub(crate) fn executes(
     }
 }
 
-/// What QUERY wants, where this hinders a write. `Err` is want of memory.
+/// What QUERY wants, where this hinders a write.
 pub(crate) fn queries(
     alloc: Global,
     view: &View,
@@ -150,7 +150,7 @@ pub(crate) fn queries(
     }
 }
 
-/// What EXEC_SQL wants, where this hinders a write. `Err` is want of memory.
+/// What EXEC_SQL wants, where this hinders a write.
 pub(crate) fn executes_text(
     alloc: Global,
     view: &View,
@@ -171,7 +171,7 @@ pub(crate) fn executes_text(
     }
 }
 
-/// What QUERY_SQL wants, where this hinders a write. `Err` is want of memory.
+/// What QUERY_SQL wants, where this hinders a write.
 pub(crate) fn queries_text(
     alloc: Global,
     view: &View,

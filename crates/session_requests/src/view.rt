@@ -21,7 +21,7 @@ pub struct StepLimits {
 }
 
 impl StepLimits {
-    /// No limits: nothing is ever given up. Takes no memory.
+    /// No limits: nothing is ever given up.
     pub fn none() -> StepLimits {
         StepLimits {
             query: None,
@@ -75,7 +75,7 @@ impl Model for View {
     } };
 }
 
-/// Whether nothing more is appended to the node's log for its sessions. Takes no memory.
+/// Whether nothing more is appended to the node's log for its sessions.
 pub fn log_full(view: &View) -> bool
     ensures { result ≡ limits.log_full view.now }
 {

@@ -66,7 +66,7 @@ fn hindrance_inside(
 }
 
 /// What hinders a write of a session before an engine runs it: another session has the turn to write, or its transaction's image
-/// is no longer the newest. Looks at each session; takes no memory.
+/// is no longer the newest. Looks at each session.
 pub(crate) fn write_hindrance(
     machine: &Machine,
     sessions: &[Session],

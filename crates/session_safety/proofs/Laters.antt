@@ -26,7 +26,7 @@ use Rattle.session_safety.proofs.Moves.{no, cond_held, undue_ok}
 use Rattle.session_safety.proofs.Calls.{answer_query}
 use Rattle.session_safety.proofs.Asks.{later_ok}
 
--- whatever comes of a query that is run, but for one whose answers lack
+-- whatever comes of a query that is run, except for one whose answers lack
 pub resumed_both : (P : Node → Type 0) (w : Node) (c : ℕ) (t : Turned) → P w → P (called (undue w c) c t) → P (resumed_by w c t)
 resumed_both P w c (Refused cause) a b = b
 resumed_both P w c Lacks a b = a

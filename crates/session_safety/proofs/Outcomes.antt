@@ -163,7 +163,7 @@ request_turns v m g c r answers = does_ok v m g c (g.session c) (asked v m g c r
 pub later_turns : (v : View) (m : Machine) (g : Gateway) (c : ℕ) (statement : Statement) (answers : List Answer) → TurnedOk (statement ∷ []) (g.session c) (on_later v m g c statement answers)
 later_turns v m g c statement answers = later_both (TurnedOk (statement ∷ []) (g.session c)) v m g c statement answers tt (λ e. run_ok v m g c (g.session c) (g.session c).tx (statement ∷ []) (statement ∷ []) true answers refl (λ y. refl))
 
--- ---- what is asked for is what is handed over, but for a barrier
+-- ---- what is asked for is what is handed over, except for a barrier
 
 abbrev pub statements_in : Option Handed → List Statement
 statements_in None = []

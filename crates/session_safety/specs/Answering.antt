@@ -61,8 +61,8 @@ ran_after conn w Serve = transaction_ran w conn
 ran_after conn w (Append contents) = transaction_ran w conn
 ran_after conn w (Follow entries) = transaction_ran w conn
 
--- A transaction's statements are those that its requests ask for, in order, but for requests that are refused. BEGIN, COMMIT and
--- END ask for none.
+-- A transaction's statements are those that its requests ask for, in order, except for requests that are refused. BEGIN, COMMIT
+-- and END ask for none.
 abbrev pub TransactionsRun : Type 0
 TransactionsRun = (w : Node) (conn : ℕ) (e : Event) → transaction_ran (happens w e) conn ≡ (if in_tx ((happens w e).gate.session conn) then ran_after conn w e else [])
 

@@ -1,4 +1,5 @@
--- Counts of commits that begin anew: a machine that was restored from a snapshot counts from nothing, and all comes to the same.
+-- Counts of commits that begin again: a machine that was restored from a snapshot counts from nothing, and all comes to the
+-- same.
 use Rattle.std.specs.Prelude.{◌≡◌, ℕ, ◌+◌, List}
 use Rattle.std.specs.Option.{option_map}
 use Rattle.log_commands.specs.declared.command.Command.{Command}

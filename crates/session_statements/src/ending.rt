@@ -17,7 +17,7 @@ pub struct AllRan {
 }
 
 impl AllRan {
-    /// The pages that lead from the image before to the image after; none where the two are the same. Takes no memory.
+    /// The pages that lead from the image before to the image after; none where the two are the same.
     pub fn change(&self) -> &PageSet
         ensures { result.now ≡ change_in self.now }
     {

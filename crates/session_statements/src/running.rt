@@ -33,7 +33,7 @@ fn piece_text<'a>(text: &'a str, piece: &StatementSpan) -> &'a str
     &text[piece.start as usize..piece.end as usize]
 }
 
-/// Whether applying takes the pages; none are always taken. Takes no memory.
+/// Whether applying takes the pages; none are always taken.
 #[tactic(auto, unfolding(session_spec::specs::Engines::takes))]
 pub fn takes(pages: &[NumberedPage]) -> bool
     ensures { result ≡ rules.takes pages.now }
@@ -57,8 +57,8 @@ fn ending_of(ran: StatementResult) -> Ending
     }
 }
 
-/// Runs one statement over an image under its number and that of the image after. Copies nothing of the image, and takes no memory
-/// beside the engine's.
+/// Runs one statement over an image under its number and that of the image after. Copies nothing of the image, and allocates
+/// nothing beside the engine's.
 pub fn run_one<E: Engine>(
     engine: &mut E,
     image: &Image,
@@ -167,8 +167,7 @@ impl Progress {
         }
     }
 
-    /// Applies pages to the image, and notes what they touch and what puts it back; false where they can't be applied. `Err`
-    /// is want of memory.
+    /// Applies pages to the image, and notes what they touch and what puts it back; false where they can't be applied.
     fn apply(&mut self, image: &mut Image, pages: &[NumberedPage]) -> Result<bool, AllocError>
         requires change { IsChange image.old pages.now }
         ensures taken { IfOk result (λ taken. taken ≡ rules.takes pages.now) }
@@ -189,7 +188,7 @@ impl Progress {
         }
     }
 
-    /// Takes an answer in, or says how running ends with it. `Err` is want of memory.
+    /// Takes an answer in, or says how running ends with it.
     fn take(
         &mut self,
         image: &mut Image,
@@ -322,7 +321,7 @@ fn lead<E: Engine>(
     }
 }
 
-/// How running ended that came to this, over the image that was put back; `answer` is the last one's. `Err` is want of memory.
+/// How running ended that came to this, over the image that was put back; `answer` is the last one's.
 fn ended(
     alloc: Global,
     image: &Image,
@@ -346,10 +345,9 @@ fn ended(
 /// as it counts, in order; together they take all.
 ///
 /// The statements work on the image in place, and it is put back whatever the outcome. Each keeps the pages that it changes, as
-/// they were before, and at the end the pages that they changed are compared with those of the first image; a statement that
-/// makes a file shorter keeps a copy of the image. The images between them have no numbers: the engine forgets all numbers
-/// before and after each. `Err` is want of memory; the engine has then run some of the statements, and nothing else has
-/// changed.
+/// they were before, and at the end the pages that they changed are compared with those of the first image; a statement that makes
+/// a file shorter keeps a copy of the image. The images between them have no numbers: the engine forgets all numbers before and
+/// after each. `Err` means out of memory; the engine has then run some of the statements, and nothing else has changed.
 pub fn run_all<E: Engine>(
     alloc: Global,
     engine: &mut E,

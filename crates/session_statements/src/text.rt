@@ -7,7 +7,7 @@ ghost use Rattle.session_statements.specs.Texts.{cut_at, wants};
 use sql_scan::{StatementSpan, WordKind};
 use wire_words::Value;
 
-/// Whether a statement of this kind begins or ends a transaction. Takes no memory.
+/// Whether a statement of this kind begins or ends a transaction.
 pub fn is_control(word: WordKind) -> bool
     ensures { result ≡ rules.is_control word }
 {
@@ -17,7 +17,7 @@ pub fn is_control(word: WordKind) -> bool
     }
 }
 
-/// Whether statements of this kind are left out. Takes no memory.
+/// Whether statements of this kind are left out.
 pub fn is_left_out(word: WordKind) -> bool
     ensures { result ≡ rules.is_left_out word }
 {
@@ -32,7 +32,7 @@ pub fn is_left_out(word: WordKind) -> bool
 }
 
 /// Whether one of the statements of a text may not stand in a query or among several: it begins or ends a transaction, or is
-/// left out. Looks at each once at most; takes no memory.
+/// left out. Looks at each once at most.
 pub fn any_barred(pieces: &[StatementSpan]) -> bool
     ensures { (text : List ℕ) → result ≡ rules.any_barred (cut_at text pieces.now) }
 {
@@ -44,7 +44,7 @@ pub fn any_barred(pieces: &[StatementSpan]) -> bool
     false
 }
 
-/// Whether the statements take exactly so many parameters together. Looks at each once at most; takes no memory.
+/// Whether the statements take exactly so many parameters together. Looks at each once at most.
 pub fn params_fit(pieces: &[StatementSpan], params: &[Value]) -> bool
     ensures sum { result ≡ (wants pieces.now == length params.now) }
     ensures rule { (text : List ℕ) → rules.wrong_params (cut_at text pieces.now) params.now ≡ not result }

@@ -90,7 +90,7 @@ fn put(sessions: &mut Vec<Session>, place: usize, transaction: Transaction)
 
 /// The session at a place, which is that of a connection, has opened a database and is in no transaction, begins one over the
 /// newest image of its database, which is pinned; at once with the turn to write, or without it. The image is copied once.
-/// `Err` is want of memory; nothing has changed then.
+/// `Err` means out of memory; nothing has changed then.
 pub fn begin(
     alloc: Global,
     sessions: &mut Vec<Session>,

@@ -92,7 +92,7 @@ pub enum Cause {
 }
 
 impl Cause {
-    /// The code of the refusal. Takes no memory.
+    /// The code of the refusal.
     pub fn code(self) -> u64
         ensures { result ≡ code (cause_named self) }
     {
@@ -134,7 +134,7 @@ impl Cause {
         }
     }
 
-    /// The text of the refusal. Takes no memory.
+    /// The text of the refusal.
     pub fn text(self) -> &'static str
         ensures { result.now ≡ message (cause_named self) }
     {
@@ -180,7 +180,7 @@ impl Cause {
         }
     }
 
-    /// The refusal as it is told. `Err` is want of memory.
+    /// The refusal as it is told.
     pub fn failure(self, alloc: Global) -> Result<Response, AllocError>
         ensures { IfOk result (λ response. response ≡ failure (cause_named self)) }
     {
@@ -204,7 +204,7 @@ impl Cause {
         }
     }
 
-    /// Why a message that doesn't read as a request is refused. Takes no memory.
+    /// Why a message that doesn't read as a request is refused.
     pub fn of_unread(fault: MsgFault) -> Cause
         ensures { cause_named result ≡ unread_cause fault }
     {
@@ -215,7 +215,7 @@ impl Cause {
         }
     }
 
-    /// Why a text that can't be cut into statements is refused. Takes no memory.
+    /// Why a text that can't be cut into statements is refused.
     pub fn of_scan(fault: ScanFault) -> Cause
         ensures { cause_named result ≡ scan_cause fault }
     {
@@ -228,7 +228,7 @@ impl Cause {
         }
     }
 
-    /// Why a statement that an engine refuses is refused. Takes no memory.
+    /// Why a statement that an engine refuses is refused.
     pub fn of_engine(fault: EngineFault) -> Cause
         ensures { cause_named result ≡ engine_cause fault }
     {

@@ -38,7 +38,8 @@ pub enum Change {
     Flies(PendingProposal),
 }
 
-/// Applies pages that can be applied. `Err` is want of memory; the image is then unchanged.
+/// Applies pages that can be applied. `Err` means out of memory; the image is then
+/// unchanged.
 fn apply_all(image: &mut Image, pages: &[NumberedPage]) -> Result<(), AllocError>
     ensures ok { OnOk result (image.new ≡ applied image.old pages.now) }
     ensures kept { OnErr result (image.new ≡ image.old) }
@@ -49,7 +50,8 @@ fn apply_all(image: &mut Image, pages: &[NumberedPage]) -> Result<(), AllocError
     }
 }
 
-/// Puts the numbers of pages above 1 behind others. `Err` is want of memory, which doesn't come where there is room.
+/// Puts the numbers of pages above 1 behind others. `Err` means out of memory, which doesn't come where there is
+/// room.
 fn note_numbers(touched: &mut Vec<u64>, pages: &[NumberedPage]) -> Result<(), AllocError>
     ensures noted { OnOk result (touched.new.items ≡ touched.old.items ++ numbers_of pages.now) }
     ensures room { vec_len touched.old + length pages.now ≤ vec_capacity touched.old → IsOk result }
@@ -62,8 +64,8 @@ fn note_numbers(touched: &mut Vec<u64>, pages: &[NumberedPage]) -> Result<(), Al
     Ok(())
 }
 
-/// What a transaction becomes that has changed these pages; its working image has this number then. `Err` is want of memory; it is
-/// then unchanged.
+/// What a transaction becomes that has changed these pages; its working image has this number then. `Err` means out of memory; it
+/// is then unchanged.
 fn work(
     transaction: &mut Option<Transaction>,
     pages: &[NumberedPage],
@@ -87,7 +89,7 @@ fn work(
 }
 
 impl Session {
-    /// Changes it so. `Err` is want of memory; it is then unchanged.
+    /// Changes it so. `Err` means out of memory; it is then unchanged.
     fn change(&mut self, change: Change) -> Result<(), AllocError>
         requires { CanChange self.old.statements.items change }
         ensures ok { OnOk result ((databases : List Database) → session_of databases self.new ≡ changed_by (session_of databases self.old) change) }
@@ -121,7 +123,8 @@ impl Session {
     }
 }
 
-/// Changes the session at a place, which is that of a connection. `Err` is want of memory; the table is then unchanged.
+/// Changes the session at a place, which is that of a connection. `Err` means out of memory; the table is then
+/// unchanged.
 pub fn make_change(
     sessions: &mut Vec<Session>,
     place: usize,

@@ -9,7 +9,7 @@ ghost use Rattle.session_table.specs.Table.{transaction_of, session_of, table_of
 use crate::session::{PendingProposal, ProposalKind, Session, Transaction};
 
 impl ProposalKind {
-    /// Whether the proposal changes the pages of its database. Takes no memory.
+    /// Whether the proposal changes the pages of its database.
     pub fn is_write(&self) -> bool
         ensures { result ≡ limits.is_write (kind_named self.now) }
     {
@@ -51,14 +51,14 @@ impl ProposalKind {
 }
 
 impl PendingProposal {
-    /// Whether it changes the pages of the database of a name. Takes no memory.
+    /// Whether it changes the pages of the database of a name.
     pub fn writes_to(&self, name: &str) -> bool
         ensures { result ≡ limits.writes_to (Some self.now) name.now }
     {
         self.kind.writes_to(name)
     }
 
-    /// How many pages it gives the database of a name. Takes no memory.
+    /// How many pages it gives the database of a name.
     pub fn pages_of(&self, name: &str) -> u64
         ensures { result ≡ limits.flown_by (Some self.now) name.now }
     {
@@ -71,7 +71,7 @@ impl PendingProposal {
 }
 
 impl Transaction {
-    /// Whether it has the turn to write of the database of a name. Takes no memory.
+    /// Whether it has the turn to write of the database of a name.
     fn has_turn(&self, name: &str) -> bool
         ensures { (databases : List Database) → result ≡ limits.holds_write_lock (Some (transaction_of databases self.now)) name.now }
     {
@@ -100,7 +100,7 @@ impl Session {
         }
     }
 
-    /// Whether it has the turn to write of the database of a name, by its proposal or by its transaction. Takes no memory.
+    /// Whether it has the turn to write of the database of a name, by its proposal or by its transaction.
     #[tactic(auto, unfolding(session_spec::specs::Limits::holds))]
     pub fn holds(&self, name: &str) -> bool
         ensures { (databases : List Database) → result ≡ limits.holds (session_of databases self.now) name.now }
@@ -126,8 +126,7 @@ impl Session {
     }
 }
 
-/// Whether the session of another connection has the turn to write of the database of a name. Looks at each session; takes no
-/// memory.
+/// Whether the session of another connection has the turn to write of the database of a name. Looks at each session.
 pub fn other_holds(sessions: &[Session], conn: u64, name: &str) -> bool
     requires { AreApart sessions.now }
     ensures { (databases : List Database) (weight : ℕ) → result ≡ limits.other_holds (table_of databases sessions.now weight) conn name.now }
@@ -147,8 +146,7 @@ fn greater(a: u64, b: u64) -> u64
     a.max(b)
 }
 
-/// The most pages that a proposal in flight gives the database of a name; 0 where none does. Looks at each session; takes no
-/// memory.
+/// The most pages that a proposal in flight gives the database of a name; 0 where none does. Looks at each session.
 pub fn flown(sessions: &[Session], name: &str) -> u64
     requires { AreApart sessions.now }
     ensures { (databases : List Database) (weight : ℕ) → result ≡ limits.pending_pages (table_of databases sessions.now weight) name.now }

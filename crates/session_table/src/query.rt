@@ -69,7 +69,8 @@ fn statement_size(text: &WireText, params: &[Value]) -> u64
 }
 
 impl Query {
-    /// A statement of this text, with these values of its parameters, which are moved. `Err` is want of memory for the count.
+    /// A statement of this text, with these values of its parameters, which are moved. `Err` means out of memory for the
+    /// count.
     pub fn new(alloc: Global, text: WireText, params: Items<Value>) -> Result<Query, AllocError>
         ensures { IfOk result (λ query. query ≡ record { text = text; params = params }) }
     {
@@ -105,7 +106,7 @@ impl Query {
         asked.params.as_slice()
     }
 
-    /// How many bytes it keeps: those of its text, and 32 for each value besides those of its text or blob. Takes no memory.
+    /// How many bytes it keeps: those of its text, and 32 for each value besides those of its text or blob.
     pub fn size(&self) -> u64
         ensures { result ≡ held (statement_size self.now) }
     {

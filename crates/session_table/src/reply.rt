@@ -55,7 +55,7 @@ fn total(parts: &[WireBytes]) -> u64
 
 impl ToldRows {
     /// Cuts the rows of an answer into parts; or tells why they can't be told: a text holds a NUL, or all parts together are
-    /// too big. No column's name holds a NUL, and each row has as many values as there are columns. `Err` is want of memory.
+    /// too big. No column's name holds a NUL, and each row has as many values as there are columns.
     pub fn cut(
         alloc: Global,
         answer: StatementResult,
@@ -80,7 +80,7 @@ impl ToldRows {
         }
     }
 
-    /// How many bytes its parts have. Takes no memory.
+    /// How many bytes its parts have.
     fn size(&self) -> u64
         ensures { result ≡ held (total_size (bodies self.now.columns (cut self.now.columns self.now.rows))) }
     {
@@ -120,7 +120,7 @@ pub enum Reply {
 }
 
 impl Reply {
-    /// In how many responses it is told. Takes no memory.
+    /// In how many responses it is told.
     pub fn response_count(&self) -> usize
         ensures { result ≡ length (responses_of (reply_named self.now)) }
     {
@@ -131,7 +131,7 @@ impl Reply {
     }
 
     /// How many bytes the parts have in which rows are told; 0 for one response, which is small. The answer that was cut into them is
-    /// not counted. Takes no memory.
+    /// not counted.
     pub fn size(&self) -> u64
         ensures { result ≡ held (reply_size (reply_named self.now)) }
     {
@@ -141,7 +141,7 @@ impl Reply {
         }
     }
 
-    /// Puts its responses, to a connection, behind what was told so far, where there is room for them. Takes no memory.
+    /// Puts its responses, to a connection, behind what was told so far, where there is room for them.
     pub fn tell(self, conn: u64, told: &mut Vec<(u64, Response)>)
         requires { vec_len told.old + length (responses_of (reply_named self)) ≤ vec_capacity told.old }
         ensures items { told.new.items ≡ told.old.items ++ told_in (conn, reply_named self) }

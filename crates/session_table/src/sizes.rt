@@ -81,7 +81,7 @@ impl Session {
 /// Not counted is what the rules of sessions bound or what the databases' size does: names, the numbers of changed pages and the
 /// working image of an open transaction, and the answer that was cut into parts, of which a database has one in flight at most.
 ///
-/// Looks at each number of a statement; takes no memory.
+/// Looks at each number of a statement.
 pub fn kept_size(sessions: &[Session]) -> u64
     ensures { result ≡ kept_size sessions.now }
 {
@@ -93,7 +93,7 @@ pub fn kept_size(sessions: &[Session]) -> u64
 }
 
 /// The same of the session of one connection; 0 where it has none. Looks at each session and at each number of a statement of that
-/// one; takes no memory.
+/// one.
 pub fn kept_size_at(sessions: &[Session], conn: u64) -> u64
     ensures { result ≡ kept_size_at conn sessions.now }
 {

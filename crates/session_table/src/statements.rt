@@ -6,7 +6,7 @@ ghost use Rattle.session_spec.specs.Statements as rules;
 use crate::session::Prepared;
 use std::alloc::AllocError;
 
-/// The statement of a number, if there is one. Takes no memory.
+/// The statement of a number, if there is one.
 pub fn prepared_at(statements: &[Option<Prepared>], id: u32) -> Option<&Prepared>
     ensures { MatchOption result (rules.prepared_at statements.now id ≡ None) (λ prepared. rules.prepared_at statements.now id ≡ Some prepared.now) }
 {
@@ -17,7 +17,7 @@ pub fn prepared_at(statements: &[Option<Prepared>], id: u32) -> Option<&Prepared
     }
 }
 
-/// How many statements there are. Looks at each number; takes no memory.
+/// How many statements there are. Looks at each number.
 pub fn prepared_count(statements: &[Option<Prepared>]) -> usize
     ensures { result ≡ rules.prepared_count statements.now }
 {
@@ -30,7 +30,7 @@ pub fn prepared_count(statements: &[Option<Prepared>]) -> usize
     count
 }
 
-/// The least number that is free. Looks at each number at most; takes no memory.
+/// The least number that is free. Looks at each number at most.
 pub fn free_id(statements: &[Option<Prepared>]) -> usize
     ensures { result ≡ rules.free_id statements.now }
 {
@@ -42,8 +42,8 @@ pub fn free_id(statements: &[Option<Prepared>]) -> usize
     statements.len()
 }
 
-/// Puts a statement under the least number that is free, and answers that number. `Err` is want of memory; the statements
-/// are then unchanged.
+/// Puts a statement under the least number that is free, and answers that number. `Err` means out of memory; the
+/// statements are then unchanged.
 pub fn prepare(
     statements: &mut Vec<Option<Prepared>>,
     prepared: Prepared,
@@ -61,7 +61,7 @@ pub fn prepare(
     Ok(id)
 }
 
-/// Lets the statement of a number go, which is there. Takes no memory.
+/// Lets the statement of a number go, which is there.
 pub fn finalize(statements: &mut [Option<Prepared>], id: u32)
     requires { IsSome (rules.prepared_at statements.old id) }
     ensures { statements.new ≡ rules.without_prepared id statements.old }

@@ -261,7 +261,7 @@ fn sweep(
 }
 
 /// The entry of an index is applied, and the machine has it applied: each proposal that ends with it is done, and its client
-/// is answered; a session that has hung up goes. `Err` is want of memory; nothing has changed then.
+/// is answered; a session that has hung up goes. `Err` means out of memory; nothing has changed then.
 #[tactic(auto, using(crate::proofs::Waits::said_so))]
 pub fn applied(
     alloc: Global,
@@ -291,7 +291,7 @@ pub fn applied(
 }
 
 /// Leadership is lost: all proposals and transactions end, and each client that waits is told so, ascending by the last index
-/// of its proposal; a session that has hung up goes. No mark of the machine is live then. `Err` is want of memory; nothing
+/// of its proposal; a session that has hung up goes. No mark of the machine is live then. `Err` means out of memory; nothing
 /// has changed then.
 #[tactic(auto, using(crate::proofs::Waits::told_so, crate::proofs::Kept::lost_says_nothing, crate::proofs::Kept::lost_unmarked))]
 pub fn lost(
@@ -320,7 +320,7 @@ pub fn lost(
 }
 
 /// The client of a connection goes: its session goes too, with its transaction; where a proposal of it is in flight, that
-/// stays, and the session with it. Takes no memory.
+/// stays, and the session with it.
 #[tactic(auto, using(crate::proofs::Kept::left_says_nothing))]
 pub fn left(alloc: Global, sessions: &mut Vec<Session>, conn: u64, machine: &mut Machine)
     requires apart { AreApart sessions.old.items }
@@ -336,7 +336,7 @@ pub fn left(alloc: Global, sessions: &mut Vec<Session>, conn: u64, machine: &mut
     sweep(sessions, Event::Left(conn), machine, &mut nothing);
 }
 
-/// The transaction of a connection's session ends, and its changes with it. Takes no memory.
+/// The transaction of a connection's session ends, and its changes with it.
 #[tactic(auto, using(crate::proofs::Kept::ended_says_nothing))]
 pub fn ended(alloc: Global, sessions: &mut Vec<Session>, conn: u64, machine: &mut Machine)
     requires apart { AreApart sessions.old.items }

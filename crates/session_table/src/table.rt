@@ -24,7 +24,7 @@ impl Session {
     }
 }
 
-/// Where the session of a connection stands, if there is one. Looks at each session; takes no memory.
+/// Where the session of a connection stands, if there is one. Looks at each session.
 pub fn find(sessions: &[Session], conn: u64) -> Option<usize>
     ensures { MatchOption result (IsAbsent conn sessions.now) (StandsAt conn sessions.now) }
 {
@@ -52,8 +52,8 @@ fn fresh(alloc: Global, conn: u64) -> Session
     }
 }
 
-/// Gives a connection that has no session one; false exactly where 64 are there. Nothing has changed then. `Err` is want of
-/// memory; nothing has changed then either.
+/// Gives a connection that has no session one; false exactly where 64 are there. Nothing has changed then. `Err` means out
+/// of memory; nothing has changed then either.
 fn join_new(alloc: Global, sessions: &mut Vec<Session>, conn: u64) -> Result<bool, AllocError>
     requires table { IsTable sessions.old.items }
     requires absent { IsAbsent conn sessions.old.items }
@@ -71,8 +71,8 @@ fn join_new(alloc: Global, sessions: &mut Vec<Session>, conn: u64) -> Result<boo
     Ok(true)
 }
 
-/// Gives a connection a session; false exactly where it has one, or where 64 are there. Nothing has changed then. `Err` is
-/// want of memory; nothing has changed then either.
+/// Gives a connection a session; false exactly where it has one, or where 64 are there. Nothing has changed then. `Err`
+/// means out of memory; nothing has changed then either.
 pub fn join(alloc: Global, sessions: &mut Vec<Session>, conn: u64) -> Result<bool, AllocError>
     requires { IsTable sessions.old.items }
     ensures table { IfOk result (λ new. (databases : List Database) (weight : ℕ) → Joined (table_of databases sessions.old.items weight) conn new
@@ -114,7 +114,7 @@ impl Session {
 }
 
 /// Takes the query that the session at a place, which is that of a connection, has yet to answer, if there is one: it is run now,
-/// or a reader has told its reply. Takes no memory.
+/// or a reader has told its reply.
 pub fn take_later(sessions: &mut Vec<Session>, place: usize, conn: u64) -> Option<Query>
     requires apart { AreApart sessions.old.items }
     requires place { StandsAt conn sessions.old.items place }

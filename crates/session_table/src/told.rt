@@ -99,7 +99,7 @@ fn place_for(last: u64, waiting: &[(u64, u64)]) -> usize
     waiting.len()
 }
 
-/// Puts a client that waits at its place. `Err` is want of memory.
+/// Puts a client that waits at its place.
 fn add_waiting(waiting: &mut Vec<(u64, u64)>, last: u64, conn: u64) -> Result<(), AllocError>
     ensures { OnOk result (waiting.new.items ≡ placed_in (last, conn) waiting.old.items) }
 {
@@ -108,7 +108,7 @@ fn add_waiting(waiting: &mut Vec<(u64, u64)>, last: u64, conn: u64) -> Result<()
     Ok(())
 }
 
-/// Adds the client of a session, where it waits for a proposal or for a query that is run next. `Err` is want of memory.
+/// Adds the client of a session, where it waits for a proposal or for a query that is run next.
 fn add_session(waiting: &mut Vec<(u64, u64)>, session: &Session) -> Result<(), AllocError>
     ensures { OnOk result (waiting.new.items ≡ with_waiting session.now waiting.old.items) }
 {
@@ -144,8 +144,7 @@ fn tell_lost(alloc: Global, waiting: &[(u64, u64)]) -> Result<Vec<(u64, Response
     Ok(told)
 }
 
-/// Each client that waits for a proposal is told that leadership is lost, ascending by the last index of the proposal. `Err`
-/// is want of memory.
+/// Each client that waits for a proposal is told that leadership is lost, ascending by the last index of the proposal.
 pub(crate) fn told_lost(
     alloc: Global,
     sessions: &[Session],

@@ -383,7 +383,8 @@ const BARRIERS: &[Life] = &[
     ),
 ];
 
-/// Lives in which a fault is told, where the node could as well take it for want of memory.
+/// Lives in which a fault is told, where the node could as well take it because memory ran
+/// out.
 const FAULTS: &[Life] = &[
     // Parameters are numbered from 1.
     (&[Step::Exec(7, "SET ?0 9")], &[(7, BAD_NUMBER)], 0),

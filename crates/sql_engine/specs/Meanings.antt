@@ -47,7 +47,7 @@ pub record CantBeTold (m : Meaning) (image : Image) (s : Statement) (fault : Eng
   pub found : fault_in reply.rows ≡ Some fault
 
 -- What a fault says: the statement may be refused so, or it may give a reply that the wire can't carry. Only an engine of
--- SQLite opens files, and counts steps. Want of memory says nothing.
+-- SQLite opens files, and counts steps. Out of memory says nothing.
 abbrev pub Faults : Meaning → EngineKind → Image → Statement → EngineFault → Type 0
 Faults m kind image s faults.Constraint = m.refuses image s constraint
 Faults m kind image s faults.Sql = m.refuses image s sql
@@ -76,7 +76,7 @@ pub record Told : Type 0 where
   pub cut : Bool
 
 -- An engine that tells its answers adds this one to them, as long as it has lost none; or it has lost one, and then the
--- answer is want of memory. One that tells none goes on so.
+-- answer means out of memory. One that tells none goes on so.
 pub data Tells (result : Result StatementResult EngineFault) : Option Told → Option Told → Type 0 where
   untold : Tells result None None
   added : (answers : List (Result StatementResult EngineFault)) → Tells result (Some (record { answers = answers; cut = false })) (Some (record { answers = answers ++ result ∷ []; cut = false }))

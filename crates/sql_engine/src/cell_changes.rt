@@ -12,7 +12,7 @@ use std::alloc::{AllocError, Global};
 
 /// The pages that setting a cell changes, in their order, the sizes page last: the pages up to the cell's that were not
 /// there, the cell's page where it is another one, and page 1 of the side file. It looks at these pages alone, and costs in
-/// their order, whatever the image has besides. `Err` is want of memory.
+/// their order, whatever the image has besides.
 pub(crate) fn set_changes(
     alloc: Global,
     image: &Image,
@@ -38,7 +38,7 @@ pub(crate) fn set_changes(
 }
 
 /// The pages that cutting the main file to so many pages changes: page 1 of the side file and the sizes page, or none where
-/// the file is no longer than that. `Err` is want of memory.
+/// the file is no longer than that.
 pub(crate) fn wipe_changes(
     alloc: Global,
     image: &Image,

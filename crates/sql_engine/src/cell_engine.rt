@@ -29,7 +29,7 @@ pub struct CellEngine {
 }
 
 impl CellEngine {
-    /// An engine of cells. Takes no memory.
+    /// An engine of cells.
     pub fn new(alloc: Global) -> CellEngine {
         CellEngine { alloc }
     }

@@ -58,7 +58,7 @@ fn wipe_in(text: &[u8]) -> Option<CellStatement>
     }
 }
 
-/// The statement that a text is; `None` where it is none. Takes no memory.
+/// The statement that a text is; `None` where it is none.
 #[tactic(auto, unfolding(crate::specs::CellTexts::statement_of))]
 pub(crate) fn statement_of(text: &[u8]) -> Option<CellStatement>
     ensures { result ≡ statement_of text.now }

@@ -17,7 +17,7 @@ use wire_words::Value;
 /// An engine counts the openings that were refused: `run` answers `Unopened` only where that count rose in the call.
 ///
 /// An engine may tell the list of its answers. Then each run adds its answer to the list; or the list loses it and takes no
-/// more, and the answer is want of memory.
+/// more, and the answer means out of memory.
 pub trait Engine: Sized {
     ghost use Rattle.std.specs.Prelude.{◌≡◌, ◌≤◌, ℕ, [], List, Option, All, IfOk, IfErr};
     ghost use Rattle.dq_base.specs.declared.images.Image.{Image};
@@ -51,7 +51,7 @@ pub trait Engine: Sized {
     /// - `Float`, `NotText`: it gives a reply with such a value, of which the place is told.
     /// - `Unopened`: an engine of SQLite did not open the files.
     /// - `Cut`: it would take more steps than the limit.
-    /// - `NoMemory`: want of memory.
+    /// - `NoMemory`: out of memory.
     fn run(
         &mut self,
         image: &Image,
@@ -70,7 +70,7 @@ pub trait Engine: Sized {
         ensures known { All (MayKnow image.now numbers result (known self.old)) (known self.new) }
         ensures told { Tells result (told self.old) (told self.new) };
 
-    /// Another engine of the same kind, which has run nothing yet and knows nothing. `Err` is want of memory.
+    /// Another engine of the same kind, which has run nothing yet and knows nothing.
     fn fork(&self) -> Result<Self, AllocError>
         ensures kind { IfOk result (λ other. kind other ≡ kind self.now) }
         ensures openings { IfOk result (λ other. refused_openings other ≡ 0) }
@@ -86,8 +86,8 @@ pub trait Engine: Sized {
         ensures known { All (MayKnowBeside image.now number (known self.old)) (known self.new) }
         ensures told { told self.new ≡ told self.old };
 
-    /// Knows nothing by its number any more, so that numbers may begin anew, as they do where another machine takes a machine's
-    /// place. What it has open may stay open, to be found by its bytes.
+    /// Knows nothing by its number any more, so that numbers may begin again, as they do where another machine takes a
+    /// machine's place. What it has open may stay open, to be found by its bytes.
     fn forget(&mut self)
         ensures known { known self.new ≡ [] }
         ensures stays { Stays (kind self.old) (kind self.new) (refused_openings self.old) (refused_openings self.new) }

@@ -28,7 +28,7 @@ fn in_range(number: u64) -> Option<u64>
 }
 
 /// The number of a parameter, by the digits behind its question mark: without any, one more than the greatest so far.
-/// `None` where that isn't 1 to 32,766. Takes no memory.
+/// `None` where that isn't 1 to 32,766.
 pub fn parameter(greatest: u64, digits: &[u8]) -> Option<u64>
     requires { greatest ≤ 32766 }
     ensures exact { result ≡ parameter greatest digits.now }

@@ -1,4 +1,4 @@
--- That an opening is refused, for another cause than want of memory.
+-- That an opening is refused, for another cause than out of memory.
 use Rattle.std.specs.Prelude.{◌≡◌, Bool, true, false}
 use Rattle.sqlite_disk.specs.declared.Files.{Files}
 use Rattle.sqlite.specs.declared.error.Error.{Error}
@@ -11,7 +11,8 @@ use Rattle.dq_base.specs.declared.images.Image.{Image}
 use Rattle.sqlite_files.specs.Recording.{Recorded}
 use Rattle.sqlite_engine.specs.Sql.{files_of, over_memory}
 
--- whether an error of an opening is want of memory: over memory a call of a disk fails for it alone
+-- whether an error of an opening means out of memory: over memory a call of a disk fails for it
+-- alone
 abbrev pub is_of_memory_code : ErrorCode → Bool
 is_of_memory_code code.OutOfMemory = true
 is_of_memory_code code.SystemIoFailure = true
@@ -21,7 +22,8 @@ abbrev pub is_of_memory : Error → Bool
 is_of_memory (SqliteFailure c) = is_of_memory_code c
 is_of_memory _ = false
 
--- the crate refuses to open two fresh files with the bytes of the image, and not for want of memory
+-- the crate refuses to open two fresh files with the bytes of the image, and not because memory ran
+-- out
 pub record IsRefusedOpening (image : Image) : Type 0 where
   pub files : Files Recorded
   pub left : Leftover Recorded over_memory

@@ -1,8 +1,8 @@
 //! Connections that follow another one to the image that it went on to.
 //!
 //! A write takes the one connection over an image along, and while its entry is on its way to the other nodes, queries want the image
-//! before: it is opened anew, which reads and checks each page. So that this is done once and not at each write, the connection that was
-//! opened so runs the same statements once more, and follows.
+//! before: it is opened again, which reads and checks each page. So that this is done once and not at each write, the connection that
+//! was opened so runs the same statements once more, and follows.
 
 ghost use Rattle.std.specs.Prelude.{◌≡◌, IfSome};
 ghost use Rattle.std.specs.List.{All, Contains};

@@ -29,7 +29,7 @@ pub(crate) struct ImageHistory {
 }
 
 impl ImageHistory {
-    /// A trail with no statement yet. Takes no memory.
+    /// A trail with no statement yet.
     fn new(alloc: Global, from: ImageNumber) -> ImageHistory {
         ImageHistory {
             from,
@@ -120,7 +120,7 @@ pub(crate) struct Past {
 }
 
 impl Past {
-    /// That of a connection which was just opened. Takes no memory.
+    /// That of a connection which was just opened.
     pub(crate) fn new() -> Past {
         Past {
             trail: None,

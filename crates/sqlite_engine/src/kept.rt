@@ -31,8 +31,8 @@ use sqlite_open_files::{connected, held, log_of, main_of};
 use sqlite_same_pages::same_pages;
 use std::alloc::{AllocError, Global};
 
-/// A connection that is kept open over an image. But for what it has counted, and its limit of steps, it stands to that image as
-/// one that was just opened over it.
+/// A connection that is kept open over an image. Except for what it has counted, and its limit of steps, it stands to that image
+/// as one that was just opened over it.
 pub(crate) struct Kept {
     pub(crate) base: Image,
     pub(crate) conn: Conn,
@@ -74,7 +74,7 @@ fn kept_over(base: Image, conn: Conn, looking: Vec<Bytes>) -> Kept
     }
 }
 
-/// A connection of which no text is known to look only. Takes no memory.
+/// A connection of which no text is known to look only.
 fn kept_anew(alloc: Global, base: Image, conn: Conn) -> Kept
     requires { ∥ Stands base conn ∥₁ }
     ensures base { result.base ≡ base }
@@ -104,8 +104,8 @@ impl Kept {
         }
     }
 
-    /// Whether the text changes nothing where it shows rows, or is one with RETURNING. `None` is want of memory, or a text
-    /// that isn't understood. A text that changes nothing is noted, so that it isn't compiled for this again while the connection
+    /// Whether the text changes nothing where it shows rows, or is one with RETURNING. `None` means out of memory, or a text that
+    /// isn't understood. A text that changes nothing is noted, so that it isn't compiled for this again while the connection
     /// stays over its image.
     pub(crate) fn looks_only(self, alloc: Global, text: &str) -> (Kept, Option<bool>)
         ensures base { result.0.base ≡ self.base }
@@ -148,8 +148,8 @@ impl Kept {
     }
 
     /// The connection once these statements have run on it, over this image, where its files hold the same database then. They do where the
-    /// main file is the same, and the log has the same frames; salts, checksums, and what lies behind the last commit may be others.
-    /// `None` is that they differ, that a statement isn't run, or want of memory.
+    /// main file is the same, and the log has the same frames; salts, checksums, and what lies behind the last commit may be others. `None`
+    /// is that they differ, that a statement isn't run, or out of memory.
     pub(crate) fn led_to(self, alloc: Global, writes: &[Write], image: &Image) -> Option<Kept>
         ensures { IfSome result (λ kept. kept.base ≡ image.now) }
     {

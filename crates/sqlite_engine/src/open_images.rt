@@ -10,8 +10,8 @@ use dq_base::{Image, ImageNumber};
 /// The most connections that an engine keeps.
 const MAX_OPEN: usize = 20;
 
-/// The most bytes that the images of the connections have together that an engine keeps, but for the one that was used last. It is as
-/// many as the two longest files of an image have.
+/// The most bytes that the images of the connections have together that an engine keeps, except for the one that was used last. It is
+/// as many as the two longest files of an image have.
 const MAX_OPEN_BYTES: usize = 134_217_728;
 
 /// A connection, and the number that the image has which it is over, where that is known.

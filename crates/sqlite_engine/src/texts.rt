@@ -33,7 +33,7 @@ pub(crate) fn note_text(alloc: Global, texts: &mut Vec<Bytes>, text: &str)
     }
 }
 
-/// A copy of a text that isn't long. `None` is want of memory, or a long one.
+/// A copy of a text that isn't long. `None` means out of memory, or a long one.
 fn own_text(alloc: Global, text: &str) -> Option<Bytes>
     ensures { IfSome result (λ own. own ≡ text.now) }
 {

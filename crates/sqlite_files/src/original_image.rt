@@ -22,7 +22,7 @@ impl Model for FileBefore {
 }
 
 impl FileBefore {
-    /// A file of these bytes. Takes no memory.
+    /// A file of these bytes.
     pub(crate) fn new(bytes: Bytes) -> FileBefore
         ensures { result ≡ bytes }
     {
@@ -52,7 +52,7 @@ impl Model for OriginalImage {
 }
 
 impl OriginalImage {
-    /// Both files together. Takes no memory.
+    /// Both files together.
     pub(crate) fn new(main: FileBefore, side: FileBefore) -> OriginalImage
         ensures main { result.main ≡ main }
         ensures side { result.side ≡ side }
@@ -65,7 +65,7 @@ impl OriginalImage {
         }
     }
 
-    /// The page of a number, where the image has one. It is one step. Takes no memory.
+    /// The page of a number, where the image has one. It is one step.
     pub fn page<L: Ledger>(&self, number: u64, steps: &mut PageReads<L>) -> Option<Page>
         ensures page { result ≡ page_at self.now number }
         ensures step { steps.new ≡ steps.old + 1 }

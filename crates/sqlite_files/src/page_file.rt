@@ -38,7 +38,7 @@ impl Model for PageFile {
 }
 
 impl PageFile {
-    /// A file of these bytes, of which the first are kept and the second, their copy, may change. Takes no memory.
+    /// A file of these bytes, of which the first are kept and the second, their copy, may change.
     pub(crate) fn new(alloc: Global, before: Bytes, bytes: Bytes) -> PageFile
         requires { before ≡ bytes }
         ensures { result ≡ record { before = before; after = bytes; touched = []; faults = 0; caught = 0 } }
@@ -83,14 +83,14 @@ impl PageFile {
         self.before.is(bytes)
     }
 
-    /// The bytes that it has, as its own. Takes no memory.
+    /// The bytes that it has, as its own.
     pub(crate) fn into_bytes(self) -> Bytes
         ensures { result ≡ self.after }
     {
         Bytes::new(self.bytes)
     }
 
-    /// The file before, the file after, and the pages that were touched. Takes no memory.
+    /// The file before, the file after, and the pages that were touched.
     pub(crate) fn into_parts(self) -> (FileBefore, Bytes, Vec<bool>)
         ensures before { result.0 ≡ self.before }
         ensures after { result.1 ≡ self.after }

@@ -58,7 +58,7 @@ impl PairDisk {
         })
     }
 
-    /// The files for `sqlite` to open. Takes no memory.
+    /// The files for `sqlite` to open.
     pub fn into_files(self) -> PairFiles
         ensures { pair_of result.db result.log ≡ self }
     {
@@ -68,7 +68,7 @@ impl PairDisk {
         }
     }
 
-    /// The files that `sqlite` gave back. Takes no memory.
+    /// The files that `sqlite` gave back.
     pub fn from_files(files: PairFiles) -> PairDisk
         ensures { result ≡ pair_of files.db files.log }
     {
@@ -79,7 +79,7 @@ impl PairDisk {
         }
     }
 
-    /// The image after. Takes no memory.
+    /// The image after.
     pub fn into_image(self) -> Image
         ensures { result ≡ self.after }
     {
@@ -89,7 +89,7 @@ impl PairDisk {
         }
     }
 
-    /// Whether this is the image before. It compares the bytes of both files, and hands out no page. Takes no memory.
+    /// Whether this is the image before. It compares the bytes of both files, and hands out no page.
     pub fn began_with(&self, image: &Image) -> bool
         ensures { result ≡ same_image self.now.before image.now }
     {

@@ -21,7 +21,7 @@ impl<L: Ledger> Model for PageReads<L> {
 }
 
 impl<L: Ledger> PageReads<L> {
-    /// No page was looked at. Takes no memory.
+    /// No page was looked at.
     pub fn new(blank: Blank) -> PageReads<L>
         requires name { blank.name ≡ L.name }
         requires parts { blank.parts ≡ L.parts }

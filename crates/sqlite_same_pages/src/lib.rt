@@ -33,8 +33,8 @@ fn names_size(main: &[u8]) -> bool
     main.len() >= 18 && main[16] == 16 && main[17] == 0
 }
 
-/// Whether both logs have the same frames up to their last commit, but for salts and checksums. `false` also where
-/// memory runs out.
+/// Whether both logs have the same frames up to their last commit, except for salts and checksums. `false` also
+/// where memory runs out.
 fn are_alike(alloc: Global, one: &[u8], other: &[u8]) -> bool
     ensures { IsTrue result → AreAlike 4096 one.now other.now }
 {

@@ -1,4 +1,4 @@
--- The way in which the files of a node are read, but for its batches.
+-- The way in which the files of a node are read, except for its batches.
 use Rattle.std.specs.Prelude.{ℕ}
 use Rattle.store_laws.specs.Store.{Format, Reader}
 use Rattle.store_laws.specs.Chance.{Lawful, LawfulReader}

@@ -68,6 +68,7 @@ abbrev pub Judges : FilesRead → Result Unit FilesFault → Type 0
 Judges r (Ok x) = judged r ≡ Loaded (kept_by r)
 Judges r (Err f) = (judged r ≡ fault_outcome f) × HasPlaceOf f r.segments.damage
 
--- what is read of all files of a node, whatever their order but for that of the segments
+-- what is read of all files of a node, whatever their order except for that of the
+-- segments
 abbrev pub with_segment_read : SegmentsRead → FilesRead → FilesRead
 with_segment_read s r = record { meta = r.meta; snap = r.snap; segments = s }

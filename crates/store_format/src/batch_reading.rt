@@ -90,8 +90,7 @@ fn is_sound(format: u64, bytes: &[u8], body: &Body, end: usize) -> bool
 }
 
 /// The batch that bytes begin with, in a format (1 or 2), and none where no batch reads: where the sums don't match, an
-/// item isn't there or is wrong, or the first index is 0. `Err` is want of memory. Each byte is copied once, into its
-/// entry.
+/// item isn't there or is wrong, or the first index is 0. Each byte is copied once, into its entry.
 #[tactic(auto, using(crate::proofs::Local::header_first, crate::proofs::Local::body_ends), unfolding(crate::specs::Batches::batch_in))]
 pub fn read_batch(
     alloc: Global,

@@ -87,7 +87,7 @@ fn put_sums(bytes: &mut [u8], count: usize)
 }
 
 /// The bytes of a batch in format 2. Each entry is copied once. An entry of more than 4,294,967,295 bytes is answered as
-/// if memory had run out; any other `Err` is want of memory.
+/// if memory had run out; any other `Err` means out of memory.
 pub fn batch_bytes(alloc: Global, first: u64, entries: &[Entry]) -> Result<Vec<u8>, AllocError>
     ensures bytes { IfOk result (λ bytes. bytes.items ≡ batch_bytes (record { first = first; entries = entries.now })) }
     ensures fit { IfOk result (λ _. HaveHeads entries.now) }

@@ -107,7 +107,7 @@ impl FilesRead {
         }
     }
 
-    /// The bytes of the first or the second file of metadata. Takes no memory.
+    /// The bytes of the first or the second file of metadata.
     pub fn add_metadata(&mut self, first: bool, bytes: &[u8])
         ensures { self.new ≡ with_meta (meta_in first bytes.now) self.old }
     {
@@ -115,7 +115,7 @@ impl FilesRead {
     }
 
     /// The bytes of the snapshot's file of a number. Where the snapshot is whole and the newest so far its state stays in
-    /// their memory, and none is copied into another one. `Err` is want of memory.
+    /// their memory, and none is copied into another one.
     pub fn add_snapshot(&mut self, number: u64, file: Vec<u8>) -> Result<(), AllocError>
         requires { number < 10000000000000000 }
         ensures { OnOk result (self.new ≡ with_snap (snap_of number file.items) self.old) }
@@ -134,8 +134,8 @@ impl FilesRead {
         }
     }
 
-    /// The bytes of the next segment, with its number. `Err` is want of memory, after which nothing is said of what was
-    /// read.
+    /// The bytes of the next segment, with its number. `Err` means out of memory, after which nothing is said of what
+    /// was read.
     pub fn add_segment(&mut self, number: u64, bytes: &[u8]) -> Result<(), AllocError>
         requires { number < 10000000000000000 }
         ensures { OnOk result (self.new ≡ with_segment_read (with_segment node_format (record { number = number; bytes = bytes.now }) self.old.segments) self.old) }
@@ -212,7 +212,7 @@ impl FilesRead {
         }
     }
 
-    /// Whether the files stand for a state, and else why not. Takes no memory.
+    /// Whether the files stand for a state, and else why not.
     #[tactic(auto, unfolding(crate::specs::FilesRead::judged))]
     pub fn check(&self) -> Result<(), FilesFault>
         ensures { Judges self.now result }
@@ -250,7 +250,7 @@ impl FilesRead {
         }
     }
 
-    /// What is kept, where the files stand for a state: a node may start with it then. No entry is copied. Takes no memory.
+    /// What is kept, where the files stand for a state: a node may start with it then. No entry is copied.
     pub fn into_kept(self) -> Kept
         ensures is { result ≡ kept_by self }
         ensures starts { judged self ≡ Loaded (kept_by self) → CanStart result }

@@ -84,7 +84,8 @@ impl BatchLog {
     }
 
     /// One batch more: it replaces the log from its first index on, where that lies in the log or right behind it, and
-    /// else becomes the whole log. No entry is copied. `Err` is want of memory, after which nothing is said of the log.
+    /// else becomes the whole log. No entry is copied. `Err` means out of memory, after which nothing is said of the
+    /// log.
     #[tactic(auto, unfolding(store_laws::specs::Store::put_batch))]
     pub fn put(&mut self, first: u64, entries: Entries) -> Result<(), AllocError>
         requires { 0 < first }

@@ -37,7 +37,7 @@ fn is_block(first: bool, bytes: &[u8]) -> bool
 }
 
 /// What the bytes of the first or the second metadata file say. A file is valid with 40 bytes, format 1 or 2, a version
-/// of that file's parity (odd in the first), and a matching sum of its first 32 bytes. Takes no memory.
+/// of that file's parity (odd in the first), and a matching sum of its first 32 bytes.
 #[tactic(auto, unfolding(crate::specs::Metadata::meta_in, crate::specs::Metadata::is_block))]
 pub fn read_metadata(first: bool, bytes: &[u8]) -> Option<Metadata>
     ensures { meta_of_found result ≡ meta_in first bytes.now }
@@ -52,7 +52,7 @@ pub fn read_metadata(first: bool, bytes: &[u8]) -> Option<Metadata>
     })
 }
 
-/// The 40 bytes of a metadata file, in format 2. `Err` is want of memory.
+/// The 40 bytes of a metadata file, in format 2.
 pub fn metadata_bytes(alloc: Global, metadata: &Metadata) -> Result<Vec<u8>, AllocError>
     ensures { IfOk result (λ block. block.items ≡ block_bytes metadata.now) }
 {

@@ -85,7 +85,8 @@ impl SegmentLog {
         }
     }
 
-    /// The next segment, with its number and its bytes. `Err` is want of memory, after which nothing is said of the log.
+    /// The next segment, with its number and its bytes. `Err` means out of memory, after which nothing is said of the
+    /// log.
     #[tactic(auto, using(crate::proofs::Segments::taken), unfolding(crate::specs::SegmentLog::with_segment))]
     pub fn add(&mut self, number: u64, bytes: &[u8]) -> Result<(), AllocError>
         requires { number < 10000000000000000 }

@@ -75,7 +75,6 @@ fn whole_content(number: u64, bytes: &[u8]) -> Option<&[u8]>
 
 /// What the bytes of the file of this number say. The file is whole with format 1 or 2, the number as its index, its
 /// size in bytes, zeros behind them to a whole word and nothing more, and a matching sum of index, term, size and bytes.
-/// Takes no memory.
 #[tactic(auto, unfolding(crate::specs::Snapshots::snap_of, crate::specs::Snapshots::is_snapshot))]
 pub fn read_snapshot(number: u64, bytes: &[u8]) -> Option<SnapshotFile<'_>>
     ensures found { snap_of_found result ≡ snap_of number bytes.now }
@@ -93,7 +92,7 @@ pub fn read_snapshot(number: u64, bytes: &[u8]) -> Option<SnapshotFile<'_>>
 }
 
 /// What stands before a snapshot's bytes in its file, in format 2: 40 bytes, with the sum. The bytes themselves aren't
-/// copied. `Err` is want of memory.
+/// copied.
 pub fn snapshot_head(
     alloc: Global,
     index: u64,
@@ -113,7 +112,7 @@ pub fn snapshot_head(
 
 const ZEROS: &[u8] = &[0; 8];
 
-/// What stands behind a snapshot's bytes in its file: zeros to a whole word. Takes no memory.
+/// What stands behind a snapshot's bytes in its file: zeros to a whole word.
 pub fn snapshot_tail(bytes: &[u8]) -> &'static [u8]
     ensures { result.now ≡ zeros_after (length bytes.now) }
 {

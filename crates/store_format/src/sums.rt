@@ -50,7 +50,7 @@ fn crc_over(start: u32, bytes: &[u8]) -> u32
 }
 
 /// The CRC-32 of the bytes: the reflected polynomial 0xEDB88320, the start and the final mask all ones, as in zlib and
-/// Ethernet. Takes no memory.
+/// Ethernet.
 #[tactic(auto, unfolding(crate::specs::Sums::crc32_of))]
 pub fn crc32(bytes: &[u8]) -> u32
     ensures { result ≡ crc32_of bytes.now }
@@ -67,7 +67,7 @@ fn crc32_of_both(front: &[u8], back: &[u8]) -> u32
     crc_over(rest, back) ^ u32::MAX
 }
 
-/// The first eight bytes of the SHA-256 of the bytes. Takes no memory.
+/// The first eight bytes of the SHA-256 of the bytes.
 #[tactic(auto, unfolding(crate::specs::Sums::sum8_of))]
 pub fn sum8(bytes: &[u8]) -> [u8; 8]
     ensures { result ≡ sum8_of bytes.now }
@@ -78,7 +78,7 @@ pub fn sum8(bytes: &[u8]) -> [u8; 8]
     sum
 }
 
-/// The first eight bytes of the SHA-256 of two pieces taken as one. Takes no memory.
+/// The first eight bytes of the SHA-256 of two pieces taken as one.
 #[tactic(auto, unfolding(crate::specs::Sums::sum8_of))]
 pub(crate) fn sum8_of_both(front: &[u8], back: &[u8]) -> [u8; 8]
     ensures { result ≡ sum8_of (front.now ++ back.now) }

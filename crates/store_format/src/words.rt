@@ -21,7 +21,7 @@ pub(crate) fn is_known(format: u64) -> bool
     format == 1 || format == 2
 }
 
-/// The format that a file's first word says, and 0 where it says none of the two. Takes no memory.
+/// The format that a file's first word says, and 0 where it says none of the two.
 #[tactic(auto, unfolding(crate::specs::Words::format_in))]
 pub fn format_in(bytes: &[u8]) -> u64
     ensures { result ≡ format_in bytes.now }

@@ -148,7 +148,7 @@ module _ (f : Format) (law : Lawful f) (k : ℕ) (d : NodeDisk) (s : Still f k d
   both sv true e = (open_moment e (sv e), open_ok e (sv e))
   both sv false e = (new_moment e, new_ok e)
 
--- at rest but for its last segment, and that one whole too
+-- at rest except for its last segment, and that one whole too
 pub settled_of : (f : Format) (k : ℕ) (d : NodeDisk) → Still f k d → ((d.read (Segment k)).there ≡ true → is_whole f (d.read (Segment k)).bytes ≡ true) → Steady (snap_in f d.read) (file_log f (suc k) d.read) → Settled f (suc k) d
 settled_of f k d s whole steady = record {
   first = s.first;

@@ -311,7 +311,8 @@ const STATES: &[(Folder, Answer, Answer)] = &[
     ),
 ];
 
-/// Whether a stop of the first call leaves the old state, but for the pick that keeps it.
+/// Whether a stop of the first call leaves the old state, except for the pick that keeps
+/// it.
 fn the_pick_decides(alloc: Global, files: &Folder, old: Answer, new: Answer) -> bool {
     after_stop(alloc, files, 1, 0) == Some((false, old))
         && after_stop(alloc, files, 1, 2) == Some((false, old))

@@ -15,7 +15,7 @@ pub enum WordOrder {
 /// The checksum of the bytes, whose number has to be a multiple of 8, going on from two sums: for each two words x and
 /// y the first sum grows by x and the second sum, and then the second by y and the first, all modulo 2^32.
 ///
-/// Goes over the bytes once. Takes no memory.
+/// Goes over the bytes once.
 pub fn checksum(order: WordOrder, start: (u32, u32), bytes: &[u8]) -> (u32, u32)
     requires { length bytes.now % 8 ≡ 0 }
     ensures { result ≡ checksum order start bytes.now }

@@ -31,7 +31,7 @@ pub struct WalHeader {
 
 impl WalHeader {
     /// The header that is written here for a sequence number: words in big-endian order, the first salt the sequence
-    /// number, and the second 0. Takes no memory.
+    /// number, and the second 0.
     pub fn written(sequence: u32) -> WalHeader
         ensures { result ≡ written_header sequence }
     {
@@ -43,7 +43,7 @@ impl WalHeader {
     }
 
     /// Reads the header at the front of the bytes, or names the first fault: `Short`, `Magic`, `Version`, `PageSize`,
-    /// `HeaderSum`. Looks at 32 bytes at most. Takes no memory.
+    /// `HeaderSum`. Looks at 32 bytes at most.
     #[tactic(auto, unfolding(crate::specs::Headers::header_of, crate::specs::Headers::header_with))]
     pub fn read(bytes: &[u8]) -> Result<WalHeader, WalFault>
         ensures { result ≡ header_of bytes.now }

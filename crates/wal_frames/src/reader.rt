@@ -31,8 +31,7 @@ impl<'a> Model for WalReader<'a> {
 }
 
 impl<'a> WalReader<'a> {
-    /// A reader behind the header of a log, or the first fault of that header. Looks at 32 bytes at most, and takes no
-    /// memory.
+    /// A reader behind the header of a log, or the first fault of that header. Looks at 32 bytes at most.
     pub fn new(bytes: &'a [u8]) -> Result<WalReader<'a>, WalFault>
         ensures opened { IfOk result (λ reader. Opened bytes.now reader) }
         ensures refused { IfErr result (λ fault. header_of bytes.now ≡ Err fault) }
@@ -43,14 +42,14 @@ impl<'a> WalReader<'a> {
         Ok(WalReader { header, sums, rest })
     }
 
-    /// What the log's header says. Takes no memory.
+    /// What the log's header says.
     pub fn header(&self) -> WalHeader
         ensures { result ≡ self.now.header }
     {
         self.header
     }
 
-    /// What stands behind the frames that were read, borrowed. Takes no memory.
+    /// What stands behind the frames that were read, borrowed.
     pub fn rest(&self) -> &'a [u8]
         ensures { result.now ≡ self.now.rest }
     {
@@ -60,7 +59,7 @@ impl<'a> WalReader<'a> {
     /// Reads the next frame and lends its page. `None`, which changes nothing, comes exactly where no whole and valid
     /// frame stands there: its salts are the header's, and its checksum goes on from the one before it.
     ///
-    /// Goes over the bytes of one frame once. Takes no memory.
+    /// Goes over the bytes of one frame once.
     pub fn next_frame(&mut self) -> Option<LentFrame<'a>>
         ensures found { IfSome result (λ f. Took self.old (owned f) self.new) }
         ensures none { IfNone result (NoneMatches self.old) }

@@ -12,7 +12,7 @@ use dq_base::Page;
 use std::alloc::{AllocError, Global};
 use std::marker::Model;
 
-/// How long the text of a log of so many frames is, in bytes: 32, and 4,120 for each frame. Takes no memory.
+/// How long the text of a log of so many frames is, in bytes: 32, and 4,120 for each frame.
 pub fn wal_length(frames: usize) -> usize
     requires { wal_length frames < 2 ^ 64 }
     ensures { result ≡ wal_length frames }
@@ -38,7 +38,7 @@ impl Model for WalWriter {
 
 impl WalWriter {
     /// Appends the header of a log, and answers the writer of its frames: magic number 0x377f0683, the first salt the
-    /// sequence number, the second 0. `Err` is want of memory, and leaves the bytes as they were.
+    /// sequence number, the second 0. `Err` means out of memory, and leaves the bytes as they were.
     ///
     /// Where room for `wal_length` bytes was made ahead, no byte is moved by this or by the frames that follow.
     pub fn begin(out: &mut Vec<u8>, sequence: u32) -> Result<WalWriter, AllocError>
@@ -53,7 +53,7 @@ impl WalWriter {
     }
 
     /// Appends a frame: a page, its number, and the size of the database in pages after a transaction that this frame
-    /// ends, else 0. `Err` is want of memory, and leaves the bytes and the writer as they were.
+    /// ends, else 0. `Err` means out of memory, and leaves the bytes and the writer as they were.
     ///
     /// Goes over the page once for the checksum, and copies it once.
     pub fn frame(
@@ -108,7 +108,7 @@ fn append_both(out: &mut Vec<u8>, front: &[u8], back: &[u8]) -> Result<(), Alloc
 }
 
 /// The text of a log with this sequence number and these frames: a header, and each frame with a checksum that goes on
-/// from the one before it. `Err` is want of memory.
+/// from the one before it.
 ///
 /// Goes over each page once for its checksum, and copies it once, into room that is made ahead.
 pub fn write_wal(alloc: Global, sequence: u32, frames: &[Frame]) -> Result<WalBytes, AllocError>

@@ -38,8 +38,8 @@ fn whole_request(alloc: Global, number: u8, schema: u8, body: &[u8]) -> Result<R
 /// number, `Schema` where the type has no such schema, `Word` at the first item that isn't there, and `Tail` where words
 /// are left. A body that ends where its tuple would begin has no parameters.
 ///
-/// `NoMemory` is want of memory for the request's texts and values; where its type has none, and for `Kind` and `Schema`,
-/// no memory is taken. The body is passed over once, and each text and each blob is copied once, out of it.
+/// `NoMemory` means out of memory for the request's texts and values; where its type has none, and for `Kind` and
+/// `Schema`, no memory is taken. The body is passed over once, and each text and each blob is copied once, out of it.
 #[tactic(auto, unfolding(crate::specs::Reading::request_of))]
 pub fn read_request(alloc: Global, message: &Message) -> Result<Request, MsgFault>
     // What is read is what the message stands for.
@@ -85,7 +85,7 @@ fn whole_response(
 /// them. The faults are those of `read_request`; `Word(Pad(at))` also where a field that has to be zero isn't. A body of
 /// rows is taken as it is, where it is whole words; one with a part of a word is `Tail(1)`.
 ///
-/// `NoMemory` is want of memory for the response's texts, lists and bytes; where its type has none, and for `Kind` and
+/// `NoMemory` means out of memory for the response's texts, lists and bytes; where its type has none, and for `Kind` and
 /// `Schema`, no memory is taken. The body is passed over once, and each text, each file and a body of rows is copied once.
 #[tactic(auto, unfolding(crate::specs::Reading::response_of))]
 pub fn read_response(alloc: Global, message: &Message, format: u64) -> Result<Response, MsgFault>

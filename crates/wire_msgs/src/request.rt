@@ -132,7 +132,7 @@ pub enum RequestKind {
 }
 
 impl RequestKind {
-    /// The type that a message's number stands for. Takes no memory.
+    /// The type that a message's number stands for.
     pub fn of(kind: u8) -> Option<RequestKind>
         ensures { result ≡ request_kind kind }
     {
@@ -169,7 +169,7 @@ impl RequestKind {
         }
     }
 
-    /// The greatest schema in which a request of this type may come. Takes no memory.
+    /// The greatest schema in which a request of this type may come.
     pub fn top_schema(self) -> u8
         ensures { result ≡ request_top_schema self }
     {
@@ -185,7 +185,7 @@ impl RequestKind {
 }
 
 impl Request {
-    /// The number of its type. Takes no memory.
+    /// The number of its type.
     pub fn number(&self) -> u8
         ensures { result ≡ (request_line self.now).kind }
     {
@@ -212,7 +212,7 @@ impl Request {
         }
     }
 
-    /// The schema in which it is written. Takes no memory.
+    /// The schema in which it is written.
     pub fn schema(&self) -> u8
         ensures { result ≡ (request_line self.now).schema }
     {

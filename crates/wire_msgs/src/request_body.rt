@@ -151,8 +151,8 @@ fn dump(alloc: Global, words: &mut Words<'_>) -> Result<Request, WordFault>
     Ok(Request::Dump { name })
 }
 
-/// Reads the body of a request of this type, in schema 1 where it is wide. Numbers take no memory; each text and each
-/// value is copied once, out of the body.
+/// Reads the body of a request of this type, in schema 1 where it is wide. Numbers allocate nothing; each text and
+/// each value is copied once, out of the body.
 #[tactic(auto, unfolding(crate::specs::Bodies::request_at))]
 pub(crate) fn request(
     alloc: Global,

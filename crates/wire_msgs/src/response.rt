@@ -93,7 +93,7 @@ pub enum ResponseKind {
 }
 
 impl ResponseKind {
-    /// The type that a message's number stands for. Takes no memory.
+    /// The type that a message's number stands for.
     pub fn of(kind: u8) -> Option<ResponseKind>
         ensures { result ≡ response_kind kind }
     {
@@ -113,7 +113,7 @@ impl ResponseKind {
         }
     }
 
-    /// The greatest schema in which a response of this type may come. Takes no memory.
+    /// The greatest schema in which a response of this type may come.
     pub fn top_schema(self) -> u8
         ensures { result ≡ response_top_schema self }
     {
@@ -125,7 +125,7 @@ impl ResponseKind {
 }
 
 impl Response {
-    /// The number of its type. Takes no memory.
+    /// The number of its type.
     pub fn number(&self) -> u8
         ensures { result ≡ (response_line self.now).kind }
     {
@@ -144,7 +144,7 @@ impl Response {
         }
     }
 
-    /// The schema in which it is written. Takes no memory.
+    /// The schema in which it is written.
     pub fn schema(&self) -> u8
         ensures { result ≡ (response_line self.now).schema }
     {

@@ -146,7 +146,7 @@ fn stmt(wide: bool, words: &mut Words<'_>) -> Result<Response, WordFault>
 }
 
 /// Reads the body of a response of this type, with the roles of servers or not, in schema 1 where it is wide. Numbers
-/// take no memory; each text, each file and the body of rows are copied once.
+/// allocate nothing; each text, each file and the body of rows are copied once.
 #[tactic(auto, unfolding(crate::specs::Bodies::response_at))]
 pub(crate) fn response(
     alloc: Global,

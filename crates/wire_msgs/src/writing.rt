@@ -24,8 +24,8 @@ fn whole_request(alloc: Global, request: &Request) -> Result<WireBytes, AllocErr
 
 /// Writes a whole message: its header and its body, with a 0 for a word that isn't looked at. No text of the request may
 /// hold a NUL, and it may have at most 255 parameters, or 32,766 where it is wide. A body of more than 4,294,967,295 words
-/// is answered as if memory had run out; any other `Err` is want of memory. Each byte is copied once into the message, and
-/// once more on average as that grows.
+/// is answered as if memory had run out; any other `Err` means out of memory. Each byte is copied once into the message,
+/// and once more on average as that grows.
 pub fn write_request(alloc: Global, request: &Request) -> Result<WireBytes, AllocError>
     requires { IsWritableRequest request.now }
     // What is written stands for the request.
@@ -51,8 +51,8 @@ fn whole_response(alloc: Global, response: &Response) -> Result<WireBytes, Alloc
 }
 
 /// Writes a whole message: its header and its body. No text of the response may hold a NUL, and a body of rows has to be
-/// whole words. A body of more than 4,294,967,295 words is answered as if memory had run out; any other `Err` is want of
-/// memory. Each byte is copied once into the message, and once more on average as that grows.
+/// whole words. A body of more than 4,294,967,295 words is answered as if memory had run out; any other `Err` means out
+/// of memory. Each byte is copied once into the message, and once more on average as that grows.
 pub fn write_response(alloc: Global, response: &Response) -> Result<WireBytes, AllocError>
     requires { IsWritable response.now }
     // What is written stands for the response.

@@ -61,7 +61,7 @@ impl<'a> Columns<'a> {
         with_rows(self.head_size.saturating_add(END_SIZE), rows)
     }
 
-    /// How many bytes the bodies of all parts have together. Takes no memory.
+    /// How many bytes the bodies of all parts have together.
     #[tactic(auto, using(crate::proofs::Cutting::total_last, crate::proofs::Cutting::total_more, crate::proofs::Cutting::fewer_rows))]
     pub(crate) fn total_size(&self, rows: &[Row]) -> u64
         ensures { result ≡ held (total_size (bodies self.now.names.now (cut self.now.names.now rows.now))) }

@@ -87,8 +87,8 @@ fn rows(alloc: Global, words: &mut Words<'_>, count: u64) -> Result<(Vec<Row>, M
 /// The first fault comes. `Word` names the first item that is at fault: the number, a name, the codes of a row, which are
 /// one item, or a value. `NoEnd` comes where the body ends at a place where a row or the end word would begin, and, where
 /// there are no columns, where something else than an end word follows the number. `Tail` has the number of words behind
-/// the end word, where a part of a word counts as one. `NoMemory` is want of memory. The names and the values are copied
-/// once, and no room is taken ahead for the names that the number claims.
+/// the end word, where a part of a word counts as one. `NoMemory` means out of memory. The names and the values are
+/// copied once, and no room is taken ahead for the names that the number claims.
 #[tactic(auto, unfolding(crate::specs::Reading::part_of))]
 pub fn read_part(alloc: Global, body: &[u8]) -> Result<(Part, More), RowReadFault>
     ensures { Gives (part_of body.now) result }

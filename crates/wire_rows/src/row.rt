@@ -19,7 +19,7 @@ impl Model for Row {
 }
 
 impl Row {
-    /// A row of these values. Takes no memory.
+    /// A row of these values.
     pub fn new(values: Vec<Value>) -> Row
         ensures { result ≡ values.items }
     {
@@ -33,7 +33,7 @@ impl Row {
         self.inner.as_slice()
     }
 
-    /// Gives the vector of the values back. Takes no memory.
+    /// Gives the vector of the values back.
     pub fn into_values(self) -> Vec<Value>
         ensures { result.items ≡ self }
     {

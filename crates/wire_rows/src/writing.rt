@@ -105,11 +105,11 @@ fn all_bodies(
 /// without rows is one part.
 ///
 /// `Nul` names the first text with a NUL, by rows and then columns. Else `TooBig` comes exactly where all bodies together
-/// have more than 16,777,216 bytes, with their number, or 18,446,744,073,709,551,615 where it is above that. `NoMemory` is
-/// want of memory.
+/// have more than 16,777,216 bytes, with their number, or 18,446,744,073,709,551,615 where it is above that. `NoMemory`
+/// means out of memory.
 ///
-/// The size is known before the first body is written, and takes no memory. Each byte is written once, into the body that
-/// is sent, and no second copy of a body is made; the time is in proportion to the bytes.
+/// The size is known before the first body is written. Each byte is written once, into the body that is sent, and no second
+/// copy of a body is made; the time is in proportion to the bytes.
 #[tactic(auto, unfolding(crate::specs::Answering::parts_of), using(crate::proofs::NulPlaces::first_found, crate::proofs::NulPlaces::all_writable))]
 pub fn parts(alloc: Global, columns: &[WireText], rows: &[Row]) -> Result<Vec<WireBytes>, RowFault>
     requires names { HaveNoNul columns.now }

@@ -31,13 +31,13 @@ pub record Holds (limit : ℕ) (u : Unfinished) : Type 0 where
   pub part : front limit (held_bytes u) ≡ Part
   pub opening : u.begun ≡ false → u.head_len < 8
 
--- a stream breaks by its version or by a header, and never by want of memory
+-- a stream breaks by its version or by a header, and never by out of memory
 abbrev pub IsOfStream : Option SplitFault → Type 0
 IsOfStream None = Unit {0}
 IsOfStream (Some NoMemory) = ⊥
 IsOfStream (Some fault) = Unit {0}
 
--- A step gave the messages and the end of this stream, and holds what is unread. Want of memory left it as it was.
+-- A step gave the messages and the end of this stream, and holds what is unread. Out of memory left it as it was.
 abbrev pub Leads : ℕ → Unfinished → Unfinished → List Message → Stream → Result (Option SplitFault) AllocError → Type 0
 Leads limit old new messages stream result =
     MatchResult result

@@ -134,7 +134,7 @@ Answers view messages fault result =
     (λ x. (view x ≡ messages) × (messages ≡ [] → fault ≡ None))
     (λ f. (messages ≡ []) × (fault ≡ Some f))
 
--- A feed failed with this fault: want of memory leaves the splitter as it was, and any other fault is the answer.
+-- A feed failed with this fault: out of memory leaves the splitter as it was, and any other fault is the answer.
 abbrev pub FeedFails : SplitFault → Splitting → Splitting → Stream → Type 0
 FeedFails NoMemory old new added = new ≡ old
 FeedFails fault old new added = (answer added ≡ Err fault) × (new ≡ record { limit = old.limit; end = added.end })
@@ -151,7 +151,7 @@ pub record Adds (limit : ℕ) (before after : List ℕ) (messages : List Message
   pub messages_follow : (stream limit after).messages ≡ (stream limit before).messages ++ messages
   pub stands : new ≡ fed limit after
 
--- With this fault a feed failed: want of memory leaves the splitter as it was; else the fault is the end of these bytes,
+-- With this fault a feed failed: out of memory leaves the splitter as it was; else the fault is the end of these bytes,
 -- which have no more messages than those before.
 abbrev pub BreaksWith : SplitFault → ℕ → List ℕ → List ℕ → Splitting → Splitting → Type 0
 BreaksWith NoMemory limit before after old new = new ≡ old

@@ -28,7 +28,7 @@ pub struct Header {
 
 impl Header {
     /// Reads a header: the count of words as a little-endian number of four bytes, the kind, the schema, and two bytes
-    /// that may be anything. Takes no memory.
+    /// that may be anything.
     pub fn read(bytes: &[u8; 8]) -> Header
         ensures { result ≡ header_of bytes.now }
     {

@@ -82,7 +82,7 @@ fn answer(messages: Vec<Message>, fault: Option<SplitFault>) -> Result<Vec<Messa
 }
 
 impl Splitter {
-    /// A splitter at the start of a stream of a client. Takes no memory.
+    /// A splitter at the start of a stream of a client.
     pub fn new(alloc: Global) -> Splitter
         ensures { result ≡ fed client_limit [] }
     {
@@ -94,8 +94,7 @@ impl Splitter {
         }
     }
 
-    /// A splitter that stands as if it had been fed the version word, as a client needs to read its answers. Takes no
-    /// memory.
+    /// A splitter that stands as if it had been fed the version word, as a client needs to read its answers.
     pub fn after_version(alloc: Global) -> Splitter
         ensures { result ≡ fed client_limit version_word }
     {
@@ -108,7 +107,7 @@ impl Splitter {
     }
 
     /// The splitter of the same stream where a peer's messages follow, which may have 33,554,432 words: what is unread stays so,
-    /// and so does a fault. Where the stream has none, it stands as if that had been its limit from the start. Takes no memory.
+    /// and so does a fault. Where the stream has none, it stands as if that had been its limit from the start.
     pub fn for_peer(self) -> Splitter
         ensures value { result ≡ record { limit = peer_limit; end = self.end } }
         ensures joined { (before : List ℕ) → self ≡ fed self.limit before → fault_in self.end ≡ None → result ≡ fed peer_limit before }
@@ -123,7 +122,7 @@ impl Splitter {
         }
     }
 
-    /// The fault at which the stream is at its end, if there is one: `Version` or `TooLong`. Takes no memory.
+    /// The fault at which the stream is at its end, if there is one: `Version` or `TooLong`.
     pub fn fault(&self) -> Option<SplitFault>
         ensures { result ≡ fault_in self.now.end }
     {
@@ -131,7 +130,7 @@ impl Splitter {
     }
 
     /// How many bytes are unread: those of the message that isn't there whole yet, its header included. After a fault
-    /// there are none. Takes no memory.
+    /// there are none.
     pub fn held(&self) -> u64
         ensures { result ≡ length (unread_bytes self.now.end) }
     {

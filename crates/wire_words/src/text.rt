@@ -19,7 +19,7 @@ impl Model for WireText {
 }
 
 impl WireText {
-    /// A text of these characters. Takes no memory.
+    /// A text of these characters.
     pub fn new(text: String) -> WireText
         ensures { result ≡ string_bytes text }
     {
@@ -34,14 +34,14 @@ impl WireText {
         self.inner.as_str()
     }
 
-    /// Whether the text holds a NUL. Takes no memory.
+    /// Whether the text holds a NUL.
     pub fn has_nul(&self) -> bool
         ensures { result ≡ has_nul self.now }
     {
         self.inner.as_bytes().iter().any(|b| *b == 0)
     }
 
-    /// Gives the string back. Takes no memory.
+    /// Gives the string back.
     pub fn into_string(self) -> String
         ensures { string_bytes result ≡ self }
     {

@@ -239,7 +239,7 @@ fn go_on_with(
     complete(alloc, limit, unfinished, header, last, after, messages)
 }
 
-/// Goes on with a piece of any length: pushes the messages that are whole with it, and gives the fault, if any. Want of
+/// Goes on with a piece of any length: pushes the messages that are whole with it, and gives the fault, if any. Out of
 /// memory leaves what is unread as it was.
 pub(crate) fn go_on(
     alloc: Global,

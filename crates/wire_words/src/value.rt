@@ -46,7 +46,7 @@ pub enum Dialect {
 }
 
 impl ValueType {
-    /// The type that a code stands for, if any. Takes no memory.
+    /// The type that a code stands for, if any.
     pub fn with_code(dialect: Dialect, code: u8) -> Option<ValueType>
         ensures { result ≡ type_with dialect code }
     {
@@ -82,7 +82,7 @@ impl ValueType {
         matches!(self, ValueType::Float)
     }
 
-    /// The code that stands for the type. Takes no memory.
+    /// The code that stands for the type.
     pub fn code(self) -> u8
         ensures { result ≡ code self }
     {
@@ -100,7 +100,7 @@ impl ValueType {
 }
 
 impl Value {
-    /// The type as which the value is written. Takes no memory.
+    /// The type as which the value is written.
     pub fn value_type(&self) -> ValueType
         ensures { result ≡ type_of self.now }
     {
@@ -120,7 +120,7 @@ impl Value {
         self.value_type().code()
     }
 
-    /// Whether the value can be written: a text may hold no NUL. Takes no memory.
+    /// Whether the value can be written: a text may hold no NUL.
     pub fn is_writable(&self) -> bool
         ensures { IsTrue result ↔ IsWritable self.now }
     {

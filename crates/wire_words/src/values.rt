@@ -197,7 +197,7 @@ impl<'a> Words<'a> {
 
     /// Reads the words of a value of this type. `Float` where the type is that of floating-point numbers; `Short`, `NoNul`,
     /// `NotUtf8` and `Pad` as where a word, a text or a blob is read, and `Pad` where the word of a null isn't zero; what
-    /// fills up a client's blob isn't looked at. `NoMemory` is want of memory for a copy.
+    /// fills up a client's blob isn't looked at. `NoMemory` means out of memory for a copy.
     #[tactic(auto, unfolding(crate::specs::ReadingValues::value_at))]
     pub fn value(
         &mut self,
@@ -216,8 +216,8 @@ impl<'a> Words<'a> {
         }
     }
 
-    /// Reads values of these types, one after the other. The fault is that of the first value that has one. `NoMemory` is
-    /// want of memory.
+    /// Reads values of these types, one after the other. The fault is that of the first value that has one. `NoMemory`
+    /// means out of memory.
     pub fn values(
         &mut self,
         alloc: Global,
@@ -236,7 +236,7 @@ impl<'a> Words<'a> {
     /// the values. What stands between the codes and the values isn't looked at. The count and the codes are one item:
     /// `Short` where they and what fills them up aren't all there, else `BadCode` of the first code that stands for no
     /// type, else `Float` where a code stands for floating-point numbers. Then the fault is that of the first value that
-    /// has one. `NoMemory` is want of memory.
+    /// has one. `NoMemory` means out of memory.
     #[tactic(auto, unfolding(crate::specs::ReadingValues::tuple_at))]
     pub fn params(&mut self, alloc: Global) -> Result<Vec<Value>, WordFault>
         ensures { Gives (λ values. values.items) params_at self.old self.new result }
@@ -264,7 +264,7 @@ impl<'a> Words<'a> {
 
     /// Reads a row of so many values: a code of four bits for each, the first in the low half of a byte, zeros to a whole
     /// word, and the values. The codes are one item: `Short`, `BadCode` and `Float` as in `params`, and then `Pad` where a
-    /// bit behind them isn't zero. Then the fault is that of the first value that has one. `NoMemory` is want of memory.
+    /// bit behind them isn't zero. Then the fault is that of the first value that has one. `NoMemory` means out of memory.
     #[tactic(auto, unfolding(crate::specs::ReadingValues::row_at))]
     pub fn row(&mut self, alloc: Global, count: u64) -> Result<Vec<Value>, WordFault>
         ensures { Gives (λ values. values.items) (row_at count) self.old self.new result }

@@ -90,28 +90,28 @@ fn as_text(bytes: &[u8]) -> Option<&str>
 }
 
 impl<'a> Words<'a> {
-    /// A reader at the start of a body, which may have any length. Takes no memory.
+    /// A reader at the start of a body, which may have any length.
     pub fn new(body: &'a [u8]) -> Words<'a>
         ensures { result ≡ unread body.now }
     {
         Words { body, place: 0 }
     }
 
-    /// The place of the next item in the body, in bytes. Takes no memory.
+    /// The place of the next item in the body, in bytes.
     pub fn place(&self) -> u64
         ensures { result ≡ self.now.at }
     {
         self.place as u64
     }
 
-    /// How many bytes are left. Takes no memory.
+    /// How many bytes are left.
     pub fn left(&self) -> u64
         ensures { result ≡ length self.now.bytes }
     {
         (self.body.len() - self.place) as u64
     }
 
-    /// Reads a number of 64 bits, little-endian. `Short` exactly where fewer than eight bytes are left. Takes no memory.
+    /// Reads a number of 64 bits, little-endian. `Short` exactly where fewer than eight bytes are left.
     #[tactic(auto, unfolding(crate::specs::Reading::word_at))]
     pub fn u64(&mut self) -> Result<u64, WordFault>
         ensures exact { Gives (λ n. n) word_at self.old self.new result }
@@ -127,7 +127,7 @@ impl<'a> Words<'a> {
     }
 
     /// Reads two numbers of 32 bits, little-endian, which share a word. `Short` exactly where fewer than eight bytes are
-    /// left. Takes no memory.
+    /// left.
     #[tactic(auto, unfolding(crate::specs::Reading::pair_at))]
     pub fn u32_pair(&mut self) -> Result<(u32, u32), WordFault>
         ensures exact { Gives (λ pair. pair) pair_at self.old self.new result }
@@ -183,7 +183,7 @@ impl<'a> Words<'a> {
     }
 
     /// Reads that many bytes, and zeros that fill them up to a whole word, and lends the bytes. `Short` where the bytes and
-    /// the zeros aren't all there, and else `Pad` where a byte in place of a zero isn't one. Takes no memory.
+    /// the zeros aren't all there, and else `Pad` where a byte in place of a zero isn't one.
     #[tactic(auto, unfolding(crate::specs::Reading::raw_at))]
     pub fn raw_slice(&mut self, size: u64) -> Result<&'a [u8], WordFault>
         ensures exact { Gives (λ bytes. bytes.now) (raw_at size) self.old self.new result }
@@ -194,7 +194,8 @@ impl<'a> Words<'a> {
         self.filled_slice(Dialect::Exact, at, size)
     }
 
-    /// Reads as `raw_slice` does, and copies the bytes. `NoMemory` is want of memory for the copy.
+    /// Reads as `raw_slice` does, and copies the bytes. `NoMemory` means out of memory for the
+    /// copy.
     pub fn raw(&mut self, alloc: Global, size: u64) -> Result<WireBytes, WordFault>
         ensures exact { Gives (λ bytes. bytes) (raw_at size) self.old self.new result }
         ensures size { IfOk result (λ bytes. length bytes ≡ size) }
@@ -206,7 +207,7 @@ impl<'a> Words<'a> {
         Ok(WireBytes::new(bytes))
     }
 
-    /// Reads a text as `text` does, and lends it. Takes no memory.
+    /// Reads a text as `text` does, and lends it.
     #[tactic(auto, unfolding(crate::specs::Reading::text_at, crate::specs::Reading::text_of))]
     pub fn text_str(&mut self) -> Result<&'a str, WordFault>
         ensures exact { Gives (λ text. text.now) text_at self.old self.new result }
@@ -232,7 +233,7 @@ impl<'a> Words<'a> {
 
     /// Reads a text: UTF-8 up to the first NUL, that NUL, and zeros up to a whole word. `NoNul` where no NUL is left, and
     /// else `Short` where the zeros aren't all there, `NotUtf8`, and `Pad` where a byte in place of a zero isn't one.
-    /// `NoMemory` is want of memory for the text.
+    /// `NoMemory` means out of memory for the text.
     pub fn text(&mut self, alloc: Global) -> Result<WireText, WordFault>
         ensures exact { Gives (λ text. text) text_at self.old self.new result }
         ensures memory { IsErrOf result WordFault.NoMemory → IsOk (text_at self.old) }
@@ -258,8 +259,7 @@ impl<'a> Words<'a> {
     }
 
     /// Reads a blob and lends it: a word with the number of its bytes, and so many bytes with zeros that fill them up to a
-    /// whole word. `Short` where they aren't all there, and else `Pad` where a byte in place of a zero isn't one. Takes no
-    /// memory.
+    /// whole word. `Short` where they aren't all there, and else `Pad` where a byte in place of a zero isn't one.
     pub fn blob_slice(&mut self) -> Result<&'a [u8], WordFault>
         ensures exact { Gives (λ bytes. bytes.now) (blob_at Dialect.Exact) self.old self.new result }
         ensures memory { IsErrOf result WordFault.NoMemory → ⊥ }
@@ -267,7 +267,8 @@ impl<'a> Words<'a> {
         self.blob_in(Dialect::Exact)
     }
 
-    /// Reads a blob as `blob_slice` does, and copies it. `NoMemory` is want of memory for the copy.
+    /// Reads a blob as `blob_slice` does, and copies it. `NoMemory` means out of memory for the
+    /// copy.
     pub fn blob(&mut self, alloc: Global) -> Result<WireBytes, WordFault>
         ensures exact { Gives (λ bytes. bytes) (blob_at Dialect.Exact) self.old self.new result }
         ensures memory { IsErrOf result WordFault.NoMemory → IsOk (blob_at Dialect.Exact self.old) }

@@ -88,7 +88,7 @@ fn two_codes(first: &Value, second: &Value) -> u8
 }
 
 impl Writer {
-    /// A writer that has written nothing. Takes no memory.
+    /// A writer that has written nothing.
     pub fn new(alloc: Global) -> Writer
         ensures { result ≡ [] }
     {
@@ -98,7 +98,7 @@ impl Writer {
         }
     }
 
-    /// A writer that has written nothing, with room for so many bytes. `Err` is want of memory.
+    /// A writer that has written nothing, with room for so many bytes.
     pub fn with_capacity(alloc: Global, bytes: usize) -> Result<Writer, AllocError>
         ensures { IfOk result (λ writer. writer ≡ []) }
     {
@@ -108,7 +108,8 @@ impl Writer {
         })
     }
 
-    /// Writes a number of 64 bits. `Err` is want of memory, and leaves what was written; so in all calls that write.
+    /// Writes a number of 64 bits. `Err` means out of memory, and leaves what was written; so in all calls that
+    /// write.
     pub fn word(&mut self, value: u64) -> Result<(), AllocError>
         ensures { AppendsOrKeeps self.old self.new (word value) result }
     {
@@ -250,7 +251,7 @@ impl Writer {
             .extend_from_slice(&[0, 0, 0, 0, kind, schema, 0, 0])
     }
 
-    /// What was written, which is whole words. Takes no memory.
+    /// What was written, which is whole words.
     pub fn finish(self) -> WireBytes
         ensures bytes { result ≡ self }
         ensures whole { length result % 8 ≡ 0 }
@@ -259,7 +260,7 @@ impl Writer {
     }
 
     /// What was written, which has to begin with a header, with the count of the words after it in its first four bytes.
-    /// An error comes exactly where that count is more than 4,294,967,295. Takes no memory.
+    /// An error comes exactly where that count is more than 4,294,967,295.
     pub fn finish_message(self) -> Result<WireBytes, AllocError>
         requires { 8 ≤ length self }
         ensures counted { IfOk result (λ bytes. bytes ≡ counted self) }
