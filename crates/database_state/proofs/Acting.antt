@@ -14,7 +14,7 @@ use Rattle.dq_base.specs.Applying.{page_fault}
 use Rattle.log_commands.specs.declared.command.Command.{Command}
 use Rattle.log_commands.specs.declared.command.Command.TheVariants.{OpenDb, Frames, Undo, Checkpoint}
 use Rattle.log_commands.specs.Numbers.{AreLow, HasLowNumbers}
-use Rattle.read_marks.specs.Marks.{mark_at}
+use Rattle.page_store.specs.Marks.{mark_at}
 use Rattle.page_store.specs.Store.{Store, fresh_store, newest_image, pinned, released, committed, sets_to_move, IsLive, StillShows, MarksWithin}
 use Rattle.page_store.proofs.History.{no_mark_at_first}
 use Rattle.page_store.proofs.Shown.{commit_shows, checkpoint_shows, pin_shows, release_shows, within-committed, within-moved, within-pinned, within-released}

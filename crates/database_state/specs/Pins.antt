@@ -1,8 +1,8 @@
 -- Pins of a machine's databases.
 use Rattle.std.specs.Prelude.{◌≡◌, ℕ, ◌==◌, List, ◌<◌, Bool, find, Option, Some, None}
-use Rattle.read_marks.specs.Marks.{mark_at, live_count}
-use Rattle.read_marks.specs.declared.marks.MarkFault.{MarkFault}
-use Rattle.read_marks.specs.declared.marks.MarkFault.TheVariants as mark_faults
+use Rattle.page_store.specs.Marks.{mark_at, live_count}
+use Rattle.page_store.specs.declared.marks.MarkFault.{MarkFault}
+use Rattle.page_store.specs.declared.marks.MarkFault.TheVariants as mark_faults
 use Rattle.database_state.specs.declared.pin.PinFault.{PinFault}
 use Rattle.database_state.specs.declared.pin.PinFault.TheVariants.{Unknown, Full}
 use Rattle.std.specs.Option.{option_map}

@@ -4,7 +4,7 @@ use Rattle.std.specs.Prelude.{is_some, unwrap_or}
 use Rattle.std.proofs.lemmas.Bool.{cases_lt, cases_eq, false≢true}
 use Rattle.std.proofs.lemmas.List.{get_or-replicate, get_or_past, length-replicate}
 use Rattle.dq_base.specs.declared.images.Image.{Image}
-use Rattle.read_marks.specs.Marks.{no_marks, mark_at, lowered}
+use Rattle.page_store.specs.Marks.{no_marks, mark_at, lowered}
 use Rattle.page_store.specs.Store.{Store, view, fresh_store, IsLive, image_under, pinned, released, sets_to_move, checkpointed, StillShows, MarksWithin}
 use Rattle.page_store.specs.Calls.{Call, Commit, Pin, Release, Checkpoint, after_call, run, LeavesAlone, ShowsImagePinned}
 use Rattle.page_store.proofs.LaidSets.{all_both}

@@ -9,3 +9,6 @@ pub mod LaidBytes
 pub mod MarksSeen
 pub mod StoreKept
 pub mod ReadPages
+pub mod MarkTables
+pub mod PairOrder
+pub mod PlacesKept

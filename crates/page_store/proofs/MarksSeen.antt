@@ -6,7 +6,7 @@ use Rattle.std.proofs.lemmas.Bool.{cases_lt}
 use Rattle.std.proofs.lemmas.List.Sums.{sum_by-cons}
 use Rattle.std.proofs.lemmas.List.{take-append-le}
 use Rattle.dq_base.specs.declared.pages.NumberedPage.{NumberedPage}
-use Rattle.read_marks.specs.Marks.{mark_at, lesser, least_from, least_mark, lowered_mark, lowered, live_count}
+use Rattle.page_store.specs.Marks.{mark_at, lesser, least_from, least_mark, lowered_mark, lowered, live_count}
 use Rattle.page_store.specs.Sets.{sets_of, seen}
 use Rattle.page_store.specs.Holding.{IsEnd}
 use Rattle.page_store.proofs.SetLists.{fewer_sets, sets_between}

@@ -10,7 +10,7 @@ use Rattle.dq_base.specs.declared.pages.NumberedPage.{NumberedPage}
 use Rattle.dq_base.specs.declared.sizes.Lengths.{Lengths}
 use Rattle.dq_base.specs.Images.{resized, page_from, is_page_of, file_of}
 use Rattle.dq_base.proofs.FileBytes.{length-resized, get_or-resized, length-page_from, get_or-page_from}
-use Rattle.read_marks.specs.Frames.{IsLastAt, NoneAt}
+use Rattle.page_store.specs.Frames.{IsLastAt, NoneAt}
 use Rattle.page_store.specs.Laying.{length_of, length_at, no_lengths, laid_one, laid, Room, IsLeast}
 use Rattle.page_store.specs.Log.{Log, IsSized}
 use Rattle.page_store.proofs.LaidBytes.{after_frames, laid_more, LastFrame, NoFrame, length-after}

@@ -7,8 +7,8 @@ use Rattle.std.proofs.lemmas.List.{take-append-le, get_or-set_same, get_or-set_o
 use Rattle.dq_base.specs.declared.images.Image.{Image}
 use Rattle.dq_base.specs.declared.pages.NumberedPage.{NumberedPage}
 use Rattle.dq_base.specs.Applying.{applied}
-use Rattle.read_marks.specs.Marks.{mark_at, least_mark, lowered_mark, lowered}
-use Rattle.read_marks.proofs.MarkTables.{least_mark-none, least_mark-some}
+use Rattle.page_store.specs.Marks.{mark_at, least_mark, lowered_mark, lowered}
+use Rattle.page_store.proofs.MarkTables.{least_mark-none, least_mark-some}
 use Rattle.page_store.specs.Store.{Store, after_sets, view, newest_image, IsLive, image_under, committed, pinned, released, sets_to_move, moved, checkpointed, StillShows, MarksWithin}
 
 -- ---- page sets in two parts

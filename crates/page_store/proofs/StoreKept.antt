@@ -8,8 +8,8 @@ use Rattle.std.proofs.lemmas.List.{take_all, take-append-drop, map-set, length-a
 use Rattle.dq_base.specs.declared.images.Image.{Image}
 use Rattle.dq_base.specs.declared.pages.NumberedPage.{NumberedPage}
 use Rattle.dq_base.specs.declared.sizes.Lengths.{Lengths}
-use Rattle.read_marks.specs.Marks.{no_marks, mark_at, Pinned, with_mark, without_mark, least_mark, lowered}
-use Rattle.read_marks.proofs.MarkTables.{least_mark-none, least_mark-some}
+use Rattle.page_store.specs.Marks.{no_marks, mark_at, Pinned, with_mark, without_mark, least_mark, lowered}
+use Rattle.page_store.proofs.MarkTables.{least_mark-none, least_mark-some}
 use Rattle.dq_base.specs.Applying.{lengths_in}
 use Rattle.page_store.specs.Store.{Store, after_sets, view, fresh_store, newest, newest_image, IsLive, image_under, committed, pinned, released, sets_to_move, moved, checkpointed, pages_to_move, StillShows, MarksWithin}
 use Rattle.page_store.specs.Sets.{sets_of, open_after, lengths_of_set, seen, store_of}

@@ -4,7 +4,7 @@ use Rattle.std.specs.List.{AllByRecursion, flat_map}
 use Rattle.dq_base.specs.declared.pages.NumberedPage.{NumberedPage}
 use Rattle.dq_base.specs.declared.sizes.Lengths.{Lengths}
 use Rattle.dq_base.specs.Applying.{page_fault}
-use Rattle.read_marks.specs.Marks.{mark_at}
+use Rattle.page_store.specs.Marks.{mark_at}
 use Rattle.page_store.specs.Sets.{sets_of, open_after, lengths_of_set}
 use Rattle.page_store.specs.Laying.{Room}
 use Rattle.page_store.specs.Log.{IsSized}

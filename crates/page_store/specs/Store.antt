@@ -3,7 +3,7 @@ use Rattle.std.specs.Prelude.{◌≡◌, ℕ, ◌+◌, ◌≤◌, List, [], ◌�
 use Rattle.dq_base.specs.declared.images.Image.{Image}
 use Rattle.dq_base.specs.declared.pages.NumberedPage.{NumberedPage}
 use Rattle.dq_base.specs.Applying.{applied}
-use Rattle.read_marks.specs.Marks.{no_marks, mark_at, with_mark, without_mark, least_mark, lowered}
+use Rattle.page_store.specs.Marks.{no_marks, mark_at, with_mark, without_mark, least_mark, lowered}
 
 -- an image after page sets are applied to it in order
 abbrev pub after_sets : Image → List (List NumberedPage) → Image

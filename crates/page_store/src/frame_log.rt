@@ -1,11 +1,11 @@
 ghost use Rattle.std.specs.Prelude.{◌≡◌, ◌+◌, ◌-◌, ◌<◌, ◌≤◌, [], ◌∷◌, ◌++◌, min, length, map, OnOk, OnErr, MatchOption, slice_index_or};
 ghost use Rattle.std.specs.List.{AllByRecursion};
-ghost use Rattle.read_marks.specs.Frames.{IsLastAt, NoneAt};
+ghost use Rattle.page_store.specs.Frames.{IsLastAt, NoneAt};
 ghost use Rattle.page_store.specs.Laying.{no_lengths, IsLeast};
 ghost use Rattle.page_store.specs.Log.{extended, without_first, first_of, IsSized, lengths_of, LooksBack, AllLookBack};
 
+use crate::frame_index::FrameIndex;
 use dq_base::{Lengths, NumberedPage};
-use read_marks::FrameIndex;
 use std::alloc::{AllocError, Global};
 use std::collections::VecDeque;
 use std::marker::Model;

@@ -1,4 +1,4 @@
-use read_marks::*;
+use page_store::*;
 use std::alloc::Global;
 use std::test::Fail;
 

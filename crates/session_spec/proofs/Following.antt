@@ -11,8 +11,8 @@ use Rattle.std.proofs.lemmas.Map.Text.{is_eq-slice_cmp}
 use Rattle.dq_base.specs.declared.pages.NumberedPage.{NumberedPage}
 use Rattle.dq_base.specs.Applying.{applied, page_fault}
 use Rattle.log_commands.specs.declared.command.Command.TheVariants.{OpenDb, Frames, Undo, Checkpoint}
-use Rattle.read_marks.specs.Marks.{least_mark}
-use Rattle.read_marks.proofs.MarkTables.{least_mark-some}
+use Rattle.page_store.specs.Marks.{least_mark}
+use Rattle.page_store.proofs.MarkTables.{least_mark-some}
 use Rattle.page_store.specs.Store.{Store, newest, newest_image, committed, sets_to_move, MarksWithin}
 use Rattle.page_store.proofs.Shown.{after_sets-append}
 use Rattle.database_state.specs.declared.database.Database.{Database}

@@ -6,7 +6,7 @@ use Rattle.std.proofs.lemmas.Bool.{cases_Bool, cond-true, cond-false, eqb-true}
 use Rattle.std.proofs.lemmas.List.{append_assoc}
 use Rattle.std.proofs.lemmas.List.Elements.{Contains-append_cases, Contains-append_left, Contains-append_right}
 use Rattle.dq_base.specs.declared.images.Image.{Image}
-use Rattle.read_marks.specs.Marks.{mark_at, with_mark}
+use Rattle.page_store.specs.Marks.{mark_at, with_mark}
 use Rattle.page_store.specs.Store.{IsLive, pinned}
 use Rattle.database_state.specs.declared.database.Database.{Database}
 use Rattle.database_state.specs.ByName.{change_first}

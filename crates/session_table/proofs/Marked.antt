@@ -2,7 +2,7 @@
 use Rattle.std.proofs.Common.{◌≡◌, ◌≢◌, ℕ, zero, suc, Bool, true, false, cond, true≢false, List, [], ◌∷◌, length, find, Option, Some, inl, inr, refl, sym, ap, subst, ◌∙◌}
 use Rattle.std.specs.Prelude.{◌==◌, is_some, IsSome}
 use Rattle.std.proofs.lemmas.Bool.{cases_Bool, cond-true, cond-false, eqb-true, eqb-false, both_ways}
-use Rattle.read_marks.specs.Marks.{mark_at, with_mark, without_mark}
+use Rattle.page_store.specs.Marks.{mark_at, with_mark, without_mark}
 use Rattle.page_store.specs.Store.{Store, IsLive, released}
 use Rattle.database_state.specs.declared.database.Database.{Database}
 use Rattle.database_state.specs.ByName.{change_first}

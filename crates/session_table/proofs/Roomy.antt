@@ -2,7 +2,7 @@
 use Rattle.std.proofs.Common.{◌≡◌, ◌≢◌, ℕ, zero, suc, ◌+◌, ◌<◌, ◌≤◌, List, [], ◌∷◌, ◌++◌, length, get_or, Option, Some, None, ◌⊎◌, inl, inr, refl, sym, ap, subst, ◌∙◌, arith, length-append}
 use Rattle.std.specs.Prelude.{IsSome, slice_index_or}
 use Rattle.std.proofs.lemmas.List.Sums.{sum_by-cons}
-use Rattle.read_marks.specs.Marks.{mark_at, live_count}
+use Rattle.page_store.specs.Marks.{mark_at, live_count}
 use Rattle.database_state.specs.declared.database.Database.{Database}
 use Rattle.database_state.specs.declared.pin.PinFault.{PinFault}
 use Rattle.database_state.specs.Databases.{named, has_name}

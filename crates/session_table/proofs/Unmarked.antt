@@ -9,7 +9,7 @@ use Rattle.dq_base.specs.declared.pages.NumberedPage.{NumberedPage}
 use Rattle.dq_base.specs.Applying.{page_fault}
 use Rattle.log_commands.specs.declared.command.Command.{Command}
 use Rattle.log_commands.specs.declared.command.Command.TheVariants.{OpenDb, Frames, Undo, Checkpoint}
-use Rattle.read_marks.specs.Marks.{mark_at, no_marks, lowered, lowered_mark}
+use Rattle.page_store.specs.Marks.{mark_at, no_marks, lowered, lowered_mark}
 use Rattle.page_store.specs.Store.{IsLive, fresh_store}
 use Rattle.database_state.specs.declared.database.Database.{Database}
 use Rattle.database_state.specs.ByName.{at_name, change_first}

@@ -1,6 +1,6 @@
 use Rattle.std.proofs.Common.{◌≡◌, List, ℕ, map, sym, ap, ◌∙◌, subst}
 use Rattle.std.specs.Prelude.{MatchOption}
-use Rattle.read_marks.specs.Frames.{IsLastAt, NoneAt}
+use Rattle.page_store.specs.Frames.{IsLastAt, NoneAt}
 use Rattle.dq_base.specs.declared.pages.NumberedPage.{NumberedPage}
 use Rattle.page_store.specs.Log.{Log}
 use Rattle.page_store.proofs.FramesKept.{numbers_of}

@@ -2,7 +2,7 @@ use Rattle.std.proofs.Common.{◌≡◌, ℕ, List, Option, length, sym, ap, ◌
 use Rattle.std.specs.Prelude.{vec_capacity, unwrap_or, IfSome}
 use Rattle.std.specs.Arc.{arc_value}
 use Rattle.dq_base.specs.declared.images.Image.{Image}
-use Rattle.read_marks.specs.Marks.{least_mark, lowered}
+use Rattle.page_store.specs.Marks.{least_mark, lowered}
 use Rattle.page_store.specs.Store.{Store, newest_image, checkpointed, pages_to_move, StillShows}
 use Rattle.page_store.specs.Sets.{store_of}
 use Rattle.page_store.specs.Log.{Log}

@@ -1,3 +1,0 @@
-pub mod MarkTables
-pub mod PairOrder
-pub mod PlacesKept

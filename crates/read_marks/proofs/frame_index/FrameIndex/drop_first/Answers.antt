@@ -1,6 +1,0 @@
-use Rattle.std.proofs.Common.{drop, ap, ◌∙◌}
-use Rattle.std.proofs.lemmas.List.{drop-drop}
-use Rattle.read_marks.proofs.frame_index.FrameIndex.drop_first.Goals as goal
-
-pub loop-preserved : goal.loop-preserved
-loop-preserved c = c.drop_one.ensures ∙ ap (drop 1) c.loop.invariant ∙ drop-drop 1 c.loop.counter c.args.self.now
