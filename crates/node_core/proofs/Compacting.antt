@@ -5,7 +5,7 @@ use Rattle.database_state.specs.Machines.{IsMachine}
 use Rattle.session_spec.specs.Sessions.{View}
 use Rattle.std.proofs.lemmas.Bool.{leb-true}
 use Rattle.raft_spec.specs.Log.{Entry, LogEnd}
-use Rattle.raft_snapshot.specs.Compacting.{is_due}
+use Rattle.raft_log.specs.Compacting.{is_due}
 use Rattle.raft_spec.specs.Node as raft
 use Rattle.raft_spec.specs.Node.{Server, is_leader}
 use Rattle.raft_spec.specs.NodeValues.{NodeValue, node_of}

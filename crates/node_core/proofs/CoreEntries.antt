@@ -26,7 +26,7 @@ use Rattle.raft_spec.specs.NodeValues.{NodeValue, node_of}
 use Rattle.raft_core.specs.declared.event.RaftEvent.{RaftEvent}
 use Rattle.raft_core.specs.declared.event.RaftEvent.TheVariants.{Propose}
 use Rattle.raft_membership.specs.Members.{settled}
-use Rattle.raft_snapshot.specs.Compacting.{is_due}
+use Rattle.raft_log.specs.Compacting.{is_due}
 use Rattle.raft_messages.specs.declared.message.RaftMessage.{RaftMessage}
 use Rattle.raft_messages.specs.Servers.{servers_bytes}
 use Rattle.store_laws.specs.Store.{Snap}

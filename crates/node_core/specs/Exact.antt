@@ -21,7 +21,7 @@ use Rattle.raft_spec.specs.Log.{Entry, term_at}
 use Rattle.raft_spec.specs.Node.{Node, Server, Role, Leader, Candidate, Follower, Outcome, is_leader}
 use Rattle.raft_spec.specs.Todo.{IsBatch}
 use Rattle.raft_spec.specs.Compaction.{compacted_step}
-use Rattle.raft_snapshot.specs.Compacting.{is_due}
+use Rattle.raft_log.specs.Compacting.{is_due}
 use Rattle.raft_membership.specs.Members.{configuration_in, last_servers}
 use Rattle.raft_messages.specs.declared.message.RaftMessage.{RaftMessage}
 use Rattle.raft_messages.specs.declared.message.Snapshot.{Snapshot}

@@ -11,9 +11,9 @@ use Rattle.raft_spec.specs.NodeValues.{NodeValue, node_of}
 use Rattle.raft_spec.proofs.NodeValues.{whole_length}
 use Rattle.raft_log.specs.Places.{known_term, place_at, cut_at}
 use Rattle.raft_log.proofs.Places.{whole_count}
-use Rattle.raft_snapshot.specs.declared.InstallPlan.{InstallPlan}
-use Rattle.raft_snapshot.specs.declared.InstallPlan.TheVariants as plans
-use Rattle.raft_snapshot.specs.Compacting.{needs, has_that_term, plan_for}
+use Rattle.raft_log.specs.declared.compaction.InstallPlan.{InstallPlan}
+use Rattle.raft_log.specs.declared.compaction.InstallPlan.TheVariants as plans
+use Rattle.raft_log.specs.Compacting.{needs, has_that_term, plan_for}
 use Rattle.raft_safety.proofs.Alikes.{same_term}
 use Rattle.raft_core.specs.Nodes.{IsLog}
 use Rattle.raft_core.specs.Steps.{PlansFor}

@@ -5,8 +5,8 @@ use Rattle.raft_spec.specs.Node.{Node, Outcome}
 use Rattle.raft_spec.specs.Steps.{finish}
 use Rattle.raft_spec.specs.Compaction.{compact, compact_message}
 use Rattle.raft_spec.specs.NodeValues.{NodeValue, node_of}
-use Rattle.raft_snapshot.specs.declared.InstallPlan.{InstallPlan}
-use Rattle.raft_snapshot.specs.declared.InstallPlan.TheVariants as plans
+use Rattle.raft_log.specs.declared.compaction.InstallPlan.{InstallPlan}
+use Rattle.raft_log.specs.declared.compaction.InstallPlan.TheVariants as plans
 use Rattle.raft_core.specs.declared.effects.Effects.{Effects}
 use Rattle.raft_core.specs.Effects.{outcome_of}
 use Rattle.raft_core.specs.Nodes.{told}

@@ -10,9 +10,8 @@ ghost use Rattle.raft_core.specs.Steps.{Ends, PlansFor, compacted_at};
 
 use crate::effects::{Effects, LogChange, Say};
 use crate::node::RaftNode;
-use raft_log::Log;
+use raft_log::{Compact, InstallPlan, Log};
 use raft_messages::LogEnd;
-use raft_snapshot::{Compact, InstallPlan};
 use std::alloc::Global;
 
 // The answer to a snapshot that ends there.

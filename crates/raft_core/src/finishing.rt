@@ -16,8 +16,8 @@ ghost use Rattle.raft_core.specs.Steps.{compact_outcome};
 use crate::effects::{LogChange, Recipients, Say};
 use crate::node::RaftNode;
 use crate::sending::Outgoing;
+use raft_log::Compact;
 use raft_messages::{LogEnd, MessageBody, RaftMessage};
-use raft_snapshot::Compact;
 use std::alloc::{AllocError, Global};
 
 /// The most entries that are sent at once.

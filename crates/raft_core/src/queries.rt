@@ -6,12 +6,12 @@ ghost use Rattle.raft_spec.specs.NodeValues.{node_of};
 ghost use Rattle.raft_spec.specs.Progress.{match_in};
 ghost use Rattle.raft_core.specs.Queries.{forgets_at, known_at, leader_at};
 ghost use Rattle.raft_core.specs.Roles.{role_value};
-ghost use Rattle.raft_snapshot.specs.Compacting.{is_due};
+ghost use Rattle.raft_log.specs.Compacting.{is_due};
 
 use crate::event::RaftView;
 use crate::node::RaftNode;
+use raft_log::Compact;
 use raft_messages::Entry;
-use raft_snapshot::Compact;
 
 // A node, if it is one.
 fn known(leader: u64) -> Option<u64>

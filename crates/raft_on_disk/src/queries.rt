@@ -4,7 +4,7 @@ ghost use Rattle.raft_spec.specs.Log.{log_end};
 ghost use Rattle.raft_spec.specs.Node.{is_leader};
 ghost use Rattle.raft_spec.specs.NodeValues.{node_of};
 ghost use Rattle.raft_spec.specs.Progress.{match_in};
-ghost use Rattle.raft_snapshot.specs.Compacting.{is_due};
+ghost use Rattle.raft_log.specs.Compacting.{is_due};
 ghost use Rattle.raft_core.specs.Queries.{leader_at};
 ghost use Rattle.raft_core.specs.Roles.{role_value};
 

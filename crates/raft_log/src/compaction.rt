@@ -1,18 +1,16 @@
 //! The rules of compaction: when a snapshot is due, what stays of the log, which peer needs it, and what becomes of the
 //! log when one comes.
-#![tactic(auto)]
-
 ghost use Rattle.std.specs.Prelude.{◌≡◌, ◌≢◌, ◌⊎◌, ◌<◌, ◌≤◌, ◌+◌, ◌-◌, ◌↔◌, IsTrue, Some, nat_le};
-ghost use Rattle.raft_snapshot.specs.Compacting.{is_due, first_kept, needs, plan_for};
+ghost use Rattle.raft_log.specs.Compacting.{is_due, first_kept, needs, plan_for};
 
 use raft_messages::LogEnd;
 use std::marker::Model;
 
 /// From so many entries past its last snapshot on a node takes another one.
-pub const SNAPSHOT_DISTANCE: u64 = 64;
+const SNAPSHOT_DISTANCE: u64 = 64;
 
 /// So many entries up to a snapshot stay in the log, for peers that are a little behind.
-pub const KEPT_ENTRIES: u64 = 16;
+const KEPT_ENTRIES: u64 = 16;
 
 /// What becomes of the log when a snapshot comes.
 #[derive(Clone, Copy, Debug, PartialEq, Eq)]

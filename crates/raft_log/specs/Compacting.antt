@@ -1,8 +1,8 @@
 -- The rules of compaction, by the end of the last snapshot.
 use Rattle.std.specs.Prelude.{ℕ, suc, ◌+◌, ◌-◌, Bool, false, not, ◌&&◌, ◌||◌, ◌==◌, nat_lt, nat_le, if◌then◌else◌, Option, Some, None}
 use Rattle.raft_spec.specs.Log.{LogEnd}
-use Rattle.raft_snapshot.specs.declared.InstallPlan.{InstallPlan}
-use Rattle.raft_snapshot.specs.declared.InstallPlan.TheVariants as plans
+use Rattle.raft_log.specs.declared.compaction.InstallPlan.{InstallPlan}
+use Rattle.raft_log.specs.declared.compaction.InstallPlan.TheVariants as plans
 
 -- another snapshot is due: so much is applied past the last one
 abbrev pub is_due : LogEnd → ℕ → Bool
