@@ -1,8 +1,7 @@
 //! What a reader tells of queries over an image.
 
 use dq_base::{Image, Items, Name};
-use query_reader::answer_read;
-use session_outcomes::{Read, ReadJob};
+use session_outcomes::{Read, ReadJob, answer_read};
 use session_table::{Cause, Query, Reply};
 use sql_engine::CellEngine;
 use std::alloc::Global;

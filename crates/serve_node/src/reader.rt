@@ -1,8 +1,8 @@
 //! What answers queries beside the node.
 
-use query_reader::answer_read;
 use serve_threads::Reader;
 use session_gateway::{Read, ReadJob};
+use session_outcomes::answer_read;
 use sql_engine::Engine;
 use std::alloc::Global;
 

@@ -3,9 +3,9 @@
 ghost use Rattle.std.specs.Prelude.{None};
 
 use crate::feed::Feed;
-use query_reader::answer_read;
 use serve_loop::StepReport;
 use serve_traits::{Event, Outbox};
+use session_outcomes::answer_read;
 use sql_engine::Engine;
 use std::alloc::Global;
 use std::sync::Wait;

@@ -14,6 +14,6 @@ mod sessions;
 
 pub use act::Act;
 pub use laws::commands_keep_sessions;
-pub use session_outcomes::{Read, ReadJob, run_job};
+pub use session_outcomes::{Read, ReadJob};
 pub use session_requests::{StepLimits, View};
 pub use sessions::Gateway;

@@ -1,5 +1,5 @@
 -- Queries: where the engine cuts one off, and what a reader tells of one.
-use Rattle.std.specs.Prelude.{◌≡◌, ℕ, Bool, true, false, List, [], ◌∷◌, length, Option, Some, None}
+use Rattle.std.specs.Prelude.{◌≡◌, ◌⊎◌, ℕ, Bool, true, false, List, [], ◌∷◌, length, Option, Some, None}
 use Rattle.wire_rows.specs.Answering.{parts_of}
 use Rattle.sql_engine.specs.declared.answer.StatementResult.{StatementResult}
 use Rattle.sql_engine.specs.declared.kind.EngineKind.{EngineKind}
@@ -51,3 +51,7 @@ pub record TellsJob (m : Meaning) (kind : EngineKind) (job : Job) (told_before t
   pub exact : used job.image (job.statement ∷ []) answers ≡ length answers
   pub answered : IsAnswered (runs job.image no_answer (job.statement ∷ []) answers)
   pub is : job_reply job (runs job.image no_answer (job.statement ∷ []) answers) ≡ read_named read
+
+-- what the engine may answer to the query over its image tells this; or memory ran out, and the query goes back
+abbrev pub TellsOrBack : Meaning → EngineKind → Job → Option Told → Option Told → Read → Type 0
+TellsOrBack meaning kind job told_before told_now read = TellsJob meaning kind job told_before told_now read ⊎ (read ≡ reads.GivenBack)

@@ -1,14 +1,15 @@
 //! Queries that readers run, beside the node.
 
-ghost use Rattle.std.specs.Prelude.{◌≡◌, ◌∷◌, [], ℕ, IfOk};
+ghost use Rattle.std.specs.Prelude.{◌≡◌, ◌∷◌, [], ℕ, IfOk, MatchResult};
 ghost use Rattle.sql_engine.specs.Meanings.{Stays};
 ghost use Rattle.sql_engine.specs.Replies.{IsTable};
 ghost use Rattle.session_spec.specs.Engines as engines;
 ghost use Rattle.session_spec.specs.Requests.{job_reply};
 ghost use Rattle.session_spec.specs.Sessions.{Job};
 ghost use Rattle.session_statements.specs.Running.{RanTo, Shows};
-ghost use Rattle.session_outcomes.specs.Reading.{read_named, RowsTold, TellsJob};
+ghost use Rattle.session_outcomes.specs.Reading.{read_named, RowsTold, TellsJob, TellsOrBack};
 ghost use Rattle.session_outcomes.specs.Runs.{IsWellFormed};
+ghost use Rattle.session_outcomes.specs.declared.job.Read.TheVariants as reads;
 ghost use Rattle.session_statements.specs.Calls.{call_on};
 
 use crate::ran_changes::is_unchanged;
@@ -94,11 +95,32 @@ fn read_of(alloc: Global, ending: Ending) -> Result<Read, AllocError>
 
 /// Runs a job by an engine of the reader's own, which forgets all numbers of images: what is told of it, or that the query goes
 /// back to the node, where it would change pages. The image isn't copied. `Err` means out of memory; the job then stands.
-pub fn run_job<E: Engine>(alloc: Global, job: &ReadJob, engine: &mut E) -> Result<Read, AllocError>
+fn run_job<E: Engine>(alloc: Global, job: &ReadJob, engine: &mut E) -> Result<Read, AllocError>
     ensures stays { Stays (E.kind engine.old) (E.kind engine.new) (E.refused_openings engine.old) (E.refused_openings engine.new) }
     ensures ran { IfOk result (TellsJob (E.meaning (E.kind engine.old)) (E.kind engine.old) job.now (E.told engine.old) (E.told engine.new)) }
 {
     let image: &Image = &job.image;
     let ending = run_query(engine, image, &job.query, job.limit);
     read_of(alloc, ending)
+}
+
+/// What is told of a query, which goes back to the node exactly where memory ran out.
+fn or_back(told: Result<Read, AllocError>) -> Read
+    ensures { MatchResult told (λ read. result ≡ read) (λ _. result ≡ reads.GivenBack) }
+{
+    match told {
+        Ok(read) => read,
+        Err(_) => Read::GivenBack,
+    }
+}
+
+/// Runs a query over the image that goes with it, and tells what it comes to there: rows, a refusal, or that the node is to run it, as it
+/// would change pages. Where memory runs out the node is to run it too. The image isn't copied.
+///
+/// The job's limit of steps bounds how long the query takes.
+pub fn answer_read<E: Engine>(alloc: Global, job: &ReadJob, engine: &mut E) -> Read
+    ensures stays { Stays (E.kind engine.old) (E.kind engine.new) (E.refused_openings engine.old) (E.refused_openings engine.new) }
+    ensures told { TellsOrBack (E.meaning (E.kind engine.old)) (E.kind engine.old) job.now (E.told engine.old) (E.told engine.new) result }
+{
+    or_back(run_job(alloc, job, engine))
 }

@@ -22,7 +22,7 @@ mod writing;
 pub use commit::committing;
 pub use decision::Decision;
 pub use decision_context::DecisionContext;
-pub use job::{Read, ReadJob, run_job};
+pub use job::{Read, ReadJob, answer_read};
 pub use plain::{beginning, creating, finalizing, opened, preparing, telling};
 pub use reading::read_statement;
 pub use running::{run_script, run_single};
