@@ -11,7 +11,7 @@ use Rattle.log_commands.specs.declared.command.Command.{Command}
 use Rattle.log_commands.specs.declared.fault.CommandFault.{CommandFault}
 use Rattle.log_commands.specs.Reading.{command_of}
 use Rattle.database_state.specs.Files.{Content, act, files}
-use Rattle.command_journal.specs.Limits.{may_join}
+use Rattle.script_machines.specs.Limits.{may_join}
 use Rattle.file_digest.specs.Digest.{digest}
 use Rattle.script_grammar.specs.declared.events.Event.TheVariants.{Timeout, Beat, Connect, Bytes, Hangup, Deliver, Settle, Crash, Start, Put, Take}
 use Rattle.script_machines.specs.declared.machine_line.MachineLine.{MachineLine}

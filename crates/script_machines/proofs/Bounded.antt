@@ -15,9 +15,9 @@ use Rattle.database_state.specs.Files.{Content, files}
 use Rattle.database_state.specs.Stated as files_stated
 use Rattle.database_state.specs.Stated.{IsSpelled, names_opened}
 use Rattle.database_state.proofs.LimitLaw.{limit_bounds}
-use Rattle.command_journal.specs.Limits.{length_stated_by, statements, table_of, is_allowed, may_join}
-use Rattle.command_journal.specs.StatedLengths.{names_in, greatest_stated}
-use Rattle.command_journal.proofs.StatedTables.{names_told, allowed_told}
+use Rattle.script_machines.specs.Limits.{length_stated_by, statements, table_of, is_allowed, may_join}
+use Rattle.script_machines.specs.StatedLengths.{names_in, greatest_stated}
+use Rattle.script_machines.proofs.StatedTables.{names_told, allowed_told}
 use Rattle.script_grammar.specs.declared.events.Event.TheVariants as event
 use Rattle.script_machines.specs.declared.machine_line.MachineLine.{MachineLine}
 use Rattle.script_machines.specs.Machines.{Fleet, take_at, with_command, applies, place_named}

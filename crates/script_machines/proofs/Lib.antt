@@ -2,3 +2,9 @@ pub mod Standings
 pub mod Elements
 pub mod Agreement
 pub mod Bounded
+pub mod CommandSizes
+pub mod Kept
+pub mod NameLists
+pub mod StatedTables
+pub mod Statements
+pub mod Tables

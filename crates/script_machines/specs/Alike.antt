@@ -5,7 +5,7 @@ use Rattle.wire_words.specs.Items.{AreBytes}
 use Rattle.log_commands.specs.declared.command.Command.{Command}
 use Rattle.database_state.specs.Files.{Content, files}
 use Rattle.database_state.specs.Stated.{IsSpelled, length_of_files}
-use Rattle.command_journal.specs.Limits.{table_of, is_allowed}
+use Rattle.script_machines.specs.Limits.{table_of, is_allowed}
 use Rattle.file_digest.specs.Digest.{digest}
 use Rattle.script_grammar.specs.declared.events.Event.{Event}
 use Rattle.script_grammar.specs.declared.events.Event.TheVariants.{Timeout, Beat, Connect, Bytes, Hangup, Deliver, Settle, Crash, Start, Put, Take}

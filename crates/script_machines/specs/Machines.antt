@@ -12,7 +12,7 @@ use Rattle.script_grammar.specs.declared.events.Event.TheVariants.{Timeout, Beat
 use Rattle.script_machines.specs.declared.machines.Machines.{Machines}
 use Rattle.database_state.specs.Files.{act}
 use Rattle.script_machines.specs.Holding.{Holding}
-use Rattle.command_journal.specs.Limits.{may_join}
+use Rattle.script_machines.specs.Limits.{may_join}
 use Rattle.file_digest.specs.Digest.{digest}
 
 -- a list of commands, and the machines by their numbers from 1

@@ -5,8 +5,8 @@ ghost use Rattle.std.specs.Option.{option_map};
 ghost use Rattle.log_commands.specs.Reading.{command_of};
 ghost use Rattle.script_machines.specs.Machines.{place_named, refusal};
 
+use crate::list::CommandList;
 use crate::machine_line::MachineLine;
-use command_journal::CommandList;
 use database_state::Machine;
 use file_digest::digest;
 use log_commands::{CommandFault, read_command};

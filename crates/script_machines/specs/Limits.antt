@@ -6,7 +6,7 @@ use Rattle.dq_base.specs.declared.pages.NumberedPage.{NumberedPage}
 use Rattle.dq_base.specs.Applying.{is_sizes, stated_main, stated_side, last_page}
 use Rattle.log_commands.specs.declared.command.Command.{Command}
 use Rattle.log_commands.specs.declared.command.Command.TheVariants.{OpenDb, Frames, Undo, Checkpoint}
-use Rattle.command_journal.specs.declared.stated.Stated.{Stated}
+use Rattle.script_machines.specs.declared.stated.Stated.{Stated}
 
 -- the length that a sizes page states, of both files together; another page states none
 abbrev pub length_stated_by : Option NumberedPage → ℕ

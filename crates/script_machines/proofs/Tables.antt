@@ -2,8 +2,8 @@
 use Rattle.std.proofs.Common.{◌≡◌, ℕ, ◌+◌, ◌<◌, ◌≤◌, max, true, false, List, [], ◌∷◌, ◌++◌, length, get_or, take, drop, set, refl, sym, ap, ◌∙◌, append_assoc, add-one}
 use Rattle.std.specs.Str.{bytes_eq}
 use Rattle.std.proofs.lemmas.List.{drop_more, drop_all, take_more, take_all, set_split, set-set, set-get_or, get_or-set_same, get_or_read}
-use Rattle.command_journal.specs.declared.stated.Stated.{Stated}
-use Rattle.command_journal.specs.Limits.{note, IsNotedAt, IsNew}
+use Rattle.script_machines.specs.declared.stated.Stated.{Stated}
+use Rattle.script_machines.specs.Limits.{note, IsNotedAt, IsNew}
 
 module _ (name : List ℕ) (table : List Stated) (i : ℕ) (x : Stated) (lt : i < length table) (is : x ≡ get_or table i x) (so_far : (size : ℕ) → note table name size ≡ take i table ++ note (drop i table) name size) where
   from_here : (size : ℕ) → note table name size ≡ take i table ++ note (x ∷ drop (i + 1) table) name size

@@ -1,6 +1,6 @@
 use Rattle.std.proofs.Common.{sym, ◌∙◌}
-use Rattle.command_journal.proofs.Tables.{noted_here, noted_later, noted_never}
-use Rattle.command_journal.proofs.list.place_of.Goals as goal
+use Rattle.script_machines.proofs.Tables.{noted_here, noted_later, noted_never}
+use Rattle.script_machines.proofs.list.place_of.Goals as goal
 
 pub returns-then-eq : goal.returns-then-eq
 returns-then-eq c =

@@ -1,5 +1,5 @@
-use Rattle.command_journal.proofs.Tables.{put_back}
-use Rattle.command_journal.proofs.list.try_note.Goals as goal
+use Rattle.script_machines.proofs.Tables.{put_back}
+use Rattle.script_machines.proofs.list.try_note.Goals as goal
 
 pub returns-then-not-within-2-clause-kept : goal.returns-then-not-within-2-clause-kept
 returns-then-not-within-2-clause-kept c = λ refused.

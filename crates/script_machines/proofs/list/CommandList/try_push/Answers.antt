@@ -1,8 +1,8 @@
 use Rattle.std.proofs.Common.{◌≡◌, ◌++◌, ◌∷◌, [], List, ap, sym, subst, ◌∙◌}
 use Rattle.log_commands.specs.declared.command.Command.{Command}
-use Rattle.command_journal.specs.Kept.{IsKept}
-use Rattle.command_journal.proofs.Kept.{kept_more}
-use Rattle.command_journal.proofs.list.CommandList.try_push.Goals as goal
+use Rattle.script_machines.specs.Kept.{IsKept}
+use Rattle.script_machines.proofs.Kept.{kept_more}
+use Rattle.script_machines.proofs.list.CommandList.try_push.Goals as goal
 
 pub invariant_of-self-in-Continue-branch-3 : goal.invariant_of-self-in-Continue-branch-3
 invariant_of-self-in-Continue-branch-3 c =

@@ -7,11 +7,11 @@ use Rattle.std.proofs.lemmas.List.{length-map}
 use Rattle.std.proofs.lemmas.List.Elements.{All-from_recursion}
 use Rattle.std.proofs.lemmas.List.Sums.{sum_by-cons}
 use Rattle.std.proofs.lemmas.Slice.Eq.{bytes_eq-Decides}
-use Rattle.command_journal.specs.declared.stated.Stated.{Stated}
-use Rattle.command_journal.specs.Limits.{note, noted, is_allowed}
-use Rattle.command_journal.specs.StatedLengths.{AreNamesIn, greatest_stated, names_in}
+use Rattle.script_machines.specs.declared.stated.Stated.{Stated}
+use Rattle.script_machines.specs.Limits.{note, noted, is_allowed}
+use Rattle.script_machines.specs.StatedLengths.{AreNamesIn, greatest_stated, names_in}
 use Rattle.log_commands.proofs.NamesAmong.{IsIn, is_in, same_or_other}
-use Rattle.command_journal.proofs.NameLists.{AreDistinct, contains, apart, distinct, same_sum, length_is_sum}
+use Rattle.script_machines.proofs.NameLists.{AreDistinct, contains, apart, distinct, same_sum, length_is_sum}
 
 -- ---- the names after one more
 

@@ -1,6 +1,6 @@
-use Rattle.command_journal.specs.Limits.{statements}
-use Rattle.command_journal.proofs.StatedTables.{names_told, lengths_told, sum_told, allowed_told}
-use Rattle.command_journal.proofs.laws.limits_bound_what_is_stated.Goals as goal
+use Rattle.script_machines.specs.Limits.{statements}
+use Rattle.script_machines.proofs.StatedTables.{names_told, lengths_told, sum_told, allowed_told}
+use Rattle.script_machines.proofs.laws.limits_bound_what_is_stated.Goals as goal
 
 pub returns : goal.returns
 returns c = record {

@@ -5,10 +5,10 @@ use Rattle.std.specs.List.{AllByRecursion}
 use Rattle.log_commands.specs.declared.command.Command.{Command}
 use Rattle.log_commands.specs.Numbers.{numbers_fit, HasLowNumbers}
 use Rattle.log_commands.proofs.InOtherWords.{fit_low}
-use Rattle.command_journal.specs.declared.stated.Stated.{Stated}
-use Rattle.command_journal.specs.Limits.{noted, stated_by}
-use Rattle.command_journal.specs.Kept.{IsKept}
-use Rattle.command_journal.proofs.Statements.{table_more}
+use Rattle.script_machines.specs.declared.stated.Stated.{Stated}
+use Rattle.script_machines.specs.Limits.{noted, stated_by}
+use Rattle.script_machines.specs.Kept.{IsKept}
+use Rattle.script_machines.proofs.Statements.{table_more}
 
 pub none_kept : IsKept [] []
 none_kept = record { tabled = refl; low = tt }

@@ -3,8 +3,8 @@ use Rattle.std.specs.Prelude.{◌≢◌, ◌↔◌, ℕ, max, List, [], ◌∷�
 use Rattle.std.specs.List.{AllPairs, Contains}
 use Rattle.std.specs.Str.{bytes_eq}
 use Rattle.log_commands.specs.declared.command.Command.{Command}
-use Rattle.command_journal.specs.declared.stated.Stated.{Stated}
-use Rattle.command_journal.specs.Limits.{statements}
+use Rattle.script_machines.specs.declared.stated.Stated.{Stated}
+use Rattle.script_machines.specs.Limits.{statements}
 
 -- the names in a table
 abbrev pub names_in : List Stated → List (List ℕ)

@@ -3,8 +3,8 @@
 ghost use Rattle.std.specs.Prelude.{◌≡◌, ◌<◌, ◌+◌, ◌^◌, ◌++◌, ◌∷◌, [], length, vec_len, set, get_or, slice_get, IfOk, IfSome, OnSome, OnErr, Some, MatchOption, true, false, option_copied, if◌then◌else◌};
 ghost use Rattle.dq_base.specs.Applying.{last_page};
 ghost use Rattle.log_commands.specs.Numbers.{numbers_fit, HasLowNumbers};
-ghost use Rattle.command_journal.specs.declared.stated.Stated.{Stated};
-ghost use Rattle.command_journal.specs.Limits.{length_stated_by, stated_by, note, noted, is_allowed, IsNotedAt, IsNew};
+ghost use Rattle.script_machines.specs.declared.stated.Stated.{Stated};
+ghost use Rattle.script_machines.specs.Limits.{length_stated_by, stated_by, note, noted, is_allowed, IsNotedAt, IsNew};
 
 use crate::stated::Stated;
 use dq_base::{Name, NumberedPage, stated_lengths};
@@ -136,7 +136,7 @@ fn try_note_command(
 /// A list of commands within its limits: at most 16 names, and in all at most 67,108,864 bytes of files that it states.
 /// Contracts see it as its commands.
 #[derive(Drop)]
-pub struct CommandList {
+pub(crate) struct CommandList {
     commands: Vec<Command>,
     table: Vec<Stated>,
 }
@@ -144,7 +144,7 @@ pub struct CommandList {
 impl Model for CommandList {
     ghost use Rattle.std.specs.Prelude.{List};
     ghost use Rattle.log_commands.specs.declared.command.Command.{Command};
-    ghost use Rattle.command_journal.specs.Kept.{IsKept};
+    ghost use Rattle.script_machines.specs.Kept.{IsKept};
 
     ghost Value = { List Command };
 
@@ -154,7 +154,7 @@ impl Model for CommandList {
 }
 
 impl CommandList {
-    ghost use Rattle.command_journal.specs.Limits.{may_join};
+    ghost use Rattle.script_machines.specs.Limits.{may_join};
 
     /// No commands.
     pub fn new(alloc: Global) -> CommandList

@@ -3,8 +3,8 @@ use Rattle.std.specs.Prelude.{◌≡◌, List}
 use Rattle.std.specs.List.{AllByRecursion}
 use Rattle.log_commands.specs.declared.command.Command.{Command}
 use Rattle.log_commands.specs.Numbers.{HasLowNumbers}
-use Rattle.command_journal.specs.declared.stated.Stated.{Stated}
-use Rattle.command_journal.specs.Limits.{table_of}
+use Rattle.script_machines.specs.declared.stated.Stated.{Stated}
+use Rattle.script_machines.specs.Limits.{table_of}
 
 -- The table is that of the commands, and no page of them has a number above the highest.
 pub record IsKept (commands : List Command) (table : List Stated) : Type 0 where

@@ -1,6 +1,0 @@
-pub mod CommandSizes
-pub mod Kept
-pub mod NameLists
-pub mod StatedTables
-pub mod Statements
-pub mod Tables
