@@ -1,5 +1,5 @@
-//! The tests of sessions as code, which call the crates from outside. A crate with tests of its own is proved once more with
-//! them, so these stand here.
+//! The tests of sessions as code, and of what answers queries beside a node, which call the crates from outside. A crate with tests
+//! of its own is proved once more with them, so these stand here.
 #![tactic(auto)]
 
 #[cfg(test)]
@@ -12,5 +12,7 @@ mod lives;
 mod messages;
 #[cfg(test)]
 mod node;
+#[cfg(test)]
+mod readers;
 #[cfg(test)]
 mod rows;

@@ -1,9 +1,11 @@
-//! The tests of the files of a node, which call their crates from outside. A crate with tests of its own is proved once more
-//! with them, so these stand here.
+//! The tests of the files of a node, and of a check of a stopped node, which call their crates from outside. A crate with tests of
+//! its own is proved once more with them, so these stand here.
 #![tactic(auto)]
 
 #[cfg(test)]
 mod batches;
+#[cfg(test)]
+mod checks;
 #[cfg(test)]
 mod fails;
 #[cfg(test)]
