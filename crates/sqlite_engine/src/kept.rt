@@ -1,11 +1,11 @@
 ghost use Rattle.std.specs.Prelude.{◌≡◌, ◌↔◌, true, false, [], Some, IsTrue, IfOk, IfErr, IfSome, Err};
-ghost use Rattle.sqlite_read_counts.specs.Counts.{LooksOnly};
+ghost use Rattle.sqlite_facts.specs.Counts.{LooksOnly};
 ghost use Rattle.dq_base.specs.Changes.{changed};
 ghost use Rattle.sql_engine.specs.Meanings.{IsShort};
 ghost use Rattle.sqlite.specs.Files.{file_state};
 ghost use Rattle.sqlite_store.specs.FileStore.{files};
 ghost use Rattle.sqlite_open_files.specs.Held.{image_in};
-ghost use Rattle.sqlite_same_pages.specs.Alike.{HoldAlike};
+ghost use Rattle.sqlite_facts.specs.Alike.{HoldAlike};
 ghost use Rattle.sqlite.specs.Listing.{understood};
 ghost use Rattle.sqlite.specs.State.{Executes, FailsToQuery};
 ghost use Rattle.sqlite.specs.Values.{bound};
@@ -28,7 +28,7 @@ use sqlite::types::ValueRef;
 use sqlite::{Error, ErrorCode, Row, Statement};
 use sqlite_files::changes_between;
 use sqlite_open_files::{connected, held, log_of, main_of};
-use sqlite_same_pages::same_pages;
+use sqlite_facts::same_pages;
 use std::alloc::{AllocError, Global};
 
 /// A connection that is kept open over an image. Except for what it has counted, and its limit of steps, it stands to that image
