@@ -17,7 +17,7 @@ use Rattle.sql_engine.specs.Cells.{Outcome, outcome_of, cells}
 use Rattle.database_state.specs.Files.{image_after}
 use Rattle.session_spec.specs.Engines.{Answer, Ending, Lacking, TooLarge, Stopped, Ended, takes, runs, Allows, AllowsRest, AllowsAll}
 use Rattle.node_core.specs.Plain.{plain_ran}
-use Rattle.core_determinism.specs.Decided.{IsAmple}
+use Rattle.script_determinism.specs.CoreSteps.{IsAmple}
 
 -- an ending without the number of the transaction that its pages are told under
 abbrev pub plain_end : Ending → Ending

@@ -1,5 +1,5 @@
 use Rattle.script_determinism.proofs.Running.{broken_runs_repeat, fronts_repeat, runs_compare, whole_runs_repeat}
-use Rattle.script_determinism.proofs.scripts_repeat.Goals as goal
+use Rattle.script_determinism.proofs.runs.scripts_repeat.Goals as goal
 
 pub returns-clause-compared : goal.returns-clause-compared
 returns-clause-compared g c = runs_compare g.N.AreNodes.nodes

@@ -28,12 +28,12 @@ use Rattle.node_core.specs.declared.links.Link.{Link}
 use Rattle.node_core.specs.Plain.{plain_gate}
 use Rattle.node_core.specs.Core.{Core, clients_at, entry_done, is_settled, owing, waiting, duty_of, dutiful, replied, taking, idle, closed_for}
 use Rattle.node_core.specs.Exact.{TurnsTo, ExactRequest, ExactMessage, resuming, ExactWaitingQuery, ExactWaitingQueries, ExactEntry, MayCompact, ExactCompaction, OnHeard, OnOffer, OnQuery, OnCommit, OnDue, ExactTurn}
-use Rattle.core_determinism.specs.Decided.{IsAmple, plain_answer, IsAlone}
-use Rattle.core_determinism.proofs.PlainAsking.{plain_turned, session_twice, responses_plain, handed_plain, handed_later_plain, request_plain, later_plain, without_plain}
-use Rattle.core_determinism.proofs.SameRequests.{asked_same}
-use Rattle.core_determinism.proofs.SameAnswers.{later_same, asked_alike, later_alike}
-use Rattle.core_determinism.proofs.SameSteps.{own_same, compacts_same, beside, own_beside, compacts_beside}
-use Rattle.core_determinism.proofs.Unlinked.{IsTold, request_told, later_told}
+use Rattle.script_determinism.specs.CoreSteps.{IsAmple, plain_answer, IsAlone}
+use Rattle.script_determinism.proofs.PlainAsking.{plain_turned, session_twice, responses_plain, handed_plain, handed_later_plain, request_plain, later_plain, without_plain}
+use Rattle.script_determinism.proofs.SameRequests.{asked_same}
+use Rattle.script_determinism.proofs.SameAnswers.{later_same, asked_alike, later_alike}
+use Rattle.script_determinism.proofs.SameSteps.{own_same, compacts_same, beside, own_beside, compacts_beside}
+use Rattle.script_determinism.proofs.Unlinked.{IsTold, request_told, later_told}
 
 -- the answers are the same except for numbers of transactions
 abbrev pub AreAlike : List Answer → List Answer → Type 0

@@ -17,8 +17,8 @@ use Rattle.node_core.specs.Exact.{StepsExactly}
 use Rattle.node_core.specs.ExactStart.{StartsExactly}
 use Rattle.node_core.specs.Values.{seen}
 use Rattle.cluster_safety.specs.Runs.{nothing_kept}
-use Rattle.core_determinism.specs.Decided.{IsAlone, IsUnread, IsSame, StepsAreDecided, StartsAreDecided, KeptIsOfCore}
-use Rattle.core_determinism.proofs.SameRuns.{steps_decided, starts_decided, kept_of_core}
+use Rattle.script_determinism.specs.CoreSteps.{IsAlone, IsUnread, IsSame, StepsAreDecided, StartsAreDecided, KeptIsOfCore}
+use Rattle.script_determinism.proofs.SameRuns.{steps_decided, starts_decided, kept_of_core}
 use Rattle.script_grammar.specs.declared.grammar.FaultTarget.{FaultTarget}
 use Rattle.script_cluster.specs.Voters.{voters_from}
 use Rattle.script_cluster.specs.Knowing.{actor, turns_at, with_over}
@@ -35,8 +35,8 @@ use Rattle.script_determinism.specs.Nodes.{Path, EndsWell, IsAmple, GoesWell, Ar
 use Rattle.script_determinism.specs.Repeats.{IsLed, StartWith, BrokeOff, BrokenRunsRepeat, FrontsRepeat, RunsCompare, WholeRunsRepeat}
 use Rattle.script_determinism.proofs.Paths.{turns_join, well_at}
 use Rattle.script_determinism.proofs.Running.{broken_runs_repeat, fronts_repeat, runs_compare, whole_runs_repeat}
-use Rattle.cell_scripts.specs.Cores.{CoreSeat, Runs, Rests, stands_at, StepsAt, StartsAt, EndsAt, CrashesAt, TurnsAt, cell_nodes}
-use Rattle.cell_scripts.specs.Decided.{NoneFailed, GoesUntroubled, IsOfCells, BrokeOffCells, CellBrokenRepeat, CellFrontsRepeat, CellScriptsCompare, CellScriptsRepeat}
+use Rattle.script_determinism.specs.Cores.{CoreSeat, Runs, Rests, stands_at, StepsAt, StartsAt, EndsAt, CrashesAt, TurnsAt, cell_nodes}
+use Rattle.script_determinism.specs.Decided.{NoneFailed, GoesUntroubled, IsOfCells, BrokeOffCells, CellBrokenRepeat, CellFrontsRepeat, CellScriptsCompare, CellScriptsRepeat}
 
 -- ---- events
 

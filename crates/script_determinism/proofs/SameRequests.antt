@@ -13,10 +13,10 @@ use Rattle.session_spec.specs.Sessions.{Lent, Gateway, Session, Transaction, Vie
 use Rattle.session_spec.specs.Asking.{Asked, Never, Tells, Sets, Opens, Creates, Prepares, Drops, Begins, Commits, RollsBack, Changes, Runs, Reads, asked}
 use Rattle.session_spec.specs.Requests.{with_later, outside, inside, run_in, waits_first, barrier_first, job_of, read_outside, read_in, does, on_request, ground, handed_over, handed_for, handed}
 use Rattle.session_safety.specs.Alone.{lacks}
-use Rattle.core_determinism.specs.Decided.{IsAmple}
-use Rattle.core_determinism.proofs.CellAnswers.{runs_same}
-use Rattle.core_determinism.proofs.PlainAsking.{plain_turned}
-use Rattle.core_determinism.proofs.SameEndings.{outside_same, inside_same, read_same}
+use Rattle.script_determinism.specs.CoreSteps.{IsAmple}
+use Rattle.script_determinism.proofs.CellAnswers.{runs_same}
+use Rattle.script_determinism.proofs.PlainAsking.{plain_turned}
+use Rattle.script_determinism.proofs.SameEndings.{outside_same, inside_same, read_same}
 
 yes_no : true ≡ false → ⊥
 yes_no e = cc

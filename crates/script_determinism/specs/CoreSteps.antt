@@ -53,13 +53,13 @@ pub record IsSame (v u : Core) (one other : StepOutputs) (a b : List Answer) : T
   pub answers : map plain_answer a ≡ map plain_answer b
   pub alone : IsAlone v
 
--- From one core, with no links and no readers, an event leads to one core, by whichever answers of cells, where none is a out of memory.
+-- From one core, with no links and no readers, an event leads to one core, by any answers of cells of which none is out of memory.
 abbrev pub StepsAreDecided : Type 0
 StepsAreDecided = (event : Event) (w v u : Core) (one other : StepOutputs) (a b : List Answer) → IsUnread event → IsAlone w
     → StepsExactly cells Cells event w v one a → StepsExactly cells Cells event w u other b
     → AllByRecursion IsAmple a → AllByRecursion IsAmple b → IsSame v u one other a b
 
--- Over what was kept a start of an id leads to one core, which has no links and no readers where the start has none.
+-- Over what was kept a start of an id leads to one core, which has no links and no readers if the start has none.
 abbrev pub StartsAreDecided : Type 0
 StartsAreDecided = (me : ℕ) (opening : List Server) (kept : Kept) (v u : Core)
     → StartsExactly me false false opening kept v → StartsExactly me false false opening kept u → (v ≡ u) × IsAlone v

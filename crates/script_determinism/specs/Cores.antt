@@ -12,7 +12,7 @@ use Rattle.node_core.specs.Core.{Core}
 use Rattle.node_core.specs.Exact.{StepsExactly}
 use Rattle.node_core.specs.ExactStart.{StartsExactly}
 use Rattle.cluster_safety.specs.Runs.{nothing_kept}
-use Rattle.core_determinism.specs.Decided.{IsAlone}
+use Rattle.script_determinism.specs.CoreSteps.{IsAlone}
 use Rattle.script_cluster.specs.Voters.{voters_from}
 use Rattle.script_cluster.specs.Outcomes.{Standing, Outs, Ending, Steps, Starts, Doing, Start, Turn, Does, Crashes}
 use Rattle.script_safety.specs.Slots.{EventIs, outs_of}

@@ -1,5 +1,5 @@
-use Rattle.cell_scripts.proofs.Deciding.{cells_broken, cells_compare, cells_front, cells_repeat}
-use Rattle.cell_scripts.proofs.scripts_are_decided.Goals as goal
+use Rattle.script_determinism.proofs.Deciding.{cells_broken, cells_compare, cells_front, cells_repeat}
+use Rattle.script_determinism.proofs.cells.scripts_are_decided.Goals as goal
 
 pub returns-clause-compared : goal.returns-clause-compared
 returns-clause-compared c = cells_compare

@@ -17,10 +17,10 @@ use Rattle.session_spec.specs.Asking.{Asked, Never, Tells, Sets, Opens, Creates,
 use Rattle.session_spec.specs.Requests.{run_in, read_in, waits_first, barrier_first, does, on_request, on_later, ground, handed_over, handed_for, handed, handed_later}
 use Rattle.session_safety.specs.Alone.{lacks}
 use Rattle.node_core.specs.Plain.{plain_ran}
-use Rattle.core_determinism.specs.Decided.{IsAmple, plain_answer}
-use Rattle.core_determinism.proofs.CellAnswers.{answer_same, rest_of}
-use Rattle.core_determinism.proofs.SameRequests.{outside_lacks, inside_lacks, read_lacks, run_same}
-use Rattle.core_determinism.proofs.PlainAsking.{plain_turned}
+use Rattle.script_determinism.specs.CoreSteps.{IsAmple, plain_answer}
+use Rattle.script_determinism.proofs.CellAnswers.{answer_same, rest_of}
+use Rattle.script_determinism.proofs.SameRequests.{outside_lacks, inside_lacks, read_lacks, run_same}
+use Rattle.script_determinism.proofs.PlainAsking.{plain_turned}
 
 -- ---- what comes of a query that is run later
 

@@ -17,9 +17,9 @@ use Rattle.node_core.specs.declared.event.Event.TheVariants as events
 use Rattle.node_core.specs.Core.{Core, core_of, joined_by, heard_by, gone_by, silent}
 use Rattle.node_core.specs.Exact.{RunsIn, ExactBegin}
 use Rattle.node_core.specs.ExactStart.{started}
-use Rattle.core_determinism.specs.Decided.{IsAmple, plain_answer, IsAlone, IsUnread, StepsAreDecided, StartsAreDecided, KeptIsOfCore}
-use Rattle.core_determinism.proofs.SameSteps.{raft_same, raft_beside, beside}
-use Rattle.core_determinism.proofs.SameTurns.{AreAlike, turn_same, turn_alone, alone_of}
+use Rattle.script_determinism.specs.CoreSteps.{IsAmple, plain_answer, IsAlone, IsUnread, StepsAreDecided, StartsAreDecided, KeptIsOfCore}
+use Rattle.script_determinism.proofs.SameSteps.{raft_same, raft_beside, beside}
+use Rattle.script_determinism.proofs.SameTurns.{AreAlike, turn_same, turn_alone, alone_of}
 
 -- ---- answers one behind the other
 

@@ -16,8 +16,8 @@ use Rattle.session_spec.specs.Sessions.{Reply, Writing, Lent, Transaction, Sessi
 use Rattle.session_spec.specs.Limits.{first_cause, change_refusal, log_full}
 use Rattle.session_spec.specs.Requests.{with_flight, with_later, worked, flying, unless, row_cause, reply_of, change_of, outside_write, outside, inside, job_of, was_cut, read_outside}
 use Rattle.node_core.specs.Plain.{plain_ran, plain_reply, plain_session}
-use Rattle.core_determinism.proofs.CellAnswers.{plain_end}
-use Rattle.core_determinism.proofs.PlainAsking.{plain_turned, both, unless_both}
+use Rattle.script_determinism.proofs.CellAnswers.{plain_end}
+use Rattle.script_determinism.proofs.PlainAsking.{plain_turned, both, unless_both}
 
 reply_plain : (rows : Bool) (r : StatementResult) → plain_reply (reply_of rows r) ≡ plain_reply (reply_of rows (plain_ran r))
 reply_plain true r = refl
