@@ -15,7 +15,7 @@ use Rattle.script_safety.specs.Mails.{ByNodes, OverByNode}
 use Rattle.script_safety.specs.Slots.{setup_of}
 use Rattle.script_determinism.specs.Plain.{plain_items, plain_turns}
 use Rattle.script_determinism.specs.Repeats.{AreAlike, Compared, Same, Shorter, Longer, IsWhole, StartWith}
-use Rattle.cell_scripts.specs.Decided.{GoesUntroubled, IsOfCells, BrokeOffCells, CellBrokenRepeat, CellScriptsCompare}
+use Rattle.script_determinism.specs.Decided.{GoesUntroubled, IsOfCells, BrokeOffCells, CellBrokenRepeat, CellScriptsCompare}
 use Rattle.dqnode.specs.Program.{BreaksOff, Gives}
 use Rattle.dqnode.specs.Decided.{WentWell, BrokeWell, BrokenDecideBy, ScriptsDecide, BrokenScriptsDecide}
 

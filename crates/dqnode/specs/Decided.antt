@@ -10,7 +10,7 @@ use Rattle.script_cluster.specs.Run.{Fault}
 use Rattle.script_whole_nodes.specs.Safe.{IsFairTo, IsFairOver}
 use Rattle.script_determinism.specs.Plain.{plain_items, plain_turns}
 use Rattle.script_determinism.specs.Repeats.{IsWhole}
-use Rattle.cell_scripts.specs.Decided.{GoesUntroubled}
+use Rattle.script_determinism.specs.Decided.{GoesUntroubled}
 use Rattle.script_runner.specs.Ending.{Anything, MayFollow}
 use Rattle.dqnode.specs.Program.{BreaksOff, Gives}
 

@@ -1,5 +1,15 @@
+pub mod CellAnswers
+pub mod PlainAsking
+pub mod Unlinked
+pub mod SameEndings
+pub mod SameRequests
+pub mod SameAnswers
+pub mod SameSteps
+pub mod SameTurns
+pub mod SameRuns
 pub mod Growing
 pub mod Using
 pub mod Paths
 pub mod Going
 pub mod Running
+pub mod Deciding

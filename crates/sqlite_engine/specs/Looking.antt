@@ -5,7 +5,7 @@ use Rattle.dq_base.specs.declared.images.Image.{Image}
 use Rattle.sqlite.specs.Files.{file_state}
 use Rattle.sqlite.specs.Listing.{understood}
 use Rattle.sqlite_schema.specs.declared.schema.Schema.{Schema}
-use Rattle.sqlite_read_counts.specs.Counts.{LooksOnly}
+use Rattle.sqlite_facts.specs.Counts.{LooksOnly}
 use Rattle.sqlite_resolve.specs.declared.compiled.Compiled.{Compiled}
 use Rattle.sqlite_resolve.specs.declared.error.CompileError.{CompileError}
 use Rattle.sql_engine.specs.declared.answer.StatementResult.{StatementResult}

@@ -3,7 +3,7 @@
 ghost use Rattle.std.specs.Prelude.{◌≡◌, false, IsTrue, IfSome};
 ghost use Rattle.sqlite.specs.Files.{file_state};
 
-use crate::connection::{Conn, drop_connection, execute, query};
+use crate::connection::{Conn, drop_connection, execute, is_settled, limit_steps, query};
 use crate::image_history::Write;
 use crate::values::bind;
 use sqlite::types::ValueRef;
@@ -36,11 +36,11 @@ fn ran_again(alloc: Global, conn: &mut Conn, write: &Write) -> bool
     ensures open { IsTrue result → IsTrue (file_state conn.new).is_open }
     ensures autocommit { IsTrue result → (file_state conn.new).in_transaction ≡ false }
 {
-    conn.set_step_limit(Some(MAX_STEPS));
+    limit_steps(conn, Some(MAX_STEPS));
     if !is_run(alloc, conn, write) {
         return false;
     }
-    conn.is_autocommit()
+    is_settled(conn)
 }
 
 /// Runs a statement, and tells whether it was run.

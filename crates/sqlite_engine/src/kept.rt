@@ -1,11 +1,11 @@
 ghost use Rattle.std.specs.Prelude.{◌≡◌, ◌↔◌, true, false, [], Some, IsTrue, IfOk, IfErr, IfSome, Err};
-ghost use Rattle.sqlite_read_counts.specs.Counts.{LooksOnly};
+ghost use Rattle.sqlite_facts.specs.Counts.{LooksOnly};
 ghost use Rattle.dq_base.specs.Changes.{changed};
 ghost use Rattle.sql_engine.specs.Meanings.{IsShort};
 ghost use Rattle.sqlite.specs.Files.{file_state};
 ghost use Rattle.sqlite_store.specs.FileStore.{files};
 ghost use Rattle.sqlite_open_files.specs.Held.{image_in};
-ghost use Rattle.sqlite_same_pages.specs.Alike.{HoldAlike};
+ghost use Rattle.sqlite_facts.specs.Alike.{HoldAlike};
 ghost use Rattle.sqlite.specs.Listing.{understood};
 ghost use Rattle.sqlite.specs.State.{Executes, FailsToQuery};
 ghost use Rattle.sqlite.specs.Values.{bound};
@@ -17,7 +17,9 @@ ghost use Rattle.sqlite_engine.specs.Settling.{files_beneath, Asked, Settled};
 ghost use Rattle.sqlite_engine.specs.Shows.{showing, FailsSomehow};
 
 use crate::again::led_along;
-use crate::connection::{Conn, OpenFault, close, drop_connection, execute, open, prepare, query};
+use crate::connection::{
+    Conn, OpenFault, close, drop_connection, execute, is_settled, limit_steps, open, prepare, query,
+};
 use crate::errors::is_of_store;
 use crate::image_history::Write;
 use crate::plan::looks_only;
@@ -26,9 +28,9 @@ use crate::texts::{has_text, note_text};
 use dq_base::{Bytes, Image, PAGE_SIZE, PageSet, apply};
 use sqlite::types::ValueRef;
 use sqlite::{Error, ErrorCode, Row, Statement};
+use sqlite_facts::same_pages;
 use sqlite_files::changes_between;
 use sqlite_open_files::{connected, held, log_of, main_of};
-use sqlite_same_pages::same_pages;
 use std::alloc::{AllocError, Global};
 
 /// A connection that is kept open over an image. Except for what it has counted, and its limit of steps, it stands to that image
@@ -174,7 +176,7 @@ impl Kept {
             mut conn,
             looking,
         } = self;
-        conn.set_step_limit(limit);
+        limit_steps(&mut conn, limit);
         kept_over(base, conn, looking)
     }
 
@@ -276,7 +278,7 @@ fn settled(alloc: Global, base: Image, conn: Conn, tx: u64) -> Option<(Option<Ke
     ensures settled { IfSome result (λ r. Settled base conn tx r.1) }
     ensures over { IfSome result (λ r. IfSome r.0 (λ kept. IsLedTo base r.1 kept.base)) }
 {
-    if conn.is_autocommit() && has_short_log(&conn) {
+    if is_settled(&conn) && has_short_log(&conn) {
         followed(alloc, base, conn, tx)
     } else {
         match closed(alloc, base, conn, tx) {

@@ -2,7 +2,7 @@ use Rattle.std.proofs.Common.{◌⊎◌, inl, Option, ◌∙◌, sym, subst}
 use Rattle.arguments.specs.declared.invocation.Invocation.{Invocation}
 use Rattle.script_runner.proofs.Agreement.{keeps_alike}
 use Rattle.dqnode.specs.Asks.{IsScript, IsRun, IsStatement, IsCheck, IsServed}
-use Rattle.cell_scripts.proofs.Deciding.{cells_broken, cells_compare}
+use Rattle.script_determinism.proofs.Deciding.{cells_broken, cells_compare}
 use Rattle.dqnode.proofs.Deciding.{broken_scripts_decide, scripts_decide}
 use Rattle.dqnode.proofs.Endings.{runs_are_safe}
 use Rattle.dqnode.proofs.program.dqnode.Goals as goal

@@ -3,7 +3,7 @@ use Rattle.sqlite_wal.specs.Recovery as raw
 use Rattle.sqlite_store.specs.FileStore.{files}
 use Rattle.sqlite_files.specs.Recording.{Recorded}
 use Rattle.sqlite_open_files.specs.Held.{image_in}
-use Rattle.sqlite_same_pages.specs.Alike.{HoldAlike}
+use Rattle.sqlite_facts.specs.Alike.{HoldAlike}
 use Rattle.sqlite_engine.specs.Sql.{files_of}
 use Rattle.sqlite_engine.proofs.kept.holds_alike.Goals as goal
 

@@ -1,6 +1,6 @@
 use Rattle.std.proofs.Common.{sym, subst}
 use Rattle.dq_base.specs.declared.images.Image.{Image}
-use Rattle.sqlite_read_counts.specs.Counts.{LooksOnly}
+use Rattle.sqlite_facts.specs.Counts.{LooksOnly}
 use Rattle.sqlite.specs.Files.{file_state}
 use Rattle.sqlite.specs.Listing.{understood}
 use Rattle.sqlite.specs.Values.{bound}

@@ -1,9 +1,0 @@
-pub mod CellAnswers
-pub mod PlainAsking
-pub mod Unlinked
-pub mod SameEndings
-pub mod SameRequests
-pub mod SameAnswers
-pub mod SameSteps
-pub mod SameTurns
-pub mod SameRuns

@@ -1,5 +1,0 @@
-use Rattle.core_determinism.proofs.SameRuns.{steps_decided, starts_decided, kept_of_core}
-use Rattle.core_determinism.proofs.cores_are_decided.Goals as goal
-
-pub returns : goal.returns
-returns c = record { steps = steps_decided; starts = starts_decided; kept = kept_of_core }
