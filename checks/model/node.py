@@ -563,7 +563,7 @@ class Node:
 
     def on_add(self, _session, _wide, number, address):
         self.changing()
-        if not 1 <= number <= 9 or number in self.servers or len(address.encode()) > 255 or len(self.servers) >= 9:
+        if not 1 <= number <= 9 or number in self.servers or address in (a for a, _ in self.servers.values()) or len(address.encode()) > 255 or len(self.servers) >= 9:
             raise Refused(1, "bad node")
         return self.change_to({**self.servers, number: (address, SPARE)})
 

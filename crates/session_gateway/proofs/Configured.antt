@@ -11,10 +11,10 @@ use Rattle.raft_spec.specs.Node.{Server, among, voters}
 use Rattle.raft_messages.specs.Servers.{Ascend, IsServer, IsConfiguration, votes_as}
 use Rattle.raft_messages.proofs.ServerLaws.{voters_cons}
 use Rattle.session_spec.specs.Asking as asking
-use Rattle.session_spec.specs.Asking.{Asked, Never, Changes, fits_one_voter, asked_by, is_barred_node, is_promotion}
+use Rattle.session_spec.specs.Asking.{Asked, Never, Changes, fits_one_voter, asked_by, is_barred_node, is_promotion, is_taken}
 use Rattle.session_spec.specs.Limits.{change_in_flight, one_too_many, log_full}
 use Rattle.session_spec.specs.Machine.{Machine, is_named}
-use Rattle.session_spec.specs.Servers.{has_server, with_server, with_role, without_server}
+use Rattle.session_spec.specs.Servers.{has_server, has_address, with_server, with_role, without_server}
 use Rattle.session_spec.specs.Sessions.{Session, Gateway, View}
 use Rattle.session_spec.specs.Allowed.{IsAllowed}
 use Rattle.session_spec.proofs.Asked.{all_allowed}
@@ -271,14 +271,15 @@ module _ (v : View) (g : Gateway) (c : IsConfiguration v.servers) where
     where
       by : is_barred_node v.servers id address ≡ false → IsConfiguration (with_server (record { id = id; address = address; role = 2 }) v.servers)
       by e =
-          let front = or_parts ((id == 0) || nat_lt 9 id || has_server v.servers id || nat_lt 255 (length address)) (nat_le 9 (length v.servers)) e in
-          let address_part = or_parts ((id == 0) || nat_lt 9 id || has_server v.servers id) (nat_lt 255 (length address)) front.0 in
-          let server_part = or_parts ((id == 0) || nat_lt 9 id) (has_server v.servers id) address_part.0 in
+          let front = or_parts ((id == 0) || nat_lt 9 id || is_taken v.servers id address || nat_lt 255 (length address)) (nat_le 9 (length v.servers)) e in
+          let address_part = or_parts ((id == 0) || nat_lt 9 id || is_taken v.servers id address) (nat_lt 255 (length address)) front.0 in
+          let server_part = or_parts ((id == 0) || nat_lt 9 id) (is_taken v.servers id address) address_part.0 in
+          let free = or_parts (has_server v.servers id) (has_address v.servers address) server_part.1 in
           let id_part = or_parts (id == 0) (nat_lt 9 id) server_part.0 in
           let some : id ≢ 0 = eqb-false id 0 id_part.0 in
           let few : length v.servers < 9 = leb-false 9 (length v.servers) front.1 in
           let short : length address ≤ 255 = ltb-false 255 (length address) address_part.1 in
-          joined (record { id = id; address = address; role = 2 }) v.servers c (omega arith, text, short) (omega (arith, some)) server_part.1 few refl
+          joined (record { id = id; address = address; role = 2 }) v.servers c (omega arith, text, short) (omega (arith, some)) free.0 few refl
 
   of_other_may : (id : ℕ) (asked : Asked) → May asked → May (asking.of_other v id asked)
   of_other_may id asked m = if_may (id == v.id) (Never _) asked (λ e. tt) (λ e. m)

@@ -1,6 +1,6 @@
 //! ADD, ASSIGN and REMOVE.
 
-ghost use Rattle.std.specs.Prelude.{◌≡◌, ◌≤◌, ◌==◌, ℕ, List, [], length, nat_lt, IfOk};
+ghost use Rattle.std.specs.Prelude.{◌≡◌, ◌≤◌, ◌==◌, ℕ, List, [], length, nat_lt, bytes_eq, IfOk};
 ghost use Rattle.raft_messages.specs.Kinds.{role_number};
 ghost use Rattle.database_state.specs.declared.database.Database.{Database};
 ghost use Rattle.session_spec.specs.Asking as rules;
@@ -75,13 +75,34 @@ fn with_server(alloc: Global, servers: &[Server], new: Server) -> Result<Servers
     Ok(Items::new(all))
 }
 
+/// Whether a server has an address.
+fn is_at(server: &Server, address: &WireText) -> bool
+    ensures { result ≡ bytes_eq address.now server.now.address }
+{
+    address.as_str() == server.address.as_str()
+}
+
+/// Whether some server has an address.
+fn has_address(servers: &[Server], address: &WireText) -> bool
+    ensures { result ≡ rule_servers.has_address servers.now address.now }
+{
+    servers.iter().any(|server| is_at(server, address))
+}
+
+/// Whether a server has the id or the address.
+fn is_taken(servers: &[Server], id: u64, address: &WireText) -> bool
+    ensures { result ≡ rules.is_taken servers.now id address.now }
+{
+    is_server(servers, id) || has_address(servers, address)
+}
+
 /// Whether a node can't join.
 fn is_barred_node(servers: &[Server], id: u64, address: &WireText) -> bool
     ensures { result ≡ rules.is_barred_node servers.now id address.now }
 {
     id == 0
         || id > GREATEST_ID
-        || is_server(servers, id)
+        || is_taken(servers, id, address)
         || address.as_str().len() > MAX_ADDRESS_LENGTH
         || servers.len() >= MAX_SERVERS
 }

@@ -17,7 +17,7 @@ use crate::view::View;
 use crate::wanted::{ClusterEffect, RequestPlan};
 use dq_base::Items;
 use raft_messages::Server;
-use session_table::{Cause, ProposalKind, Session};
+use session_table::{Cause, GREATEST_ID, ProposalKind, Session};
 use std::alloc::{AllocError, Global};
 use wire_msgs::{NodeInfo, Response};
 use wire_words::WireText;
@@ -153,11 +153,11 @@ pub(crate) fn is_server(servers: &[Server], id: u64) -> bool
     servers.iter().any(|server| server.id == id)
 }
 
-/// Whether a node is another one of the configuration.
+/// Whether an id is that of another node. The configuration may lack it.
 fn is_other_node(view: &View, id: u64) -> bool
     ensures { result ≡ rules.is_other_node view.now id }
 {
-    id != view.id && is_server(view.servers.as_slice(), id)
+    id != view.id && 0 < id && id <= GREATEST_ID
 }
 
 /// What CONNECT wants of a node.

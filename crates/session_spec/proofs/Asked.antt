@@ -16,7 +16,7 @@ use Rattle.sql_scan.specs.declared.fault.ScanFault.TheVariants as scan_faults
 use Rattle.session_spec.specs.Causes.{Cause, scan_cause, Locked, OutOfDate, NotLeader, NoDatabase, DatabaseOpen, ChangeInFlight, BadName, BadNode, BadRole, BadFormat, TransferFirst, TooManyVoters, TargetBehind, TooManyDatabases, TooManyStatements, AnswerTooBig, LogFull, NotAllowed, WrongParameters, OneStatementWanted}
 use Rattle.session_spec.specs.Limits.{change_in_flight, other_holds, one_too_many, log_full, first_cause, hinders_in, write_hindrance}
 use Rattle.session_spec.specs.Machine.{Machine, is_named}
-use Rattle.session_spec.specs.Servers.{has_server, server_of}
+use Rattle.session_spec.specs.Servers.{has_server, has_address, server_of}
 use Rattle.session_spec.specs.Sessions.{Prepared, Transaction, Session, Gateway, View, JoinsPeer, HandsOver, in_tx}
 use Rattle.session_spec.specs.Statements.{prepared_from, prepared_at, prepared_count, is_left_out, is_write_word, any_barred, any_write, wrong_params, with_params, with_all}
 use Rattle.session_spec.specs.Asking as asking
@@ -30,6 +30,10 @@ record NoneOfFive (a b c d e : Bool) : Type 0 where
   third : c ≡ false
   fourth : d ≡ false
   fifth : e ≡ false
+
+neither_of : (a b : Bool) → (a || b) ≡ false → (a ≡ false) × (b ≡ false)
+neither_of false b h = (refl, h)
+neither_of true b h = absurd (true≢false h)
 
 none_of_five : (a b c d e : Bool) → (a || b || c || d || e) ≡ false → NoneOfFive a b c d e
 none_of_five false false false false false h = record { first = refl; second = refl; third = refl; fourth = refl; fifth = refl }
@@ -214,8 +218,9 @@ module _ (v : View) (g : Gateway) (s : Session) (r : Request) where
   module _ (e : v.serving ≡ true) (f : fits_one_voter r ≡ false) where
     add_too : (id : ℕ) (address : List ℕ) → change_in_flight g ≡ false → IsAllowed v g s r (asking.asks_add v.servers id address)
     add_too id address q = if_allowed (asking.is_barred_node v.servers id address) (Never BadNode) _ (λ b. tt)
-        (λ b. let all = none_of_five (id == 0) (nat_lt 9 id) (has_server v.servers id) (nat_lt 255 (length address)) (nat_le 9 (length v.servers)) b in
-        changes_too _ e f q (inl (record { server = record { id = id; address = address; role = 2 }; unknown = all.third; spare = refl; named = eqb-false id 0 all.first; low = ltb-false 9 id all.second; short = ltb-false 255 (length address) all.fourth; room = leb-false 9 (length v.servers) all.fifth; is = refl })))
+        (λ b. let all = none_of_five (id == 0) (nat_lt 9 id) (asking.is_taken v.servers id address) (nat_lt 255 (length address)) (nat_le 9 (length v.servers)) b in
+        let free = neither_of (has_server v.servers id) (has_address v.servers address) all.third in
+        changes_too _ e f q (inl (record { server = record { id = id; address = address; role = 2 }; unknown = free.0; apart = free.1; spare = refl; named = eqb-false id 0 all.first; low = ltb-false 9 id all.second; short = ltb-false 255 (length address) all.fourth; room = leb-false 9 (length v.servers) all.fifth; is = refl })))
 
     role_too : (id role : ℕ) → change_in_flight g ≡ false → has_server v.servers id ≡ true → role ≤ 2 → id ≢ v.id → IsAllowed v g s r (asking.asks_role v id role)
     role_too id role q known low other =

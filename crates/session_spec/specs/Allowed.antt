@@ -7,7 +7,7 @@ use Rattle.raft_spec.specs.Node.{Server, among, voters}
 use Rattle.session_spec.specs.Causes.{Cause, BadRequest, FloatParameter, LeadershipLost, ConstraintFailed, SqlError, NotADatabase, FloatColumn, NotUtf8, NulInText, DatabaseFull}
 use Rattle.session_spec.specs.Machine.{Machine}
 use Rattle.session_spec.specs.Sessions.{Session, Gateway, View, in_tx}
-use Rattle.session_spec.specs.Servers.{has_server, with_server, with_role, without_server}
+use Rattle.session_spec.specs.Servers.{has_server, has_address, with_server, with_role, without_server}
 use Rattle.session_spec.specs.Limits.{change_in_flight, log_full}
 use Rattle.session_spec.specs.Asking.{Asked, Never, Tells, Sets, Opens, Creates, Prepares, Drops, Begins, Commits, RollsBack, Changes, Runs, Reads, has_database, fits_one_voter, is_promotion, asked_by}
 
@@ -34,10 +34,12 @@ pub record IsServed (v : View) (s : Session) : Type 0 where
   pub serves : v.serving ≡ true
   pub opened : has_database s ≡ true
 
--- a node joined, as a spare: its id is 1 to 9 and its address has at most 255 bytes, and there were fewer than 9 servers
+-- A node joined, as a spare: its id is 1 to 9 and its address has at most 255 bytes, no server had either, and there were
+-- fewer than 9 servers.
 pub record IsJoin (old new : List Server) : Type 0 where
   pub server : Server
   pub unknown : has_server old server.id ≡ false
+  pub apart : has_address old server.address ≡ false
   pub spare : server.role ≡ 2
   pub named : server.id ≢ 0
   pub low : server.id ≤ 9

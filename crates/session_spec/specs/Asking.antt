@@ -19,7 +19,7 @@ use Rattle.raft_spec.specs.Node.{Server, among, voters}
 use Rattle.session_spec.specs.Causes.{Cause, NotLeader, DatabaseOpen, ChangeInFlight, NoDatabase, NoStatement, NotAllowed, OneStatementWanted, WrongParameters, InTransaction, NoTransaction, BadName, BadNode, BadRole, BadFormat, TargetBehind, TransferFirst, TooManyVoters, TooManyStatements, TooManyDatabases, LogFull, AnswerTooBig, scan_cause}
 use Rattle.session_spec.specs.Machine.{Machine, is_named}
 use Rattle.session_spec.specs.Sessions.{Prepared, Session, Gateway, View, Effect, HandsOver, JoinsPeer, Weighs, in_tx}
-use Rattle.session_spec.specs.Servers.{has_server, server_of, with_server, with_role, without_server}
+use Rattle.session_spec.specs.Servers.{has_server, has_address, server_of, with_server, with_role, without_server}
 use Rattle.session_spec.specs.Statements.{prepared_from, any_barred, is_left_out, is_write_word, any_write, wrong_params, with_params, with_all, prepared_at, prepared_count}
 use Rattle.session_spec.specs.Limits.{change_in_flight, one_too_many, log_full, write_hindrance}
 
@@ -64,9 +64,10 @@ info_of roles server = record { id = server.id; address = server.address; role =
 abbrev pub asks_cluster : View → ℕ → Asked
 asks_cluster v format = if nat_le format 1 then Tells (responses.Servers (map (info_of (format == 1)) v.servers)) else Never BadFormat
 
--- the node is another one of the configuration
+-- The id is that of another node, also of one that the configuration lacks: a node that was down while another joined and
+-- came to lead hears it so.
 abbrev pub is_other_node : View → ℕ → Bool
-is_other_node v id = not (id == v.id) && has_server v.servers id
+is_other_node v id = not (id == v.id) && nat_lt 0 id && nat_le id 9
 
 abbrev pub asks_connect : View → ℕ → Asked
 asks_connect v id = if v.links && is_other_node v id then Sets (JoinsPeer id) else Never BadNode
@@ -84,9 +85,14 @@ asks_transfer v id = if among (voters v.servers) id then (if may_take_over v id 
 abbrev pub if_settled : Gateway → Asked → Asked
 if_settled g asked = if change_in_flight g then Never ChangeInFlight else asked
 
--- The node can't join: its id is 0, above 9 or there already, its address has more than 255 bytes, or there are 9 servers.
+-- The id or the address is a server's already.
+abbrev pub is_taken : List Server → ℕ → List ℕ → Bool
+is_taken servers id address = has_server servers id || has_address servers address
+
+-- The node can't join: its id is 0 or above 9, its id or its address is a server's, its address has more than 255 bytes, or
+-- there are 9 servers.
 abbrev pub is_barred_node : List Server → ℕ → List ℕ → Bool
-is_barred_node servers id address = (id == 0) || nat_lt 9 id || has_server servers id || nat_lt 255 (length address) || nat_le 9 (length servers)
+is_barred_node servers id address = (id == 0) || nat_lt 9 id || is_taken servers id address || nat_lt 255 (length address) || nat_le 9 (length servers)
 
 -- a node joins as a spare
 abbrev pub asks_add : List Server → ℕ → List ℕ → Asked

@@ -1,11 +1,15 @@
 -- How ADD, ASSIGN and REMOVE change the servers of the cluster: one server at a time, ids ascending.
-use Rattle.std.specs.Prelude.{ℕ, Bool, not, ◌==◌, nat_lt, List, [], ◌∷◌, map, Option, Some, None, if◌then◌else◌}
+use Rattle.std.specs.Prelude.{ℕ, Bool, not, ◌==◌, nat_lt, List, [], ◌∷◌, map, bytes_eq, Option, Some, None, if◌then◌else◌}
 use Rattle.std.specs.List.{filter, list_any}
 use Rattle.raft_spec.specs.Node.{Server}
 
 -- a server has this id
 abbrev pub has_server : List Server → ℕ → Bool
 has_server servers id = list_any (λ (server : Server). server.id == id) servers
+
+-- a server has this address
+abbrev pub has_address : List Server → List ℕ → Bool
+has_address servers address = list_any (λ (server : Server). bytes_eq address server.address) servers
 
 -- the server of the id, if there is one
 abbrev pub server_of : List Server → ℕ → Option Server
