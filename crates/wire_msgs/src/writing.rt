@@ -37,6 +37,14 @@ pub fn write_request(alloc: Global, request: &Request) -> Result<WireBytes, Allo
     whole_request(alloc, request)
 }
 
+// How many bytes room is made for at once: all of an answer with rows, and a header with four words of any other.
+fn room_for(response: &Response) -> usize {
+    match response {
+        Response::Rows { body } => body.len().saturating_add(8),
+        _ => 40,
+    }
+}
+
 fn whole_response(alloc: Global, response: &Response) -> Result<WireBytes, AllocError>
     requires { IsWritable response.now }
     ensures bytes { IfOk result (λ bytes. bytes ≡ response_bytes response.now) }
@@ -44,7 +52,7 @@ fn whole_response(alloc: Global, response: &Response) -> Result<WireBytes, Alloc
     ensures whole { IfOk result (λ bytes. length bytes % 8 ≡ 0) }
     ensures fit { OnOk result (AllFit (response_line response.now).fields) }
 {
-    let mut out = Writer::new(alloc);
+    let mut out = Writer::with_capacity(alloc, room_for(response))?;
     out.header(response.number(), response.schema())?;
     response_fields::write_fields(&mut out, response)?;
     out.finish_message()
