@@ -1,8 +1,8 @@
 use client::Dialer;
+use serve_sockets::TcpDialer;
 use std::io::{Read, Write};
 use std::net::TcpListener;
 use std::test::*;
-use tcp_dialer::TcpDialer;
 
 /// What comes of calls over a link to a port of this machine: whether it is there, the bytes that come to its other side and those
 /// that come back, the link's end once the other side is gone, and whether a dial of a port where nobody listens and a write

@@ -25,14 +25,13 @@ use founding::{FolderOwner, owner_of};
 pub use network::Network;
 pub use program::dqnode;
 use script_cluster::ClusterJournal;
-use serve_sockets::TcpHost;
+use serve_sockets::{TcpDialer, TcpHost};
 use session_gateway::Read;
 pub use status::Status;
 use std::alloc::AllocError;
 use std::io;
 use std::process::ExitCode;
 use std::sync::Wait;
-use tcp_dialer::TcpDialer;
 
 /// The node that the words name, where they ask for one to be served.
 fn served(rt: &HostRuntime, words: &[String]) -> Option<Serve> {

@@ -72,7 +72,9 @@ impl HeldBytes {
     pub(crate) fn shuts(&mut self, node: &Node, piece: Option<PieceCharge>) -> Option<u64>
         ensures { (result ≡ None) ⊎ (result ≡ option_map (λ piece. piece.conn) piece) }
     {
-        let piece = piece?;
+        let Some(piece) = piece else {
+            return None;
+        };
         if self.is_due(piece.size) {
             if self.is_over(node, piece.conn) {
                 return Some(piece.conn);

@@ -1,10 +1,13 @@
 //! Where a node listens and dials, and what brings it its events: hosts over the operating system's sockets, and over memory.
+//! And where a client dials.
 #![tactic(auto)]
 
 mod frame_position;
 mod list_host;
 mod mem_door;
 mod mem_host;
+mod stream;
+mod tcp_dialer;
 mod tcp_door;
 mod tcp_host;
 mod tcp_link;
@@ -12,6 +15,7 @@ mod tcp_link;
 pub use list_host::ListHost;
 pub use mem_door::MemDoor;
 pub use mem_host::MemHost;
+pub use tcp_dialer::TcpDialer;
 pub use tcp_door::TcpDoor;
 pub use tcp_host::{HostFault, TcpHost};
 pub use tcp_link::TcpLink;

@@ -4,19 +4,18 @@ ghost use Rattle.std.specs.Prelude.{◌≡◌};
 ghost use Rattle.serve_threads.specs.Counts.{IsCounted};
 
 use crate::frame_position::{FRONT_SIZE, FramePosition};
-use crate::tcp_link::{TcpLink, read_some};
+use crate::stream;
+use crate::stream::read_some;
+use crate::tcp_link::TcpLink;
 use dq_base::Failed;
 use serve_traits::Door;
 use std::io;
 use std::io::ErrorKind;
-use std::net::{TcpListener, TcpStream, ToSocketAddrs};
+use std::net::{TcpListener, TcpStream};
 use std::time::{Duration, Instant};
 
 /// How long a link that was accepted has for its first 16 bytes, in seconds.
 const FIRST_SECONDS: u64 = 5;
-
-/// How long a dial of one address may take, in seconds.
-const DIAL_SECONDS: u64 = 10;
 
 /// A listener over a listening TCP socket.
 ///
@@ -62,7 +61,7 @@ impl TcpDoor {
     }
 
     /// The first bytes of a link.
-    fn front_of(&self, stream: &TcpStream) -> io::Result<[u8; FRONT_SIZE]> {
+    fn front_of(&self, mut stream: &TcpStream) -> io::Result<[u8; FRONT_SIZE]> {
         let begun = Instant::now(&self.rt)?;
         let mut bytes = [0; FRONT_SIZE];
         let mut held = 0;
@@ -70,7 +69,7 @@ impl TcpDoor {
             let spent = begun.elapsed(&self.rt)?;
             let left = Duration::from_secs(FIRST_SECONDS).saturating_sub(spent);
             stream.set_read_timeout(Some(left))?;
-            let count = read_some(stream, &mut bytes[held..])?;
+            let count = read_some(&mut stream, &mut bytes[held..])?;
             if count == 0 {
                 return Err(ErrorKind::UnexpectedEof.into());
             }
@@ -84,13 +83,7 @@ impl TcpDoor {
 
     /// A link to the first address that answers in time, of those that a name and a port have.
     pub(crate) fn connect(rt: &HostRuntime, address: &str) -> io::Result<TcpLink> {
-        let time = Duration::from_secs(DIAL_SECONDS);
-        for found in address.to_socket_addrs(rt)? {
-            if let Ok(stream) = TcpStream::connect_timeout(rt, &found, time) {
-                return TcpLink::dialled(rt.alloc(), stream);
-            }
-        }
-        Err(ErrorKind::NotConnected.into())
+        TcpLink::dialled(rt.alloc(), stream::connect(rt, address)?)
     }
 }
 

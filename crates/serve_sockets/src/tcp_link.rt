@@ -4,11 +4,12 @@ ghost use Rattle.std.specs.Prelude.{◌≡◌, ◌≤◌, None, length, IfOk};
 ghost use Rattle.serve_threads.specs.Counts.{IsCounted};
 
 use crate::frame_position::{FramePosition, HEADER_SIZE};
+use crate::stream::{read_some, write_whole};
 use dq_base::Failed;
 use serve_traits::Link;
 use std::alloc::Global;
 use std::io;
-use std::io::{ErrorKind, Read, Write};
+use std::io::ErrorKind;
 use std::net::{Shutdown, TcpStream};
 use std::sync::Arc;
 use std::sync::atomic::{AtomicU64, Ordering};
@@ -22,9 +23,6 @@ const CLIENT_SECONDS: u64 = 30;
 
 /// How long a write to a peer may take, in seconds.
 const PEER_SECONDS: u64 = 10;
-
-/// How often in a row an interrupted call is tried again.
-const MAX_RETRIES: u32 = 1_000;
 
 /// A link over a TCP socket. It tells nothing of content. A read gives bytes of one message at most, so that each message of a client is
 /// a step of the node by itself, and other clients come in between. A message is written at once, in one write, and goes out at once; a
@@ -95,48 +93,20 @@ impl Announced {
     }
 }
 
-/// Reads some bytes.
-pub(crate) fn read_some(mut stream: &TcpStream, into: &mut [u8]) -> io::Result<usize>
-    ensures fits { IfOk result (λ count. count ≤ length into.new) }
-    ensures room { length into.new ≡ length into.old }
-{
-    for _ in 0..MAX_RETRIES {
-        match stream.read(into) {
-            Ok(count) => return Ok(count),
-            Err(error) if error.kind() == ErrorKind::Interrupted => {}
-            Err(error) => return Err(error),
-        }
-    }
-    Err(ErrorKind::Interrupted.into())
-}
-
 /// Reads until there is no more room, or the stream is at its end, and answers how many bytes came.
-fn read_full(stream: &TcpStream, into: &mut [u8]) -> io::Result<usize>
+fn read_full(mut stream: &TcpStream, into: &mut [u8]) -> io::Result<usize>
     ensures fits { IfOk result (λ count. count ≤ length into.new) }
     ensures room { length into.new ≡ length into.old }
 {
     let mut held = 0;
     for _ in 0..into.len() {
-        let count = read_some(stream, &mut into[held..])?;
+        let count = read_some(&mut stream, &mut into[held..])?;
         held += count;
         if count == 0 || held == into.len() {
             return Ok(held);
         }
     }
     Ok(held)
-}
-
-/// Writes bytes in one write.
-fn write_whole(mut stream: &TcpStream, bytes: &[u8]) -> io::Result<()> {
-    for _ in 0..MAX_RETRIES {
-        match stream.write(bytes) {
-            Ok(count) if count == bytes.len() => return Ok(()),
-            Ok(_) => return Err(ErrorKind::TimedOut.into()),
-            Err(error) if error.kind() == ErrorKind::Interrupted => {}
-            Err(error) => return Err(error),
-        }
-    }
-    Err(ErrorKind::Interrupted.into())
 }
 
 impl TcpLink {
@@ -237,7 +207,7 @@ impl TcpLink {
         ensures faults { self.new.faults ≡ self.old.faults }
     {
         if into.len() < HEADER_SIZE {
-            return read_some(&self.stream, into);
+            return read_some(&mut &self.stream, into);
         }
         let mut header = [0; HEADER_SIZE];
         let held = read_full(&self.stream, &mut header)?;
@@ -260,7 +230,7 @@ impl TcpLink {
         if room == 0 {
             return Ok(0);
         }
-        let count = read_some(&self.stream, &mut into[..room])?;
+        let count = read_some(&mut &self.stream, &mut into[..room])?;
         self.front.pass(count);
         Ok(count)
     }
@@ -281,7 +251,7 @@ impl Link for TcpLink {
     }
 
     fn write_all(&mut self, bytes: &[u8]) -> Result<(), Failed> {
-        match write_whole(&self.stream, bytes) {
+        match write_whole(&mut &self.stream, bytes) {
             Ok(()) => Ok(()),
             Err(_) => {
                 self.tell_end();

@@ -3,7 +3,7 @@ use Rattle.std.proofs.Common.{◌≡◌, ◌+◌, ◌≤◌, ℕ, List, length, 
 use Rattle.dq_base.specs.declared.faults.Failed.{Failed}
 use Rattle.dq_base.specs.Faults.{one_more, last_count}
 use Rattle.client.specs.Net.{Dials, Writes, Reads}
-use Rattle.tcp_dialer.specs.Untold.{Counts, net_of}
+use Rattle.serve_sockets.specs.Untold.{Counts, net_of}
 
 -- one more call that failed, and one more dial
 abbrev pub failed_once : Counts → Counts

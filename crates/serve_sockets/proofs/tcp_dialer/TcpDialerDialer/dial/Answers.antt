@@ -1,6 +1,6 @@
 use Rattle.std.proofs.Common.{refl}
-use Rattle.tcp_dialer.proofs.Counted.{linked, missed}
-use Rattle.tcp_dialer.proofs.dialer.TcpDialerDialer.dial.Goals as goal
+use Rattle.serve_sockets.proofs.Counted.{linked, missed}
+use Rattle.serve_sockets.proofs.tcp_dialer.TcpDialerDialer.dial.Goals as goal
 
 pub returns-then-link_to : goal.returns-then-link_to
 returns-then-link_to g c = linked c.args.self.now c.link_to.new.self c.args.address.now (c.if-link_to.ensures.linked refl) c.link_to.ensures.bound

@@ -1,5 +1,5 @@
-use Rattle.tcp_dialer.proofs.Counted.{written, unwritten}
-use Rattle.tcp_dialer.proofs.dialer.TcpDialerDialer.write_all.Goals as goal
+use Rattle.serve_sockets.proofs.Counted.{written, unwritten}
+use Rattle.serve_sockets.proofs.tcp_dialer.TcpDialerDialer.write_all.Goals as goal
 
 pub returns-in-Ok : goal.returns-in-Ok
 returns-in-Ok g c = written c.args.self.now c.write.new.self c.args.bytes.now c.write.ensures

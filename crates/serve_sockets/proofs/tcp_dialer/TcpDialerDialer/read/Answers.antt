@@ -1,5 +1,5 @@
-use Rattle.tcp_dialer.proofs.Counted.{moved, unmoved}
-use Rattle.tcp_dialer.proofs.dialer.TcpDialerDialer.read.Goals as goal
+use Rattle.serve_sockets.proofs.Counted.{moved, unmoved}
+use Rattle.serve_sockets.proofs.tcp_dialer.TcpDialerDialer.read.Goals as goal
 
 pub returns-in-Ok : goal.returns-in-Ok
 returns-in-Ok g c = moved c.args.self.now c.read_link.new.self c.read_link.new.into c.in-Ok.count c.read_link.ensures.same c.in-Ok.ensures.fits

@@ -1,14 +1,20 @@
+//! A client's dialer over the operating system's TCP sockets.
+
 ghost use Rattle.std.specs.Prelude.{◌≡◌, ◌≤◌, ◌+◌, true, false, length, IfOk};
 ghost use Rattle.dq_base.specs.Faults.{one_more, last_count};
-ghost use Rattle.tcp_dialer.specs.Untold.{net_of};
+ghost use Rattle.serve_sockets.specs.Untold.{net_of};
 
-use crate::link::{connect, read_some, write_whole};
+use crate::stream::{connect, read_some, write_whole};
 use client::Dialer;
 use dq_base::Failed;
 use std::io;
 use std::io::ErrorKind;
 use std::marker::Model;
-use std::net::Net;
+use std::net::{Net, OpenStream};
+use std::time::Duration;
+
+/// How long a read or a write may take, in seconds.
+const CALL_SECONDS: u64 = 60;
 
 /// A dialer over the operating system's TCP sockets, with one link at a time.
 ///
@@ -29,11 +35,25 @@ pub struct TcpDialer<R: Net + Drop> {
 }
 
 impl<R: Net + Drop> Model for TcpDialer<R> {
-    ghost use Rattle.tcp_dialer.specs.Untold.{Counts};
+    ghost use Rattle.serve_sockets.specs.Untold.{Counts};
 
     ghost Value = { Counts };
 
     ghost view = { λ a. record { faults = a.faults; dialled = a.dialled; undialled = a.undialled } };
+}
+
+/// A stream to an address, over which a message goes out as soon as it is written, and no call takes longer than it may.
+fn open<R: Net>(rt: &R, address: &str) -> io::Result<R::Stream> {
+    let stream = connect(rt, address)?;
+    prepare(&stream)?;
+    Ok(stream)
+}
+
+fn prepare<S: OpenStream>(stream: &S) -> io::Result<()> {
+    let time = Some(Duration::from_secs(CALL_SECONDS));
+    stream.set_nodelay(true)?;
+    stream.set_read_timeout(time)?;
+    stream.set_write_timeout(time)
 }
 
 impl<R: Net + Drop> TcpDialer<R> {
@@ -64,7 +84,7 @@ impl<R: Net + Drop> TcpDialer<R> {
         ensures { self.new ≡ self.old }
     {
         self.link = None;
-        self.link = Some(connect(&self.rt, address)?);
+        self.link = Some(open(&self.rt, address)?);
         Ok(())
     }
 

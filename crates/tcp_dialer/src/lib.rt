@@ -1,7 +1,0 @@
-//! A client's dialer over the operating system's TCP sockets.
-#![tactic(auto)]
-
-mod dialer;
-mod link;
-
-pub use dialer::TcpDialer;
