@@ -24,7 +24,7 @@ use error_stream::{ErrorStream, tell_disk, tell_host, tell_memory, tell_owner};
 use folder_disk::DirDisk;
 use founding::{FolderOwner, owner_of};
 pub use network::Network;
-use pages::{print_request, tell_no_text, tell_refusal};
+use pages::{print_request, report_refusal};
 pub use program::dqnode;
 use script_cluster::ClusterJournal;
 use serve_sockets::{TcpDialer, TcpHost};
@@ -73,15 +73,6 @@ fn tell_end<R: Wait + Copy + Drop>(
         6 => tell_host(rt, host),
         7 => tell_memory(rt),
         _ => {}
-    }
-}
-
-/// Says why the arguments are refused. There are none at all if one of them isn't text.
-fn tell_refused(rt: &HostRuntime, all: &[String]) {
-    if all.is_empty() {
-        tell_no_text(rt);
-    } else {
-        tell_refusal(rt, words::behind_name(all));
     }
 }
 
@@ -135,7 +126,7 @@ fn main(rt: HostRuntime) -> ExitCode {
     }
     let code = perform(&rt, words);
     if code == Status::Words.code() {
-        tell_refused(&rt, all.as_slice());
+        report_refusal(&rt, all.as_slice());
     }
     ExitCode::from(code)
 }

@@ -1,7 +1,9 @@
 //! Pages of help and the version on the output, and what the error stream says of arguments that are refused.
 
 use crate::status::Status;
+use crate::words::behind_name;
 use arguments::refusal_reason;
+use std::alloc::AllocError;
 use usage::{Page, Request, VERSION};
 
 /// Prints what arguments ask for in place of a command's work.
@@ -16,22 +18,20 @@ pub fn print_request(rt: &HostRuntime, request: Request) -> Status {
     }
 }
 
-/// Writes why arguments are refused, and how the command is called, on the error stream. A line that can't be written is lost.
-pub fn tell_refusal(rt: &HostRuntime, arguments: &[String]) {
-    if let Ok(Some(reason)) = refusal_reason(rt.alloc(), arguments) {
+/// Why the arguments of the process are refused. `all` begins with the program's name, and is empty if an argument is not UTF-8.
+fn reason_of(rt: &HostRuntime, all: &[String]) -> Result<Option<String>, AllocError> {
+    if all.is_empty() {
+        return Ok(Some(String::from_str(rt.alloc(), "an argument is not UTF-8")?));
+    }
+    refusal_reason(rt.alloc(), behind_name(all))
+}
+
+/// Writes why the arguments of the process are refused, and how the command is called, on the error stream. What can't be written is lost.
+pub fn report_refusal(rt: &HostRuntime, all: &[String]) {
+    if let Ok(Some(reason)) = reason_of(rt, all) {
         let _ = eprintln!(rt; "status 1: {reason}");
     }
-    tell_usage(rt, Page::of_arguments(arguments));
-}
-
-/// Writes that an argument is no text, and how the program is called, on the error stream. A line that can't be written is lost.
-pub fn tell_no_text(rt: &HostRuntime) {
-    let _ = eprintln!(rt; "status 1: an argument is not UTF-8");
-    tell_usage(rt, Page::Program);
-}
-
-/// Writes how a command is called.
-fn tell_usage(rt: &HostRuntime, page: Page) {
+    let page = Page::of_arguments(behind_name(all));
     let _ = eprint!(rt;
         "{}Run `dqnode {}` for more.\n",
         page.usage(),
