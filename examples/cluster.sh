@@ -8,7 +8,7 @@
 # are read are those that were written, and 1 if not.
 set -u
 top=$(cd "$(dirname "$0")/.." && pwd) || exit 1
-dqnode=${DQNODE:-$top/dqnode}
+dqnode=$(readlink -f -- "${DQNODE:-$top/dqnode}") || exit 1
 began=$SECONDS
 folder=$(mktemp -d "${TMPDIR:-/tmp}/cluster.XXXXXX") || exit 1
 nodes=()
