@@ -20,8 +20,15 @@ ELSEWHERE = re.compile(r"/.*|out/.*|(.*[/.])?[A-Z]{2,}([/.].*)?")
 
 
 def tracked():
-    listed = subprocess.run(["git", "ls-files", "-co", "--exclude-standard"], cwd=TOP, capture_output=True, text=True, check=True)
-    return [file for file in listed.stdout.split("\n") if os.path.isfile(f"{TOP}/{file}")]
+    """Returns the files that git lists. If git refuses the checkout, or is not there, all files but those of builds are returned."""
+    try:
+        listed = subprocess.run(["git", "ls-files", "-co", "--exclude-standard"], cwd=TOP, capture_output=True, text=True, check=True).stdout.split("\n")
+    except (OSError, subprocess.CalledProcessError):
+        listed = []
+        for at, folders, names in os.walk(TOP):
+            folders[:] = [it for it in folders if it not in (".git", "out")]
+            listed += [os.path.relpath(f"{at}/{name}", TOP) for name in names]
+    return [file for file in listed if os.path.isfile(f"{TOP}/{file}")]
 
 
 def text_of(file):
