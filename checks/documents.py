@@ -1,11 +1,11 @@
 #!/usr/bin/env python3
-"""Looks whether what the documents name is there: each file, each crate, and each name of code that stands in backticks.
+"""Checks that what the documents name is there: each file, each crate, and each name of code in backticks.
 
     checks/documents.py
 
-It prints a line for each name that isn't, and ends with 1 where there is one. A name of code is a word with an underscore or with capitals inside; a
-path is taken from the top, from the document's folder, or as the end of the path of some file. Words in capitals stand for others. The plan and the
-drafts name what is to come, so of them only the links are looked at.
+It prints a line for each name that isn't there, and then ends with 1. A name of code is a word with an underscore or with capitals inside; a
+path is taken from the top, from the document's folder, or as the end of the path of some file. A word in capitals is a placeholder. The plan and
+the drafts name what is yet to be written, so only their links are checked.
 """
 import os
 import re
