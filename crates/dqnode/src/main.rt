@@ -24,7 +24,7 @@ use error_stream::{ErrorStream, tell_disk, tell_host, tell_memory, tell_owner};
 use folder_disk::DirDisk;
 use founding::{FolderOwner, owner_of};
 pub use network::Network;
-use pages::{print_request, report_refusal};
+use pages::{print_request, report_refusal, request_of};
 pub use program::dqnode;
 use script_cluster::ClusterJournal;
 use serve_sockets::{TcpDialer, TcpHost};
@@ -34,7 +34,6 @@ use std::alloc::AllocError;
 use std::io;
 use std::process::ExitCode;
 use std::sync::Wait;
-use usage::request_in;
 
 /// The node that the arguments name, if they ask for one to be served.
 fn served(rt: &HostRuntime, words: &[String]) -> Option<Serve> {
@@ -121,7 +120,7 @@ fn main(rt: HostRuntime) -> ExitCode {
         return ExitCode::from(Status::NoMemory.code());
     };
     let words = words::behind_name(all.as_slice());
-    if let Some(request) = request_in(words) {
+    if let Some(request) = request_of(&rt, words) {
         return ExitCode::from(print_request(&rt, request).code());
     }
     let code = perform(&rt, words);

@@ -2,9 +2,17 @@
 
 use crate::status::Status;
 use crate::words::behind_name;
-use arguments::refusal_reason;
+use arguments::{read_words, refusal_reason};
 use std::alloc::AllocError;
-use usage::{Page, Request, VERSION};
+use usage::{Page, Request, VERSION, request_in};
+
+/// What arguments ask for in place of a command's work. Those that ask for work are looked at no further.
+pub fn request_of(rt: &HostRuntime, arguments: &[String]) -> Option<Request> {
+    match read_words(rt.alloc(), arguments) {
+        Ok(None) => request_in(arguments),
+        _ => None,
+    }
+}
 
 /// Prints what arguments ask for in place of a command's work.
 pub fn print_request(rt: &HostRuntime, request: Request) -> Status {

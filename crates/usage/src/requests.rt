@@ -29,25 +29,8 @@ fn has_help(arguments: &[String]) -> bool {
     false
 }
 
-/// What a single argument asks for.
-fn request_of(argument: &str) -> Option<Request> {
-    if is_help(argument) || argument == "help" {
-        return Some(Request::Help(Page::Program));
-    }
-    if argument == "--version" || argument == "-V" {
-        return Some(Request::Version);
-    }
-    None
-}
-
-/// The page that `help` and one argument ask for, or that a command with the option for help among its arguments asks for.
+/// What arguments after `first` ask for, if `first` is a command with the option for help among its arguments.
 fn command_help(first: &str, others: &[String]) -> Option<Request> {
-    if first == "help" {
-        return match others {
-            [name] => Some(Request::Help(Page::of_command(name.as_str())?)),
-            _ => None,
-        };
-    }
     let page = Page::of_command(first)?;
     if has_help(others) {
         return Some(Request::Help(page));
@@ -57,12 +40,18 @@ fn command_help(first: &str, others: &[String]) -> Option<Request> {
 
 /// What arguments ask for in place of a command's work, if they do.
 ///
-/// `--help`, `-h` and `help` by themselves ask for the page of the program, `--version` and `-V` by themselves for the version.
-/// `help COMMAND` asks for the page of a command, and so does `--help` or `-h` among the arguments of a command, before `--`.
+/// If the first one is `--help`, `-h` or `help` they ask for the page of the command that comes second, or else for that of the program.
+/// If it is `--version` or `-V` they ask for the version. A command asks for its page by `--help` or `-h` among its arguments, before `--`.
 pub fn request_in(arguments: &[String]) -> Option<Request> {
-    match arguments {
-        [] => None,
-        [argument] => request_of(argument.as_str()),
-        [first, others @ ..] => command_help(first.as_str(), others),
+    let Some((first, others)) = arguments.split_first() else {
+        return None;
+    };
+    let first = first.as_str();
+    if is_help(first) || first == "help" {
+        return Some(Request::Help(Page::of_arguments(others)));
     }
+    if first == "--version" || first == "-V" {
+        return Some(Request::Version);
+    }
+    command_help(first, others)
 }
