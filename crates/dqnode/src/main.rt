@@ -75,10 +75,15 @@ fn tell_end<R: Wait + Copy + Drop>(
     }
 }
 
-/// Does what the arguments ask for, over the input, the output, the working folder and the sockets of the process. Returns the status.
-fn perform(rt: &HostRuntime, words: &[String]) -> u8 {
-    let rt = *rt;
-    let no_memory = Status::NoMemory.code();
+fn main(rt: HostRuntime) -> ExitCode {
+    let no_memory = ExitCode::from(Status::NoMemory.code());
+    let Ok(all) = words::given(&rt) else {
+        return no_memory;
+    };
+    let words = words::behind_name(all.as_slice());
+    if let Some(request) = request_of(&rt, words) {
+        return ExitCode::from(print_request(&rt, request).code());
+    }
     let Ok(mut disk) = DirDisk::new(rt) else {
         return no_memory;
     };
@@ -112,18 +117,6 @@ fn perform(rt: &HostRuntime, words: &[String]) -> u8 {
     if served.is_some() {
         tell_end(&rt, code, &disk, &network.host);
     }
-    code
-}
-
-fn main(rt: HostRuntime) -> ExitCode {
-    let Ok(all) = words::given(&rt) else {
-        return ExitCode::from(Status::NoMemory.code());
-    };
-    let words = words::behind_name(all.as_slice());
-    if let Some(request) = request_of(&rt, words) {
-        return ExitCode::from(print_request(&rt, request).code());
-    }
-    let code = perform(&rt, words);
     if code == Status::Words.code() {
         report_refusal(&rt, all.as_slice());
     }
