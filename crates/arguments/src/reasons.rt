@@ -133,7 +133,7 @@ fn serve_reason(alloc: Global, matches: &ArgMatches<'_>) -> Result<Option<String
     }
 }
 
-/// A reason as a text of its own.
+/// A reason as an owned text.
 fn owned(alloc: Global, reason: Option<&str>) -> Result<Option<String>, AllocError> {
     match reason {
         Some(reason) => Ok(Some(String::from_str(alloc, reason)?)),
