@@ -60,6 +60,19 @@ fn take_folder(
     Ok(())
 }
 
+/// The node that the arguments name, if they ask for one to be served, with the folder taken for it.
+fn served_in(
+    rt: &HostRuntime,
+    words: &[String],
+    disk: &mut DirDisk<HostRuntime>,
+) -> Result<Option<Serve>, AllocError> {
+    let served = served(rt, words);
+    if let Some(words) = &served {
+        take_folder(rt, words, disk)?;
+    }
+    Ok(served)
+}
+
 /// Says why a served node ended, unless the error stream says it already.
 fn tell_end<R: Wait + Copy + Drop>(
     rt: &HostRuntime,
@@ -90,13 +103,10 @@ fn main(rt: HostRuntime) -> ExitCode {
     let Ok(host) = TcpHost::<HostRuntime, Read>::new(rt, rt, rt.alloc()) else {
         return no_memory;
     };
-    let served = served(&rt, words);
-    if let Some(words) = &served {
-        if take_folder(&rt, words, &mut disk).is_err() {
-            tell_memory(&rt);
-            return no_memory;
-        }
-    }
+    let Ok(served) = served_in(&rt, words, &mut disk) else {
+        tell_memory(&rt);
+        return no_memory;
+    };
     let mut input = ReadSource::new(rt.stdin());
     let mut output = WriteSink::new(io::writer(&rt));
     let mut journal = ClusterJournal::new(rt.alloc());
