@@ -18,12 +18,12 @@ use Rattle.session_outcomes.proofs.inside.work.Goals as goal
 pub returns-in-Err-clause-comes : goal.returns-in-Err-clause-comes
 returns-in-Err-clause-comes c = λ weight v s x note to leads begun reaches lists.
     let pages = (change_in c.args.ran).pages in
-    c.refused.ensures.comes (change_refusal (machine_of c.args.setting.now.machine.now) (table_of c.args.setting.now.machine.now c.args.sessions.now weight) c.args.conn c.args.transaction.now.name c.args.transaction.now.mark pages to) (subst (Hinders pages to (change_refusal (machine_of c.args.setting.now.machine.now) (table_of c.args.setting.now.machine.now c.args.sessions.now weight) c.args.conn c.args.transaction.now.name c.args.transaction.now.mark pages to)) c.in-Err.is (c.in_ok-refused_change.ensures.hinders weight to leads)) v (machine_of c.args.setting.now.machine.now) s _
+    c.refused.ensures.comes (change_refusal (machine_of c.args.setting.now.machine.now) (table_of c.args.setting.now.machine.now c.args.sessions.now weight) c.args.conn c.args.transaction.now.name c.args.transaction.now.mark pages to) (subst (Hinders pages to (change_refusal (machine_of c.args.setting.now.machine.now) (table_of c.args.setting.now.machine.now c.args.sessions.now weight) c.args.conn c.args.transaction.now.name c.args.transaction.now.mark pages to)) c.in-Err.is (c.in_ok-hindered.ensures.hinders weight to leads)) v (machine_of c.args.setting.now.machine.now) s _
 
 pub returns-clause-comes : goal.returns-clause-comes
 returns-clause-comes c = λ weight v s x note to leads begun reaches lists.
     let pages = (change_in c.args.ran).pages in
-    let found : Hinders pages to (change_refusal (machine_of c.args.setting.now.machine.now) (table_of c.args.setting.now.machine.now c.args.sessions.now weight) c.args.conn c.args.transaction.now.name c.args.transaction.now.mark pages to) (Ok c.in-Ok._count) = subst (Hinders pages to (change_refusal (machine_of c.args.setting.now.machine.now) (table_of c.args.setting.now.machine.now c.args.sessions.now weight) c.args.conn c.args.transaction.now.name c.args.transaction.now.mark pages to)) c.in-Ok.is (c.in_ok-refused_change.ensures.hinders weight to leads) in
+    let found : Hinders pages to (change_refusal (machine_of c.args.setting.now.machine.now) (table_of c.args.setting.now.machine.now c.args.sessions.now weight) c.args.conn c.args.transaction.now.name c.args.transaction.now.mark pages to) (Ok c.in-Ok._count) = subst (Hinders pages to (change_refusal (machine_of c.args.setting.now.machine.now) (table_of c.args.setting.now.machine.now c.args.sessions.now weight) c.args.conn c.args.transaction.now.name c.args.transaction.now.mark pages to)) c.in-Ok.is (c.in_ok-hindered.ensures.hinders weight to leads) in
     let image : applied x.working c.in_ok-set-in-Ok.set.pages ≡ to = ap (λ (set : PageSet). applied x.working set.pages) c.in_ok-set-in-Ok.ensures ∙ reaches in
     subst (λ (h : Option Cause). IfOk c.worked.result (MatchesOutcome v (machine_of c.args.setting.now.machine.now) s (unless (row_cause c.args.rows c.args.ran.answer h) (Answers (worked s x to true) (reply_of c.args.rows c.args.ran.answer) note)))) (sym found.0)
     (c.worked.ensures.comes v (machine_of c.args.setting.now.machine.now) s x note to begun image (ap (λ (set : PageSet). set.pages) c.in_ok-set-in-Ok.ensures ∙ lists))
