@@ -9,6 +9,6 @@ use Rattle.session_gateway.proofs.carrying.answered.Goals as goal
 
 pub returns : goal.returns
 returns c =
-    ap acts.Reply (c.new.ensures ∙ c.in_ok-response_count.ensures
+    ap acts.Reply (c.new.ensures ∙ c.in_ok-responses.ensures
     ∙ ap (map (λ (one : ℕ × Response). one.1)) (c.from_vec.ensures.items ∙ c.tell.ensures.items ∙ ap (λ (said : List (ℕ × Response)). said ++ told_in (0, reply_named c.args.reply)) c.in_ok-said.ensures.items)
     ∙ stripped 0 (responses_of (reply_named c.args.reply)))

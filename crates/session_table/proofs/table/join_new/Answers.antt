@@ -7,8 +7,8 @@ use Rattle.session_table.specs.Working.{works_of}
 use Rattle.session_table.proofs.Works.{more_works}
 use Rattle.session_table.proofs.table.join_new.Goals as goal
 
-pub returns-then-len-ge-MOST_SESSIONS-clause-table : goal.returns-then-len-ge-MOST_SESSIONS-clause-table
-returns-then-len-ge-MOST_SESSIONS-clause-table c = λ databases weight.
+pub returns-then-len-ge-MAX_SESSIONS-clause-table : goal.returns-then-len-ge-MAX_SESSIONS-clause-table
+returns-then-len-ge-MAX_SESSIONS-clause-table c = λ databases weight.
     let full : 64 ≤ length c.args.sessions.now.items = omega arith in
     full_stays databases c.args.sessions.now.items weight c.args.conn full
 

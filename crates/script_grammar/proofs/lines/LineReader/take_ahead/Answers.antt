@@ -3,9 +3,9 @@ use Rattle.script_grammar.specs.Lines.{Cursor}
 use Rattle.script_grammar.proofs.Pieces.{range_split, range_byte, range_at, length_range}
 use Rattle.script_grammar.proofs.lines.LineReader.take_ahead.Goals as goal
 
-pub returns-then-len-gt-LINE_LIMIT-clause-too_long :
-    goal.returns-then-len-gt-LINE_LIMIT-clause-too_long
-returns-then-len-gt-LINE_LIMIT-clause-too_long c = λ e.
+pub returns-then-len-gt-MAX_LINE_LENGTH-clause-too_long :
+    goal.returns-then-len-gt-MAX_LINE_LENGTH-clause-too_long
+returns-then-len-gt-MAX_LINE_LENGTH-clause-too_long c = λ e.
     let i = c.self.inside in
     let n = c.before_feed-count.result in
     let part = take n (take (i.end - i.start) (drop i.start i.piece.items)) in
