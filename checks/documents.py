@@ -1,11 +1,11 @@
 #!/usr/bin/env python3
-"""Looks whether what the documents name is there: each file, each crate, and each name of code that stands in backticks.
+"""Checks that what the documents name is there: each file, each crate, and each name of code in backticks.
 
     checks/documents.py
 
-It prints a line for each name that isn't, and ends with 1 where there is one. A name of code is a word with an underscore or with capitals inside; a
-path is taken from the top, from the document's folder, or as the end of the path of some file. Words in capitals stand for others. The plan and the
-drafts name what is to come, so of them only the links are looked at.
+It prints a line for each name that isn't there, and then ends with 1. A name of code is a word with an underscore or with capitals inside; a
+path is taken from the top, from the document's folder, or as the end of the path of some file. A word in capitals is a placeholder. The plan and
+the drafts name what is yet to be written, so only their links are checked.
 """
 import os
 import re
@@ -20,8 +20,15 @@ ELSEWHERE = re.compile(r"/.*|out/.*|(.*[/.])?[A-Z]{2,}([/.].*)?")
 
 
 def tracked():
-    listed = subprocess.run(["git", "ls-files", "-co", "--exclude-standard"], cwd=TOP, capture_output=True, text=True, check=True)
-    return [file for file in listed.stdout.split("\n") if os.path.isfile(f"{TOP}/{file}")]
+    """Returns the files that git lists. If git refuses the checkout, or is not there, all files but those of builds are returned."""
+    try:
+        listed = subprocess.run(["git", "ls-files", "-co", "--exclude-standard"], cwd=TOP, capture_output=True, text=True, check=True).stdout.split("\n")
+    except (OSError, subprocess.CalledProcessError):
+        listed = []
+        for at, folders, names in os.walk(TOP):
+            folders[:] = [it for it in folders if it not in (".git", "out")]
+            listed += [os.path.relpath(f"{at}/{name}", TOP) for name in names]
+    return [file for file in listed if os.path.isfile(f"{TOP}/{file}")]
 
 
 def text_of(file):

@@ -1,12 +1,14 @@
-//! What the words behind the program's name ask for.
+//! What the program's arguments ask for, and why they are refused.
 #![tactic(auto)]
 
 mod addresses;
 mod commands;
 mod invocation;
 mod reading;
+mod reasons;
 mod serving;
 
 pub use invocation::{Invocation, Peer, Serve, Statement};
 pub use reading::read_words;
+pub use reasons::refusal_reason;
 pub use serving::read_serve;

@@ -29,7 +29,7 @@ pub(crate) enum Line {
     Serve,
 }
 
-fn line_of(word: &str) -> Option<Line>
+pub(crate) fn line_of(word: &str) -> Option<Line>
     ensures { result ≡ line_of word.now }
 {
     if word == "script" {

@@ -18,10 +18,10 @@ use sql_engine::EngineKind;
 use std::alloc::{AllocError, Global};
 
 /// How many peers a node has at most.
-const MAX_PEERS: usize = 6;
+pub(crate) const MAX_PEERS: usize = 6;
 
 /// The number of events where none is named.
-const MAX_EVENTS: u32 = 4_294_967_295;
+pub(crate) const MAX_EVENTS: u32 = 4_294_967_295;
 
 /// The peer of an id at an address, if the word is an address.
 fn peer_with(alloc: Global, id: u32, word: &str) -> Result<Option<Peer>, AllocError>
@@ -38,7 +38,7 @@ fn peer_with(alloc: Global, id: u32, word: &str) -> Result<Option<Peer>, AllocEr
 }
 
 /// The peer that a word names as `N=ADDRESS`, if it does.
-fn peer_of(alloc: Global, word: &str) -> Result<Option<Peer>, AllocError>
+pub(crate) fn peer_of(alloc: Global, word: &str) -> Result<Option<Peer>, AllocError>
     ensures { IfOk result (λ peer. peer ≡ peer_of word.now) }
 {
     let Some((number, address)) = word.split_once('=') else {
@@ -51,7 +51,7 @@ fn peer_of(alloc: Global, word: &str) -> Result<Option<Peer>, AllocError>
 }
 
 /// Whether a peer has this id.
-fn has_id(peers: &[Peer], id: u64) -> bool
+pub(crate) fn has_id(peers: &[Peer], id: u64) -> bool
     ensures { result ≡ has_id id peers.now }
 {
     peers.iter().any(|peer| peer.id == id)

@@ -6,22 +6,22 @@ use arguments::Serve;
 use disk_model::{Disk, DiskFault};
 use std::alloc::{AllocError, Global};
 
-/// The name of the file that tells it.
+/// The name of the file that says it.
 const FILE: &str = "node";
 
 /// How many bytes of it are read: more than any such file has.
 const ROOM: usize = 4_096;
 
-/// Whose a folder is.
+/// Who owns a folder.
 #[derive(Drop)]
 pub enum FolderOwner {
-    /// The node's that the words name, or nobody's so far.
+    /// The node that the arguments name, now that its file says so.
     Ours,
-    /// Another node's, or that of a node with other voters: what its file says.
+    /// Another node, or a node with other voters: what its file says.
     Another(String),
 }
 
-/// The address of a node of the words, by its id, if it is one of them.
+/// The address of a node that the arguments name, by its id, if it is one of them.
 fn address_of(words: &Serve, id: u64) -> Option<&str> {
     if words.id == id {
         return Some(words.listen.as_str());
@@ -48,14 +48,14 @@ fn text_of(alloc: Global, words: &Serve) -> Result<String, AllocError> {
     Ok(text)
 }
 
-/// Room for so many bytes.
+/// Room for `size` bytes.
 fn room_for(alloc: Global, size: usize) -> Result<Vec<u8>, AllocError>
     ensures { IfOk result (λ room. vec_len room ≡ size) }
 {
     vec![in alloc; 0; size]
 }
 
-/// What the file says; nothing where it isn't there.
+/// What the file says; nothing if it isn't there.
 fn held<D: Disk>(alloc: Global, disk: &mut D) -> Result<Vec<u8>, DiskFault> {
     let mut room = room_for(alloc, ROOM)?;
     let count = disk.read_at(FILE, 0, room.as_mut_slice())?;
@@ -63,14 +63,28 @@ fn held<D: Disk>(alloc: Global, disk: &mut D) -> Result<Vec<u8>, DiskFault> {
     Ok(room)
 }
 
-/// Writes the file, for good.
+/// Writes the file and syncs it, with its name.
 fn write<D: Disk>(disk: &mut D, text: &str) -> Result<(), DiskFault> {
     disk.write_at(FILE, 0, text.as_bytes())?;
     disk.sync(FILE)?;
     disk.sync_names()
 }
 
-/// Looks whose a folder is. Where its file isn't there, or was begun and not ended, it is written.
+/// Whether a node keeps its term, its vote, its log or a snapshot in a file of this name.
+fn is_kept(name: &str) -> bool {
+    name.starts_with("metadata") || name.starts_with("segment-") || name.starts_with("snapshot-")
+}
+
+/// Whether a node has kept anything in the folder.
+fn has_kept_files<D: Disk>(disk: &mut D) -> Result<bool, DiskFault> {
+    let names = disk.list()?;
+    Ok(names.iter().any(|name| is_kept(name.as_str())))
+}
+
+/// Returns who owns a folder.
+///
+/// The file is written if it isn't there, or if an earlier write of it was not finished. It is replaced if no node has kept anything in
+/// the folder: the start that wrote it ended before its node promised anything, as one that can't listen.
 pub fn owner_of<D: Disk>(
     alloc: Global,
     words: &Serve,
@@ -82,6 +96,11 @@ pub fn owner_of<D: Disk>(
         return Ok(FolderOwner::Ours);
     }
     if text.as_bytes().starts_with(held.as_slice()) {
+        write(disk, text.as_str())?;
+        return Ok(FolderOwner::Ours);
+    }
+    if !has_kept_files(disk)? {
+        disk.cut(FILE, 0)?;
         write(disk, text.as_str())?;
         return Ok(FolderOwner::Ours);
     }

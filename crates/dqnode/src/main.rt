@@ -1,6 +1,6 @@
-//! `dqnode` runs scripts, serves a node, has the leader of a cluster run statements, and tells what the files of a stopped node stand
-//! for. A script drives a whole cluster of dqlite, which is SQLite replicated over a Raft cluster, or machines that apply one list of
-//! replicated commands.
+//! `dqnode` serves a node of dqlite, which is SQLite replicated by Raft. It has the leader of a cluster run statements, prints what the
+//! files of a stopped node hold, and runs and writes scripts. A script drives a whole cluster, or copies of its databases that apply one
+//! list of replicated commands.
 #![tactic(auto)]
 
 mod checks;
@@ -8,6 +8,7 @@ mod error_stream;
 mod founding;
 mod generating;
 mod network;
+mod pages;
 mod program;
 mod script_bytes;
 mod scripts;
@@ -23,6 +24,7 @@ use error_stream::{ErrorStream, tell_disk, tell_host, tell_memory, tell_owner};
 use folder_disk::DirDisk;
 use founding::{FolderOwner, owner_of};
 pub use network::Network;
+use pages::{print_request, report_refusal, request_of};
 pub use program::dqnode;
 use script_cluster::ClusterJournal;
 use serve_sockets::{TcpDialer, TcpHost};
@@ -33,7 +35,7 @@ use std::io;
 use std::process::ExitCode;
 use std::sync::Wait;
 
-/// The node that the words name, where they ask for one to be served.
+/// The node that the arguments name, if they ask for one to be served.
 fn served(rt: &HostRuntime, words: &[String]) -> Option<Serve> {
     match read_words(rt.alloc(), words) {
         Ok(Some(Invocation::Serve(words))) => Some(words),
@@ -41,8 +43,8 @@ fn served(rt: &HostRuntime, words: &[String]) -> Option<Serve> {
     }
 }
 
-/// Takes the folder for the node that the words name. Where it is another node's, or the disk fails, that is told, and the disk is
-/// refused, so that the node doesn't start.
+/// Takes the folder for the node that the arguments name. If it is another node's, or if the disk fails, the error stream says so, and
+/// the disk is refused, so that the node doesn't start.
 fn take_folder(
     rt: &HostRuntime,
     words: &Serve,
@@ -58,7 +60,20 @@ fn take_folder(
     Ok(())
 }
 
-/// Says why a served node ends, where that wasn't told.
+/// The node that the arguments name, if they ask for one to be served, with the folder taken for it.
+fn served_in(
+    rt: &HostRuntime,
+    words: &[String],
+    disk: &mut DirDisk<HostRuntime>,
+) -> Result<Option<Serve>, AllocError> {
+    let served = served(rt, words);
+    if let Some(words) = &served {
+        take_folder(rt, words, disk)?;
+    }
+    Ok(served)
+}
+
+/// Says why a served node ended, unless the error stream says it already.
 fn tell_end<R: Wait + Copy + Drop>(
     rt: &HostRuntime,
     code: u8,
@@ -78,20 +93,20 @@ fn main(rt: HostRuntime) -> ExitCode {
     let Ok(all) = words::given(&rt) else {
         return no_memory;
     };
+    let words = words::behind_name(all.as_slice());
+    if let Some(request) = request_of(&rt, words) {
+        return ExitCode::from(print_request(&rt, request).code());
+    }
     let Ok(mut disk) = DirDisk::new(rt) else {
         return no_memory;
     };
     let Ok(host) = TcpHost::<HostRuntime, Read>::new(rt, rt, rt.alloc()) else {
         return no_memory;
     };
-    let words = words::behind_name(all.as_slice());
-    let served = served(&rt, words);
-    if let Some(words) = &served {
-        if take_folder(&rt, words, &mut disk).is_err() {
-            tell_memory(&rt);
-            return no_memory;
-        }
-    }
+    let Ok(served) = served_in(&rt, words, &mut disk) else {
+        tell_memory(&rt);
+        return no_memory;
+    };
     let mut input = ReadSource::new(rt.stdin());
     let mut output = WriteSink::new(io::writer(&rt));
     let mut journal = ClusterJournal::new(rt.alloc());
@@ -111,6 +126,9 @@ fn main(rt: HostRuntime) -> ExitCode {
     );
     if served.is_some() {
         tell_end(&rt, code, &disk, &network.host);
+    }
+    if code == Status::Words.code() {
+        report_refusal(&rt, all.as_slice());
     }
     ExitCode::from(code)
 }

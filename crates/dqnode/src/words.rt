@@ -1,4 +1,4 @@
-//! The words that the program was started with.
+//! The arguments that the program was started with.
 
 ghost use Rattle.std.specs.Prelude.{◌≡◌, drop};
 
@@ -7,8 +7,8 @@ use std::env;
 use std::io::ErrorKind;
 use std::rt::Env;
 
-/// All words that the process was given, of which the first is the program's name. Where one of them isn't text there
-/// are none, since the program knows no such word.
+/// All arguments of the process, of which the first is the program's name. If one of them isn't UTF-8 there are none, since the program
+/// knows no such argument.
 pub fn given<R: Env + AllocGlobal>(rt: &R) -> Result<Vec<String>, AllocError> {
     let alloc = rt.alloc();
     match env::args(rt) {
@@ -18,7 +18,7 @@ pub fn given<R: Env + AllocGlobal>(rt: &R) -> Result<Vec<String>, AllocError> {
     }
 }
 
-/// All but the first of the words: those behind the program's name.
+/// All arguments but the first: those after the program's name.
 pub fn behind_name(all: &[String]) -> &[String]
     ensures { result.now ≡ drop 1 all.now }
 {

@@ -4,8 +4,8 @@ use Rattle.sql_engine.specs.Meanings.{Tells}
 use Rattle.sql_engine.specs.Known.{MayKnow}
 use Rattle.engine_recording.specs.Noting.{told_by}
 use Rattle.engine_recording.proofs.Telling.{told_more, told_lost}
-use Rattle.engine_recording.proofs.engine.NotedEngineEngine.run.Goals as goal
-use Rattle.engine_recording.proofs.engine.NotedEngineEngine.run.Goals.{in-Ok-1, in-Err-1}
+use Rattle.engine_recording.proofs.engine.RecordingEngineEngine.run.Goals as goal
+use Rattle.engine_recording.proofs.engine.RecordingEngineEngine.run.Goals.{in-Ok-1, in-Err-1}
 
 pub returns-then-self-clause-told : goal.returns-then-self-clause-told
 returns-then-self-clause-told g c = told_lost _ _ _ _ refl (sym (ap (λ v. v.cut) c.self.view_is) ∙ c.if-self.true)
