@@ -10,4 +10,5 @@ kept_anew-requires c =
     let it = c.args.conn.value in
     ∥∥₁_map ((rw c.deref-unboxed.ensures at c.held.ensures) c.requires.open) (λ h.
     subst (λ (i : Image). Stands i it) (sym c.in-Some.ensures)
-    (goes_on c.args.image.now it (rw c.deref-unboxed.ensures at c.connected.ensures) c.requires.open c.requires.autocommit ((rw c.deref-unboxed.ensures at (c.holds_alike.ensures c.if-not-holds_alike.false)) _ h)))
+    (goes_on c.args.image.now it (rw c.deref-unboxed.ensures at c.connected.ensures) c.requires.open c.requires.autocommit
+    ((rw c.deref-unboxed.ensures at (c.holds_alike.ensures c.if-not-holds_alike.false)) _ h)))

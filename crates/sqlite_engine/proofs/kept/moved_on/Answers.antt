@@ -10,4 +10,5 @@ kept_anew-requires c =
     subst (λ (i : Image). ∥ Stands i c.args.conn.value ∥₁) (sym is) c.requires.stands
 
 pub returns-then-takes_over : goal.returns-then-takes_over
-returns-then-takes_over c = c.kept_anew.ensures.base ∙ c.takes_over.ensures c.if-takes_over.true (files_beneath c.args.conn.value) c.requires.short c.requires.pages
+returns-then-takes_over c =
+    c.kept_anew.ensures.base ∙ c.takes_over.ensures c.if-takes_over.true (files_beneath c.args.conn.value) c.requires.short c.requires.pages
