@@ -3,7 +3,9 @@
 ghost use Rattle.std.specs.Prelude.{◌≡◌, false, IsTrue, IfSome};
 ghost use Rattle.sqlite.specs.Files.{file_state};
 
-use crate::connection::{Conn, drop_connection, execute, is_settled, limit_steps, query};
+use crate::connection::{
+    BoxedConnection, Conn, drop_connection, execute, is_settled, limit_steps, query,
+};
 use crate::image_history::Write;
 use crate::values::bind;
 use sqlite::types::ValueRef;
@@ -14,15 +16,19 @@ const MAX_STEPS: u64 = 40_000;
 
 /// The connection once these statements have run on it, one behind the other. `None` is that one of them isn't run, or has begun a
 /// transaction.
-pub(crate) fn led_along(alloc: Global, conn: Conn, writes: &[Write]) -> Option<Conn>
-    requires open { IsTrue (file_state conn).is_open }
-    requires autocommit { (file_state conn).in_transaction ≡ false }
-    ensures open { IfSome result (λ led. IsTrue (file_state led).is_open) }
-    ensures autocommit { IfSome result (λ led. (file_state led).in_transaction ≡ false) }
+pub(crate) fn led_along(
+    alloc: Global,
+    conn: BoxedConnection,
+    writes: &[Write],
+) -> Option<BoxedConnection>
+    requires open { IsTrue (file_state conn.value).is_open }
+    requires autocommit { (file_state conn.value).in_transaction ≡ false }
+    ensures open { IfSome result (λ led. IsTrue (file_state led.value).is_open) }
+    ensures autocommit { IfSome result (λ led. (file_state led.value).in_transaction ≡ false) }
 {
     let mut conn = conn;
     for write in writes {
-        if !ran_again(alloc, &mut conn, write) {
+        if !ran_again(alloc, &mut *conn, write) {
             drop_connection(conn);
             return None;
         }

@@ -18,7 +18,8 @@ ghost use Rattle.sqlite_engine.specs.Shows.{showing, FailsSomehow};
 
 use crate::again::led_along;
 use crate::connection::{
-    Conn, OpenFault, close, drop_connection, execute, is_settled, limit_steps, open, prepare, query,
+    BoxedConnection, Conn, OpenFault, close, drop_connection, execute, is_settled, limit_steps,
+    open, prepare, query,
 };
 use crate::errors::is_of_store;
 use crate::image_history::Write;
@@ -37,11 +38,11 @@ use std::alloc::{AllocError, Global};
 /// as one that was just opened over it.
 pub(crate) struct Kept {
     pub(crate) base: Image,
-    pub(crate) conn: Conn,
+    pub(crate) conn: BoxedConnection,
     /// Texts that look only under the schema that the connection has.
     looking: Vec<Bytes>,
-    ghost stands: { ∥ Stands base conn ∥₁ },
-    ghost looks: { ∥ AllLook (file_state conn).now.schema looking.items ∥₁ },
+    ghost stands: { ∥ Stands base conn.value ∥₁ },
+    ghost looks: { ∥ AllLook (file_state conn.value).now.schema looking.items ∥₁ },
 }
 
 // It is written out, so that a caller does not prove again how a connection is dropped.
@@ -63,9 +64,9 @@ pub(crate) struct Failure {
     pub(crate) error: Error,
 }
 
-fn kept_over(base: Image, conn: Conn, looking: Vec<Bytes>) -> Kept
-    requires stands { ∥ Stands base conn ∥₁ }
-    requires looks { ∥ AllLook (file_state conn).now.schema looking.items ∥₁ }
+fn kept_over(base: Image, conn: BoxedConnection, looking: Vec<Bytes>) -> Kept
+    requires stands { ∥ Stands base conn.value ∥₁ }
+    requires looks { ∥ AllLook (file_state conn.value).now.schema looking.items ∥₁ }
     ensures base { result.base ≡ base }
     ensures conn { result.conn ≡ conn }
 {
@@ -77,8 +78,8 @@ fn kept_over(base: Image, conn: Conn, looking: Vec<Bytes>) -> Kept
 }
 
 /// A connection of which no text is known to look only.
-fn kept_anew(alloc: Global, base: Image, conn: Conn) -> Kept
-    requires { ∥ Stands base conn ∥₁ }
+fn kept_anew(alloc: Global, base: Image, conn: BoxedConnection) -> Kept
+    requires { ∥ Stands base conn.value ∥₁ }
     ensures base { result.base ≡ base }
     ensures conn { result.conn ≡ conn }
 {
@@ -112,13 +113,13 @@ impl Kept {
     pub(crate) fn looks_only(self, alloc: Global, text: &str) -> (Kept, Option<bool>)
         ensures base { result.0.base ≡ self.base }
         ensures conn { result.0.conn ≡ self.conn }
-        ensures looks { result.1 ≡ Some true → ∥ LooksOnly (understood (file_state self.conn).now.schema text.now) ∥₁ }
-        ensures returns { result.1 ≡ Some false → HasReturning (understood (file_state self.conn).now.schema text.now) }
+        ensures looks { result.1 ≡ Some true → ∥ LooksOnly (understood (file_state self.conn.value).now.schema text.now) ∥₁ }
+        ensures returns { result.1 ≡ Some false → HasReturning (understood (file_state self.conn.value).now.schema text.now) }
     {
         if has_text(self.looking.as_slice(), text) {
             return (self, Some(true));
         }
-        let looks = looks_only(alloc, &self.conn, text);
+        let looks = looks_only(alloc, &*self.conn, text);
         if is_yes(looks) {
             (self.noting(alloc, text), looks)
         } else {
@@ -128,7 +129,7 @@ impl Kept {
 
     /// The connection, beside which this text is noted as one that looks only.
     fn noting(self, alloc: Global, text: &str) -> Kept
-        requires { LooksOnly (understood (file_state self.conn).now.schema text.now) }
+        requires { LooksOnly (understood (file_state self.conn.value).now.schema text.now) }
         ensures base { result.base ≡ self.base }
         ensures conn { result.conn ≡ self.conn }
     {
@@ -169,31 +170,31 @@ impl Kept {
     /// The connection with this limit of steps for each later statement, or with none.
     pub(crate) fn limited(self, limit: Option<u64>) -> Kept
         ensures base { result.base ≡ self.base }
-        ensures limit { result.conn.step_limit ≡ limit }
+        ensures limit { result.conn.value.step_limit ≡ limit }
     {
         let Kept {
             base,
             mut conn,
             looking,
         } = self;
-        limit_steps(&mut conn, limit);
+        limit_steps(&mut *conn, limit);
         kept_over(base, conn, looking)
     }
 
     /// What the statement of a text shows, before it is run.
     pub(crate) fn prepared(self, text: &str) -> Result<(Kept, Statement), Failure>
         ensures base { IfOk result (λ r. r.0.base ≡ self.base) }
-        ensures limit { IfOk result (λ r. r.0.conn.step_limit ≡ self.conn.step_limit) }
-        ensures columns { IfOk result (λ r. HasColumns (file_state r.0.conn) text.now r.1.columns) }
+        ensures limit { IfOk result (λ r. r.0.conn.value.step_limit ≡ self.conn.value.step_limit) }
+        ensures columns { IfOk result (λ r. HasColumns (file_state r.0.conn.value) text.now r.1.columns) }
         ensures left { IfErr result (λ failure. IfSome failure.left (λ left. left.base ≡ self.base)) }
-        ensures fails { IfErr result (λ failure. (params : _) → ∥ FailsOn self.base self.conn.step_limit text.now params failure.error ∥₁) }
+        ensures fails { IfErr result (λ failure. (params : _) → ∥ FailsOn self.base self.conn.value.step_limit text.now params failure.error ∥₁) }
     {
         let Kept {
             base,
             mut conn,
             looking,
         } = self;
-        match prepare(&mut conn, text) {
+        match prepare(&mut *conn, text) {
             Ok(statement) => Ok((kept_over(base, conn, looking), statement)),
             Err(error) => Err(Failure {
                 left: left_after(base, conn, looking, error),
@@ -209,19 +210,19 @@ impl Kept {
         text: &str,
         params: &[ValueRef<'_>],
     ) -> Result<(Kept, Shows), Failure>
-        requires columns { HasColumns (file_state self.conn) text.now statement.now.columns }
-        requires only { ∥ LooksOnly (understood (file_state self.conn).now.schema text.now) ∥₁ }
+        requires columns { HasColumns (file_state self.conn.value) text.now statement.now.columns }
+        requires only { ∥ LooksOnly (understood (file_state self.conn.value).now.schema text.now) ∥₁ }
         ensures base { IfOk result (λ r. r.0.base ≡ self.base) }
         ensures ran { IfOk result (λ r. ∥ RanOn self.base text.now (bound params.now) self.base (showing statement.now.columns r.1) ∥₁) }
         ensures left { IfErr result (λ failure. IfSome failure.left (λ left. left.base ≡ self.base)) }
-        ensures fails { IfErr result (λ failure. ∥ FailsOn self.base self.conn.step_limit text.now (bound params.now) failure.error ∥₁) }
+        ensures fails { IfErr result (λ failure. ∥ FailsOn self.base self.conn.value.step_limit text.now (bound params.now) failure.error ∥₁) }
     {
         let Kept {
             base,
             mut conn,
             looking,
         } = self;
-        match query(&mut conn, text, params) {
+        match query(&mut *conn, text, params) {
             Ok(rows) => {
                 let shows = Shows { affected: 0, rows };
                 Ok((kept_over(base, conn, looking), shows))
@@ -243,20 +244,20 @@ impl Kept {
         params: &[ValueRef<'_>],
         tx: u64,
     ) -> Result<(Option<Kept>, Shows, PageSet), Failure>
-        requires columns { HasColumns (file_state self.conn) text.now statement.now.columns }
-        requires returns { (statement.now.columns ≡ [] → ⊥) → HasReturning (understood (file_state self.conn).now.schema text.now) }
+        requires columns { HasColumns (file_state self.conn.value) text.now statement.now.columns }
+        requires returns { (statement.now.columns ≡ [] → ⊥) → HasReturning (understood (file_state self.conn.value).now.schema text.now) }
         ensures led { IfOk result (λ r. Led self.base text.now (bound params.now) tx (showing statement.now.columns r.1) r.2) }
         ensures over { IfOk result (λ r. IfSome r.0 (λ kept. IsLedTo self.base r.2 kept.base)) }
         ensures bare { IfOk result (λ r. statement.now.columns ≡ [] → r.1.rows.items ≡ []) }
         ensures left { IfErr result (λ failure. IfSome failure.left (λ left. left.base ≡ self.base)) }
-        ensures fails { IfErr result (λ failure. IsRefused self.base self.conn.step_limit text.now (bound params.now) failure.error) }
+        ensures fails { IfErr result (λ failure. IsRefused self.base self.conn.value.step_limit text.now (bound params.now) failure.error) }
     {
         let Kept {
             base,
             mut conn,
             looking,
         } = self;
-        match ask(alloc, &mut conn, statement, text, params) {
+        match ask(alloc, &mut *conn, statement, text, params) {
             Ok(shows) => match settled(alloc, base, conn, tx) {
                 Some((left, set)) => Ok((left, shows, set)),
                 None => Err(Failure {
@@ -273,12 +274,18 @@ impl Kept {
 }
 
 /// The pages that lead to what the files of a connection are now, and the connection itself, where it is in no transaction.
-fn settled(alloc: Global, base: Image, conn: Conn, tx: u64) -> Option<(Option<Kept>, PageSet)>
-    requires { IsTrue (file_state conn).is_open }
-    ensures settled { IfSome result (λ r. Settled base conn tx r.1) }
+fn settled(
+    alloc: Global,
+    base: Image,
+    conn: BoxedConnection,
+    tx: u64,
+) -> Option<(Option<Kept>, PageSet)>
+    requires { IsTrue (file_state conn.value).is_open }
+    ensures settled { IfSome result (λ r. Settled base conn.value tx r.1) }
     ensures over { IfSome result (λ r. IfSome r.0 (λ kept. IsLedTo base r.1 kept.base)) }
 {
-    if is_settled(&conn) && has_short_log(&conn) {
+    let unboxed = &*conn;
+    if is_settled(unboxed) && has_short_log(unboxed) {
         followed(alloc, base, conn, tx)
     } else {
         match closed(alloc, base, conn, tx) {
@@ -298,15 +305,21 @@ fn has_short_log(conn: &Conn) -> bool {
 
 /// The pages that lead to what the files of a connection are now, and the connection over these files. It has no copy of them
 /// made but of the pages that differ, which the image before takes over.
-fn followed(alloc: Global, base: Image, conn: Conn, tx: u64) -> Option<(Option<Kept>, PageSet)>
-    requires open { IsTrue (file_state conn).is_open }
-    requires autocommit { (file_state conn).in_transaction ≡ false }
-    ensures settled { IfSome result (λ r. Settled base conn tx r.1) }
+fn followed(
+    alloc: Global,
+    base: Image,
+    conn: BoxedConnection,
+    tx: u64,
+) -> Option<(Option<Kept>, PageSet)>
+    requires open { IsTrue (file_state conn.value).is_open }
+    requires autocommit { (file_state conn.value).in_transaction ≡ false }
+    ensures settled { IfSome result (λ r. Settled base conn.value tx r.1) }
     ensures over { IfSome result (λ r. IfSome r.0 (λ kept. IsLedTo base r.1 kept.base)) }
 {
-    connected(&conn);
-    held(&conn);
-    match changes_beneath(alloc, &base, &conn, tx) {
+    let unboxed = &*conn;
+    connected(unboxed);
+    held(unboxed);
+    match changes_beneath(alloc, &base, unboxed, tx) {
         Ok(set) => {
             let left = moved_on(alloc, base, conn, &set);
             Some((left, set))
@@ -332,11 +345,11 @@ fn changes_beneath(alloc: Global, base: &Image, conn: &Conn, tx: u64) -> Result<
 /// The connection over what its files are, to which these pages lead from the image. `None` where no memory is left to grow the
 /// image, or where the pages state a file that is longer than any may be. Its schema may be another one, so no text is known to look
 /// only.
-fn moved_on(alloc: Global, base: Image, conn: Conn, set: &PageSet) -> Option<Kept>
-    requires pages { set.now.pages ≡ changed base (files_beneath conn) }
-    requires short { IsShort (files_beneath conn) }
-    requires stands { ∥ Stands (files_beneath conn) conn ∥₁ }
-    ensures { IfSome result (λ kept. kept.base ≡ files_beneath conn) }
+fn moved_on(alloc: Global, base: Image, conn: BoxedConnection, set: &PageSet) -> Option<Kept>
+    requires pages { set.now.pages ≡ changed base (files_beneath conn.value) }
+    requires short { IsShort (files_beneath conn.value) }
+    requires stands { ∥ Stands (files_beneath conn.value) conn.value ∥₁ }
+    ensures { IfSome result (λ kept. kept.base ≡ files_beneath conn.value) }
 {
     let mut base = base;
     if takes_over(&mut base, set) {
@@ -348,14 +361,15 @@ fn moved_on(alloc: Global, base: Image, conn: Conn, set: &PageSet) -> Option<Kep
 }
 
 /// The connection over this image, where its files hold the same database.
-fn kept_alike(alloc: Global, base: Image, conn: Conn, image: &Image) -> Option<Kept>
-    requires open { IsTrue (file_state conn).is_open }
-    requires autocommit { (file_state conn).in_transaction ≡ false }
+fn kept_alike(alloc: Global, base: Image, conn: BoxedConnection, image: &Image) -> Option<Kept>
+    requires open { IsTrue (file_state conn.value).is_open }
+    requires autocommit { (file_state conn.value).in_transaction ≡ false }
     ensures { IfSome result (λ kept. kept.base ≡ image.now) }
 {
-    connected(&conn);
-    held(&conn);
-    if !holds_alike(alloc, &conn, image) {
+    let unboxed = &*conn;
+    connected(unboxed);
+    held(unboxed);
+    if !holds_alike(alloc, unboxed, image) {
         drop_connection(conn);
         return None;
     }
@@ -423,8 +437,8 @@ fn takes_over(image: &mut Image, set: &PageSet) -> bool
 }
 
 /// The pages that lead to what the files of a connection are once they are closed.
-fn closed(alloc: Global, base: Image, conn: Conn, tx: u64) -> Option<PageSet>
-    ensures { IfSome result (λ set. Settled base conn tx set) }
+fn closed(alloc: Global, base: Image, conn: BoxedConnection, tx: u64) -> Option<PageSet>
+    ensures { IfSome result (λ set. Settled base conn.value tx set) }
 {
     let after = close(conn)?;
     is_short(&after);
@@ -449,9 +463,9 @@ pub(crate) fn is_short(image: &Image)
 }
 
 /// What is left of a connection after an error.
-fn left_after(base: Image, conn: Conn, looking: Vec<Bytes>, error: Error) -> Option<Kept>
-    requires stands { is_of_store error ≡ false → ∥ Stands base conn ∥₁ }
-    requires looks { is_of_store error ≡ false → ∥ AllLook (file_state conn).now.schema looking.items ∥₁ }
+fn left_after(base: Image, conn: BoxedConnection, looking: Vec<Bytes>, error: Error) -> Option<Kept>
+    requires stands { is_of_store error ≡ false → ∥ Stands base conn.value ∥₁ }
+    requires looks { is_of_store error ≡ false → ∥ AllLook (file_state conn.value).now.schema looking.items ∥₁ }
     ensures { IfSome result (λ left. left.base ≡ base) }
 {
     if is_of_store(error) {

@@ -7,7 +7,8 @@ use Rattle.sqlite_engine.proofs.kept.kept_alike.Goals as goal
 
 pub kept_anew-requires : goal.kept_anew-requires
 kept_anew-requires c =
-    let it = c.args.conn in
-    ∥∥₁_map (c.held.ensures c.requires.open) (λ h.
+    let it = c.args.conn.value in
+    ∥∥₁_map ((rw c.deref-unboxed.ensures at c.held.ensures) c.requires.open) (λ h.
     subst (λ (i : Image). Stands i it) (sym c.in-Some.ensures)
-    (goes_on c.args.image.now it c.connected.ensures c.requires.open c.requires.autocommit (c.holds_alike.ensures c.if-not-holds_alike.false _ h)))
+    (goes_on c.args.image.now it (rw c.deref-unboxed.ensures at c.connected.ensures) c.requires.open c.requires.autocommit
+    ((rw c.deref-unboxed.ensures at (c.holds_alike.ensures c.if-not-holds_alike.false)) _ h)))

@@ -15,17 +15,17 @@ use Rattle.sqlite_engine.proofs.running.run_columns.Goals as goal
 pub show_rows-requires-clause-columns : goal.show_rows-requires-clause-columns
 show_rows-requires-clause-columns c =
     subst (λ (k : Conn). HasColumns (file_state k) c.args.text.now c.args.statement.now.columns)
-    (sym c.looks_only-kept.ensures.conn) c.requires
+    (λ i. (sym c.looks_only-kept.ensures.conn i).value) c.requires
 
 pub show_rows-requires-clause-only : goal.show_rows-requires-clause-only
 show_rows-requires-clause-only c is =
     subst (λ (k : Conn). ∥ LooksOnly (understood (file_state k).now.schema c.args.text.now) ∥₁)
-    (sym c.looks_only-kept.ensures.conn) (c.looks_only-kept.ensures.looks is)
+    (λ i. (sym c.looks_only-kept.ensures.conn i).value) (c.looks_only-kept.ensures.looks is)
 
 pub show_rows-requires-clause-returns : goal.show_rows-requires-clause-returns
 show_rows-requires-clause-returns c is =
     subst (λ (k : Conn). HasReturning (understood (file_state k).now.schema c.args.text.now))
-    (sym c.looks_only-kept.ensures.conn) (c.looks_only-kept.ensures.returns is)
+    (λ i. (sym c.looks_only-kept.ensures.conn i).value) (c.looks_only-kept.ensures.returns is)
 
 pub returns-clause-led : goal.returns-clause-led
 returns-clause-led c =
@@ -51,5 +51,5 @@ pub returns-clause-fails : goal.returns-clause-fails
 returns-clause-fails c =
     let Refused : Image → Conn → Type 0 = λ b k.
     IfErr c.show_rows.result (λ failure. IsRefused b k.step_limit c.args.text.now (bound c.args.params.now) failure.error) in
-    subst (λ (b : Image). Refused b c.args.kept.conn) c.looks_only-kept.ensures.base
-    (subst (Refused c.looks_only-kept.result.0.base) c.looks_only-kept.ensures.conn c.show_rows.ensures.fails)
+    subst (λ (b : Image). Refused b c.args.kept.conn.value) c.looks_only-kept.ensures.base
+    (subst (Refused c.looks_only-kept.result.0.base) (λ i. (c.looks_only-kept.ensures.conn i).value) c.show_rows.ensures.fails)

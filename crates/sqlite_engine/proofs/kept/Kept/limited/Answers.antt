@@ -8,9 +8,11 @@ use Rattle.sqlite_engine.proofs.kept.Kept.limited.Goals as goal
 
 pub kept_over-requires-clause-stands : goal.kept_over-requires-clause-stands
 kept_over-requires-clause-stands c =
-    ∥∥₁_map c.args.self.stands (λ h. subst (λ (it : Conn). Stands c.args.self.base it) (sym c.limit_steps.ensures) (limited_stands c.args.self.base c.args.self.conn c.args.limit h))
+    ∥∥₁_map c.args.self.stands (λ h.
+    subst (λ (it : Conn). Stands c.args.self.base it) (sym (rw c.deref_mut.ensures.value at c.limit_steps.ensures))
+    (limited_stands c.args.self.base c.args.self.conn.value c.args.limit h))
 
 pub kept_over-requires-clause-looks : goal.kept_over-requires-clause-looks
 kept_over-requires-clause-looks c =
     ∥∥₁_map c.args.self.looks (λ h.
-    subst (λ (it : Conn). AllLook (file_state it).now.schema c.args.self.looking.items) (sym c.limit_steps.ensures) h)
+    subst (λ (it : Conn). AllLook (file_state it).now.schema c.args.self.looking.items) (sym (rw c.deref_mut.ensures.value at c.limit_steps.ensures)) h)

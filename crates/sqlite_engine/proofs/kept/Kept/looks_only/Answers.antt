@@ -11,7 +11,16 @@ returns-then-has_text-clause-looks c is =
     ∥∥₁_map c.args.self.looks (λ h. is_noted _ _ _ among h)
 
 pub returns-then-is_yes-clause-looks : goal.returns-then-is_yes-clause-looks
-returns-then-is_yes-clause-looks c is = ∣ c.looks_only-looks.ensures.looks is ∣₁
+returns-then-is_yes-clause-looks c is = ∣ rw c.deref.ensures at (c.looks_only-looks.ensures.looks is) ∣₁
 
 pub returns-else-is_yes-clause-looks : goal.returns-else-is_yes-clause-looks
-returns-else-is_yes-clause-looks c is = ∣ c.looks_only-looks.ensures.looks is ∣₁
+returns-else-is_yes-clause-looks c is = ∣ rw c.deref.ensures at (c.looks_only-looks.ensures.looks is) ∣₁
+
+pub noting-requires : goal.noting-requires
+noting-requires c = rw c.deref.ensures at (c.looks_only-looks.ensures.looks (c.is_yes.ensures c.if-is_yes.true))
+
+pub returns-then-is_yes-clause-returns : goal.returns-then-is_yes-clause-returns
+returns-then-is_yes-clause-returns c is = rw c.deref.ensures at (c.looks_only-looks.ensures.returns is)
+
+pub returns-else-is_yes-clause-returns : goal.returns-else-is_yes-clause-returns
+returns-else-is_yes-clause-returns c is = rw c.deref.ensures at (c.looks_only-looks.ensures.returns is)
