@@ -1,0 +1,11 @@
+pub mod Lists
+pub mod Seen
+pub mod Stays
+pub mod Knowing
+pub mod Results
+pub mod Refused
+pub mod Transactions
+pub mod Late
+pub mod Allowed
+pub mod Rollback
+pub mod Toy
