@@ -169,8 +169,10 @@ def end(number, _frame):
         signal.signal(it, signal.SIG_IGN)
     for it in Process.running:
         if it.returncode is None:
-            with contextlib.suppress(ProcessLookupError):
+            with contextlib.suppress(ProcessLookupError, ChildProcessError):
                 os.killpg(it.pid, signal.SIGKILL)
+                # A folder can't be removed while a process writes into it.
+                os.waitid(os.P_PID, it.pid, os.WEXITED | os.WNOWAIT)
     sys.exit(128 + number)
 
 
