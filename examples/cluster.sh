@@ -39,11 +39,11 @@ fail() {
     exit 1
 }
 
-# Prints a port at which nobody listens now.
+# free_port N prints a port for node N at which nobody listens now. Each node has a range, so no two get one port.
 free_port() {
     local port
     while :; do
-        port=$((20000 + RANDOM % 12000))
+        port=$((16000 + 4000 * $1 + RANDOM % 4000))
         (exec 3<>"/dev/tcp/127.0.0.1/$port") 2>/dev/null || break
     done
     echo "$port"
@@ -75,7 +75,7 @@ leader() {
 # wait_leader waits for a leader among the nodes that run.
 wait_leader() {
     local tries
-    for tries in {1..150}; do
+    for tries in {1..600}; do
         leader && return
         sleep 0.1
     done
@@ -99,7 +99,7 @@ ask() {
 began=$SECONDS
 
 address=()
-for node in 1 2 3; do address[node]=localhost:$(free_port); done
+for node in 1 2 3; do address[node]=localhost:$(free_port "$node"); done
 for node in 1 2 3; do serve "$node"; done
 first=$(wait_leader) || fail "no node became leader"
 say "three nodes run at ${address[*]}, and node $first is their leader"
