@@ -14,7 +14,7 @@ import sys
 
 TOP = os.path.dirname(os.path.dirname(os.path.realpath(__file__)))
 # `rt` reads no other name as an edit, and a file of notes ends in .md.
-NAME = re.compile(r"[\w.-]+\.edit")
+NAME = re.compile(r"[A-Za-z0-9_-][A-Za-z0-9_.-]*\.edit")
 
 
 def read(path):
