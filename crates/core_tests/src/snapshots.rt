@@ -5,8 +5,8 @@ use disk_model::Stop;
 use std::alloc::{AllocError, Global};
 use std::test::Fail;
 
-/// An ADD of the server 2 and a REMOVE of it, one behind the other.
-const CHANGES: &[u8] = b"\x02\0\0\0\x0c\0\0\0\x02\0\0\0\0\0\0\0n\0\0\0\0\0\0\0\
+/// An ADD of the server 2, at another address than that of the server 1, and then a REMOVE of it.
+const CHANGES: &[u8] = b"\x02\0\0\0\x0c\0\0\0\x02\0\0\0\0\0\0\0m\0\0\0\0\0\0\0\
     \x01\0\0\0\x0e\0\0\0\x02\0\0\0\0\0\0\0";
 
 /// How often these come before the entry that is the 64th. Before them are the barrier, the entry that opens the database, and
