@@ -1,4 +1,4 @@
-ghost use Rattle.std.specs.Prelude.{◌≡◌, ◌↔◌, true, false, [], Some, IsTrue, IfOk, IfErr, IfSome, Err};
+ghost use Rattle.std.specs.Prelude.{◌≡◌, ◌↔◌, ◌<◌, true, false, [], length, Some, IsTrue, IfOk, IfErr, IfSome, Err};
 ghost use Rattle.sqlite_facts.specs.Counts.{LooksOnly};
 ghost use Rattle.dq_base.specs.Changes.{changed};
 ghost use Rattle.sql_engine.specs.Meanings.{IsShort};
@@ -11,7 +11,7 @@ ghost use Rattle.sqlite.specs.State.{Executes, FailsToQuery};
 ghost use Rattle.sqlite.specs.Values.{bound};
 ghost use Rattle.sqlite_engine.specs.Sql.{Closed, files_of, HasColumns, Stands, RanOn, FailsOn, is_of_store};
 ghost use Rattle.sqlite_engine.specs.Led.{Led, IsRefused, IsLedTo};
-ghost use Rattle.sqlite_engine.specs.Looking.{AllLook, HasReturning};
+ghost use Rattle.sqlite_engine.specs.Looking.{AllLook, OnlyShows, LooksUnder, HasReturning};
 ghost use Rattle.sqlite_engine.specs.Refusing.{IsRefusedOpening};
 ghost use Rattle.sqlite_engine.specs.Settling.{files_beneath, Asked, Settled};
 ghost use Rattle.sqlite_engine.specs.Shows.{showing, FailsSomehow};
@@ -25,14 +25,15 @@ use crate::errors::is_of_store;
 use crate::image_history::Write;
 use crate::plan::looks_only;
 use crate::shows::Shows;
-use crate::texts::{has_text, note_text};
-use dq_base::{Bytes, Image, PAGE_SIZE, PageSet, apply};
+use crate::texts::{LookingText, names_noted, note_text};
+use dq_base::{Image, Items, PAGE_SIZE, PageSet, apply};
 use sqlite::types::ValueRef;
 use sqlite::{Error, ErrorCode, Row, Statement};
 use sqlite_facts::same_pages;
 use sqlite_files::changes_between;
 use sqlite_open_files::{connected, held, log_of, main_of};
 use std::alloc::{AllocError, Global};
+use wire_words::WireText;
 
 /// A connection that is kept open over an image. Except for what it has counted, and its limit of steps, it stands to that image
 /// as one that was just opened over it.
@@ -40,7 +41,7 @@ pub(crate) struct Kept {
     pub(crate) base: Image,
     pub(crate) conn: BoxedConnection,
     /// Texts that look only under the schema that the connection has.
-    looking: Vec<Bytes>,
+    looking: Vec<LookingText>,
     ghost stands: { ∥ Stands base conn.value ∥₁ },
     ghost looks: { ∥ AllLook (file_state conn.value).now.schema looking.items ∥₁ },
 }
@@ -64,7 +65,7 @@ pub(crate) struct Failure {
     pub(crate) error: Error,
 }
 
-fn kept_over(base: Image, conn: BoxedConnection, looking: Vec<Bytes>) -> Kept
+fn kept_over(base: Image, conn: BoxedConnection, looking: Vec<LookingText>) -> Kept
     requires stands { ∥ Stands base conn.value ∥₁ }
     requires looks { ∥ AllLook (file_state conn.value).now.schema looking.items ∥₁ }
     ensures base { result.base ≡ base }
@@ -107,29 +108,41 @@ impl Kept {
         }
     }
 
+    /// The names that an answer gives the columns of a text that was noted as one that looks only. `None` is that it wasn't, or out of
+    /// memory.
+    pub(crate) fn names_known(&self, alloc: Global, text: &str) -> Option<Items<WireText>>
+        ensures { IfSome result (λ names. LooksUnder (file_state self.now.conn.value).now.schema text.now names) }
+    {
+        names_noted(alloc, self.looking.as_slice(), text)
+    }
+
     /// Whether the text changes nothing where it shows rows, or is one with RETURNING. `None` means out of memory, or a text that
-    /// isn't understood. A text that changes nothing is noted, so that it isn't compiled for this again while the connection
-    /// stays over its image.
-    pub(crate) fn looks_only(self, alloc: Global, text: &str) -> (Kept, Option<bool>)
+    /// isn't understood. A text that changes nothing is noted with the names of its columns, so that it is neither prepared nor
+    /// compiled for this again while the connection stays over its image.
+    pub(crate) fn looks_only(
+        self,
+        alloc: Global,
+        statement: &Statement,
+        text: &str,
+    ) -> (Kept, Option<bool>)
+        requires columns { HasColumns (file_state self.conn.value) text.now statement.now.columns }
+        requires some { 0 < length statement.now.columns }
         ensures base { result.0.base ≡ self.base }
         ensures conn { result.0.conn ≡ self.conn }
         ensures looks { result.1 ≡ Some true → ∥ LooksOnly (understood (file_state self.conn.value).now.schema text.now) ∥₁ }
         ensures returns { result.1 ≡ Some false → HasReturning (understood (file_state self.conn.value).now.schema text.now) }
     {
-        if has_text(self.looking.as_slice(), text) {
-            return (self, Some(true));
-        }
         let looks = looks_only(alloc, &*self.conn, text);
         if is_yes(looks) {
-            (self.noting(alloc, text), looks)
+            (self.noting(alloc, statement, text), looks)
         } else {
             (self, looks)
         }
     }
 
     /// The connection, beside which this text is noted as one that looks only.
-    fn noting(self, alloc: Global, text: &str) -> Kept
-        requires { LooksOnly (understood (file_state self.conn.value).now.schema text.now) }
+    fn noting(self, alloc: Global, statement: &Statement, text: &str) -> Kept
+        requires { OnlyShows (file_state self.conn.value).now.schema text.now statement.now.columns }
         ensures base { result.base ≡ self.base }
         ensures conn { result.conn ≡ self.conn }
     {
@@ -138,7 +151,7 @@ impl Kept {
             conn,
             mut looking,
         } = self;
-        note_text(alloc, &mut looking, text);
+        note_text(alloc, &mut looking, text, statement.column_names());
         kept_over(base, conn, looking)
     }
 
@@ -204,16 +217,11 @@ impl Kept {
     }
 
     /// Shows the rows of a statement that changes nothing. The connection stays.
-    pub(crate) fn look(
-        self,
-        statement: &Statement,
-        text: &str,
-        params: &[ValueRef<'_>],
-    ) -> Result<(Kept, Shows), Failure>
-        requires columns { HasColumns (file_state self.conn.value) text.now statement.now.columns }
-        requires only { ∥ LooksOnly (understood (file_state self.conn.value).now.schema text.now) ∥₁ }
+    pub(crate) fn look(self, text: &str, params: &[ValueRef<'_>]) -> Result<(Kept, Shows), Failure>
+        requires { ∥ LooksOnly (understood (file_state self.conn.value).now.schema text.now) ∥₁ }
         ensures base { IfOk result (λ r. r.0.base ≡ self.base) }
-        ensures ran { IfOk result (λ r. ∥ RanOn self.base text.now (bound params.now) self.base (showing statement.now.columns r.1) ∥₁) }
+        ensures ran { (columns : _) → ∥ HasColumns (file_state self.conn.value) text.now columns ∥₁
+            → IfOk result (λ r. ∥ RanOn self.base text.now (bound params.now) self.base (showing columns r.1) ∥₁) }
         ensures left { IfErr result (λ failure. IfSome failure.left (λ left. left.base ≡ self.base)) }
         ensures fails { IfErr result (λ failure. ∥ FailsOn self.base self.conn.value.step_limit text.now (bound params.now) failure.error ∥₁) }
     {
@@ -463,7 +471,12 @@ pub(crate) fn is_short(image: &Image)
 }
 
 /// What is left of a connection after an error.
-fn left_after(base: Image, conn: BoxedConnection, looking: Vec<Bytes>, error: Error) -> Option<Kept>
+fn left_after(
+    base: Image,
+    conn: BoxedConnection,
+    looking: Vec<LookingText>,
+    error: Error,
+) -> Option<Kept>
     requires stands { is_of_store error ≡ false → ∥ Stands base conn.value ∥₁ }
     requires looks { is_of_store error ≡ false → ∥ AllLook (file_state conn.value).now.schema looking.items ∥₁ }
     ensures { IfSome result (λ left. left.base ≡ base) }
