@@ -3,7 +3,7 @@
 use session_gateway::StepLimits;
 
 /// How many bytes of what its clients have said a node holds before links are shut for it: 32 MiB, as much as one connection may have.
-/// `docs/serving.md` has the sum of which this is a part.
+/// `docs/operating.md` has the sum of which this is a part.
 pub(crate) const MAX_HELD_BYTES: u64 = 33_554_432;
 
 /// The limits of steps of a served node. An engine visits some 1,000 to 2,000 rows in a millisecond, each of which is a step, and where it
