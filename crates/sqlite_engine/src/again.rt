@@ -4,10 +4,11 @@ ghost use Rattle.std.specs.Prelude.{◌≡◌, false, IsTrue, IfSome};
 ghost use Rattle.sqlite.specs.Files.{file_state};
 
 use crate::connection::{
-    BoxedConnection, Conn, drop_connection, execute, is_settled, limit_steps, query,
+    BoxedConnection, drop_connection, execute, is_settled, limit_steps, query,
 };
 use crate::image_history::Write;
 use crate::values::bind;
+use dq_base::Image;
 use sqlite::types::ValueRef;
 use std::alloc::Global;
 
@@ -18,6 +19,7 @@ const MAX_STEPS: u64 = 40_000;
 /// transaction.
 pub(crate) fn led_along(
     alloc: Global,
+    base: &Image,
     conn: BoxedConnection,
     writes: &[Write],
 ) -> Option<BoxedConnection>
@@ -28,52 +30,81 @@ pub(crate) fn led_along(
 {
     let mut conn = conn;
     for write in writes {
-        if !ran_again(alloc, &mut *conn, write) {
-            drop_connection(conn);
-            return None;
+        match ran_again(alloc, base, conn, write) {
+            Some(led) => conn = led,
+            None => return None,
         }
     }
     Some(conn)
 }
 
-/// Runs a statement. What it answers was told before.
-fn ran_again(alloc: Global, conn: &mut Conn, write: &Write) -> bool
-    requires { (file_state conn.old).in_transaction ≡ false }
-    ensures open { IsTrue result → IsTrue (file_state conn.new).is_open }
-    ensures autocommit { IsTrue result → (file_state conn.new).in_transaction ≡ false }
+/// The connection once a statement has run on it. What the statement answers was told before.
+fn ran_again(
+    alloc: Global,
+    base: &Image,
+    conn: BoxedConnection,
+    write: &Write,
+) -> Option<BoxedConnection>
+    requires { (file_state conn.value).in_transaction ≡ false }
+    ensures open { IfSome result (λ led. IsTrue (file_state led.value).is_open) }
+    ensures autocommit { IfSome result (λ led. (file_state led.value).in_transaction ≡ false) }
 {
-    limit_steps(conn, Some(MAX_STEPS));
-    if !is_run(alloc, conn, write) {
-        return false;
+    let mut conn = conn;
+    limit_steps(&mut *conn, Some(MAX_STEPS));
+    let (conn, is_run) = run_again(alloc, base, conn, write);
+    if is_run && is_settled(&*conn) {
+        return Some(conn);
     }
-    is_settled(conn)
+    drop_connection(conn);
+    None
 }
 
-/// Runs a statement, and tells whether it was run.
-fn is_run(alloc: Global, conn: &mut Conn, write: &Write) -> bool
-    requires { (file_state conn.old).in_transaction ≡ false }
-    ensures { IsTrue result → IsTrue (file_state conn.new).is_open }
+/// Runs a statement. The answer is whether it was run.
+fn run_again(
+    alloc: Global,
+    base: &Image,
+    conn: BoxedConnection,
+    write: &Write,
+) -> (BoxedConnection, bool)
+    requires { (file_state conn.value).in_transaction ≡ false }
+    ensures { IsTrue result.1 → IsTrue (file_state result.0.value).is_open }
 {
     let Ok(params) = bind(alloc, write.params.as_slice()) else {
-        return false;
+        return (conn, false);
     };
     if write.shows {
-        is_shown(conn, write.text.as_str(), params.as_slice())
+        show_again(base, conn, write.text.as_str(), params.as_slice())
     } else {
-        is_executed(conn, write.text.as_str(), params.as_slice())
+        execute_again(base, conn, write.text.as_str(), params.as_slice())
     }
 }
 
-fn is_shown(conn: &mut Conn, text: &str, params: &[ValueRef<'_>]) -> bool
-    requires { (file_state conn.old).in_transaction ≡ false }
-    ensures { IsTrue result → IsTrue (file_state conn.new).is_open }
+fn show_again(
+    base: &Image,
+    conn: BoxedConnection,
+    text: &str,
+    params: &[ValueRef<'_>],
+) -> (BoxedConnection, bool)
+    requires { (file_state conn.value).in_transaction ≡ false }
+    ensures { IsTrue result.1 → IsTrue (file_state result.0.value).is_open }
 {
-    query(conn, text, params).is_ok()
+    match query(conn, base, None, text, params) {
+        Ok((conn, _, _)) => (conn, true),
+        Err((conn, _, _)) => (conn, false),
+    }
 }
 
-fn is_executed(conn: &mut Conn, text: &str, params: &[ValueRef<'_>]) -> bool
-    requires { (file_state conn.old).in_transaction ≡ false }
-    ensures { IsTrue result → IsTrue (file_state conn.new).is_open }
+fn execute_again(
+    base: &Image,
+    conn: BoxedConnection,
+    text: &str,
+    params: &[ValueRef<'_>],
+) -> (BoxedConnection, bool)
+    requires { (file_state conn.value).in_transaction ≡ false }
+    ensures { IsTrue result.1 → IsTrue (file_state result.0.value).is_open }
 {
-    execute(conn, text, params).is_ok()
+    match execute(conn, base, None, text, params) {
+        Ok((conn, _, _)) => (conn, true),
+        Err((conn, _, _)) => (conn, false),
+    }
 }

@@ -11,6 +11,7 @@ ghost use Rattle.sqlite.specs.State.{Executes, FailsToQuery};
 ghost use Rattle.sqlite.specs.Values.{bound};
 ghost use Rattle.sqlite_engine.specs.Sql.{Closed, files_of, HasColumns, Stands, RanOn, FailsOn, is_of_store};
 ghost use Rattle.sqlite_engine.specs.Led.{Led, IsRefused, IsLedTo};
+ghost use Rattle.sqlite_engine.specs.Marking.{AreMarked};
 ghost use Rattle.sqlite_engine.specs.Looking.{AllLook, OnlyShows, LooksUnder, HasReturning};
 ghost use Rattle.sqlite_engine.specs.Refusing.{IsRefusedOpening};
 ghost use Rattle.sqlite_engine.specs.Settling.{files_beneath, Asked, Settled};
@@ -18,11 +19,12 @@ ghost use Rattle.sqlite_engine.specs.Shows.{showing, FailsSomehow};
 
 use crate::again::led_along;
 use crate::connection::{
-    BoxedConnection, Conn, OpenFault, close, drop_connection, execute, is_settled, limit_steps,
-    open, prepare, query,
+    BoxedConnection, Conn, OpenFault, Ran, close, drop_connection, execute, is_settled,
+    limit_steps, open, prepare, query,
 };
 use crate::errors::is_of_store;
 use crate::image_history::Write;
+use crate::marks::{Marks, changes_beneath, marks_of};
 use crate::plan::looks_only;
 use crate::shows::Shows;
 use crate::texts::{LookingText, names_noted, note_text};
@@ -32,7 +34,7 @@ use sqlite::{Error, ErrorCode, Row, Statement};
 use sqlite_facts::same_pages;
 use sqlite_files::changes_between;
 use sqlite_open_files::{connected, held, log_of, main_of};
-use std::alloc::{AllocError, Global};
+use std::alloc::Global;
 use wire_words::WireText;
 
 /// A connection that is kept open over an image. Except for what it has counted, and its limit of steps, it stands to that image
@@ -40,10 +42,13 @@ use wire_words::WireText;
 pub(crate) struct Kept {
     pub(crate) base: Image,
     pub(crate) conn: BoxedConnection,
+    /// After which calls the files beneath were those of the image, if that is known.
+    marks: Option<Marks>,
     /// Texts that look only under the schema that the connection has.
     looking: Vec<LookingText>,
     ghost stands: { ∥ Stands base conn.value ∥₁ },
     ghost looks: { ∥ AllLook (file_state conn.value).now.schema looking.items ∥₁ },
+    ghost marked: { AreMarked base marks conn.value },
 }
 
 // It is written out, so that a caller does not prove again how a connection is dropped.
@@ -52,6 +57,7 @@ impl Drop for Kept {
         let Kept {
             base: _,
             conn,
+            marks: _,
             looking: _,
         } = self;
         drop_connection(conn);
@@ -65,26 +71,34 @@ pub(crate) struct Failure {
     pub(crate) error: Error,
 }
 
-fn kept_over(base: Image, conn: BoxedConnection, looking: Vec<LookingText>) -> Kept
+fn kept_over(
+    base: Image,
+    conn: BoxedConnection,
+    marks: Option<Marks>,
+    looking: Vec<LookingText>,
+) -> Kept
     requires stands { ∥ Stands base conn.value ∥₁ }
     requires looks { ∥ AllLook (file_state conn.value).now.schema looking.items ∥₁ }
+    requires marked { AreMarked base marks conn.value }
     ensures base { result.base ≡ base }
     ensures conn { result.conn ≡ conn }
 {
     Kept {
         base,
         conn,
+        marks,
         looking,
     }
 }
 
 /// A connection of which no text is known to look only.
-fn kept_anew(alloc: Global, base: Image, conn: BoxedConnection) -> Kept
-    requires { ∥ Stands base conn.value ∥₁ }
+fn kept_anew(alloc: Global, base: Image, conn: BoxedConnection, marks: Option<Marks>) -> Kept
+    requires stands { ∥ Stands base conn.value ∥₁ }
+    requires marked { AreMarked base marks conn.value }
     ensures base { result.base ≡ base }
     ensures conn { result.conn ≡ conn }
 {
-    kept_over(base, conn, Vec::new(alloc))
+    kept_over(base, conn, marks, Vec::new(alloc))
 }
 
 fn is_yes(looks: Option<bool>) -> bool
@@ -103,7 +117,7 @@ impl Kept {
             return Err(OpenFault::NoMemory);
         };
         match open(alloc, image) {
-            Ok(conn) => Ok(kept_anew(alloc, base, conn)),
+            Ok(conn) => Ok(kept_anew(alloc, base, conn, None)),
             Err(fault) => Err(fault),
         }
     }
@@ -149,10 +163,11 @@ impl Kept {
         let Kept {
             base,
             conn,
+            marks,
             mut looking,
         } = self;
         note_text(alloc, &mut looking, text, statement.column_names());
-        kept_over(base, conn, looking)
+        kept_over(base, conn, marks, looking)
     }
 
     /// Whether it is open over this image. It compares the bytes, the side file's first.
@@ -172,9 +187,10 @@ impl Kept {
         let Kept {
             base,
             conn,
+            marks: _,
             looking: _,
         } = self;
-        match led_along(alloc, conn, writes) {
+        match led_along(alloc, &base, conn, writes) {
             Some(conn) => kept_alike(alloc, base, conn, image),
             None => None,
         }
@@ -188,10 +204,11 @@ impl Kept {
         let Kept {
             base,
             mut conn,
+            marks,
             looking,
         } = self;
         limit_steps(&mut *conn, limit);
-        kept_over(base, conn, looking)
+        kept_over(base, conn, marks, looking)
     }
 
     /// What the statement of a text shows, before it is run.
@@ -204,13 +221,16 @@ impl Kept {
     {
         let Kept {
             base,
-            mut conn,
+            conn,
+            marks,
             looking,
         } = self;
-        match prepare(&mut *conn, text) {
-            Ok(statement) => Ok((kept_over(base, conn, looking), statement)),
-            Err(error) => Err(Failure {
-                left: left_after(base, conn, looking, error),
+        match prepare(conn, &base, marks, text) {
+            Ok((conn, marks, statement)) => {
+                Ok((kept_over(base, conn, marks, looking), statement))
+            }
+            Err((conn, marks, error)) => Err(Failure {
+                left: left_after(base, conn, marks, looking, error),
                 error,
             }),
         }
@@ -227,16 +247,17 @@ impl Kept {
     {
         let Kept {
             base,
-            mut conn,
+            conn,
+            marks,
             looking,
         } = self;
-        match query(&mut *conn, text, params) {
-            Ok(rows) => {
+        match query(conn, &base, marks, text, params) {
+            Ok((conn, marks, rows)) => {
                 let shows = Shows { affected: 0, rows };
-                Ok((kept_over(base, conn, looking), shows))
+                Ok((kept_over(base, conn, marks, looking), shows))
             }
-            Err(error) => Err(Failure {
-                left: left_after(base, conn, looking, error),
+            Err((conn, marks, error)) => Err(Failure {
+                left: left_after(base, conn, marks, looking, error),
                 error,
             }),
         }
@@ -262,19 +283,20 @@ impl Kept {
     {
         let Kept {
             base,
-            mut conn,
+            conn,
+            marks,
             looking,
         } = self;
-        match ask(alloc, &mut *conn, statement, text, params) {
-            Ok(shows) => match settled(alloc, base, conn, tx) {
+        match ask(alloc, conn, &base, marks, statement, text, params) {
+            Ok((conn, marks, shows)) => match settled(alloc, base, conn, marks, tx) {
                 Some((left, set)) => Ok((left, shows, set)),
                 None => Err(Failure {
                     left: None,
                     error: Error::SqliteFailure(ErrorCode::OutOfMemory),
                 }),
             },
-            Err(error) => Err(Failure {
-                left: left_after(base, conn, looking, error),
+            Err((conn, marks, error)) => Err(Failure {
+                left: left_after(base, conn, marks, looking, error),
                 error,
             }),
         }
@@ -286,15 +308,17 @@ fn settled(
     alloc: Global,
     base: Image,
     conn: BoxedConnection,
+    marks: Option<Marks>,
     tx: u64,
 ) -> Option<(Option<Kept>, PageSet)>
-    requires { IsTrue (file_state conn.value).is_open }
+    requires open { IsTrue (file_state conn.value).is_open }
+    requires marked { AreMarked base marks conn.value }
     ensures settled { IfSome result (λ r. Settled base conn.value tx r.1) }
     ensures over { IfSome result (λ r. IfSome r.0 (λ kept. IsLedTo base r.1 kept.base)) }
 {
     let unboxed = &*conn;
     if is_settled(unboxed) && has_short_log(unboxed) {
-        followed(alloc, base, conn, tx)
+        followed(alloc, base, conn, marks, tx)
     } else {
         match closed(alloc, base, conn, tx) {
             Some(set) => Some((None, set)),
@@ -317,9 +341,11 @@ fn followed(
     alloc: Global,
     base: Image,
     conn: BoxedConnection,
+    marks: Option<Marks>,
     tx: u64,
 ) -> Option<(Option<Kept>, PageSet)>
     requires open { IsTrue (file_state conn.value).is_open }
+    requires marked { AreMarked base marks conn.value }
     requires autocommit { (file_state conn.value).in_transaction ≡ false }
     ensures settled { IfSome result (λ r. Settled base conn.value tx r.1) }
     ensures over { IfSome result (λ r. IfSome r.0 (λ kept. IsLedTo base r.1 kept.base)) }
@@ -327,7 +353,7 @@ fn followed(
     let unboxed = &*conn;
     connected(unboxed);
     held(unboxed);
-    match changes_beneath(alloc, &base, unboxed, tx) {
+    match changes_beneath(alloc, &base, unboxed, marks, tx) {
         Ok(set) => {
             let left = moved_on(alloc, base, conn, &set);
             Some((left, set))
@@ -337,17 +363,6 @@ fn followed(
             None
         }
     }
-}
-
-/// The pages that lead from an image to what the files of a connection are. It compares all bytes of both.
-fn changes_beneath(alloc: Global, base: &Image, conn: &Conn, tx: u64) -> Result<PageSet, AllocError>
-    ensures pages { IfOk result (λ set. set ≡ record { tx = tx; pages = changed base.now (files_beneath conn.now) }) }
-    ensures short { IsShort (files_beneath conn.now) }
-{
-    let main = main_of(conn).bytes();
-    let side = log_of(conn).bytes();
-    let _lengths = (main.len(), side.len());
-    changes_between(alloc, base, main, side, tx)
 }
 
 /// The connection over what its files are, to which these pages lead from the image. `None` where no memory is left to grow the
@@ -361,7 +376,8 @@ fn moved_on(alloc: Global, base: Image, conn: BoxedConnection, set: &PageSet) ->
 {
     let mut base = base;
     if takes_over(&mut base, set) {
-        Some(kept_anew(alloc, base, conn))
+        let marks = marks_of(&*conn);
+        Some(kept_anew(alloc, base, conn, marks))
     } else {
         drop_connection(conn);
         None
@@ -382,7 +398,7 @@ fn kept_alike(alloc: Global, base: Image, conn: BoxedConnection, image: &Image) 
         return None;
     }
     match brought_to(alloc, base, image) {
-        Some(base) => Some(kept_anew(alloc, base, conn)),
+        Some(base) => Some(kept_anew(alloc, base, conn, None)),
         None => {
             drop_connection(conn);
             None
@@ -474,9 +490,11 @@ pub(crate) fn is_short(image: &Image)
 fn left_after(
     base: Image,
     conn: BoxedConnection,
+    marks: Option<Marks>,
     looking: Vec<LookingText>,
     error: Error,
 ) -> Option<Kept>
+    requires marked { AreMarked base marks conn.value }
     requires stands { is_of_store error ≡ false → ∥ Stands base conn.value ∥₁ }
     requires looks { is_of_store error ≡ false → ∥ AllLook (file_state conn.value).now.schema looking.items ∥₁ }
     ensures { IfSome result (λ left. left.base ≡ base) }
@@ -485,7 +503,7 @@ fn left_after(
         drop_connection(conn);
         None
     } else {
-        Some(kept_over(base, conn, looking))
+        Some(kept_over(base, conn, marks, looking))
     }
 }
 
@@ -500,50 +518,72 @@ fn shows_of(conn: &Conn, rows: Vec<Row>) -> Shows
     }
 }
 
-fn run_rows(conn: &mut Conn, text: &str, params: &[ValueRef<'_>]) -> Result<Shows, Error>
-    requires { HasReturning (understood (file_state conn.old).now.schema text.now) }
-    ensures ok { (columns : _) → IfOk result (λ shows. Asked text.now (bound params.now) conn.old conn.new (showing columns shows)) }
-    ensures err { IfErr result (FailsToQuery text.now (bound params.now) (file_state conn.old) (file_state conn.new)) }
+fn run_rows(
+    conn: BoxedConnection,
+    base: &Image,
+    marks: Option<Marks>,
+    text: &str,
+    params: &[ValueRef<'_>],
+) -> Ran<Shows>
+    requires returns { HasReturning (understood (file_state conn.value).now.schema text.now) }
+    requires marked { AreMarked base.now marks conn.value }
+    ensures ok_marked { IfOk result (λ r. AreMarked base.now r.1 r.0.value) }
+    ensures ok { (columns : _) → IfOk result (λ r. Asked text.now (bound params.now) conn.value r.0.value (showing columns r.2)) }
+    ensures err_marked { IfErr result (λ r. AreMarked base.now r.1 r.0.value) }
+    ensures err { IfErr result (λ r. FailsToQuery text.now (bound params.now) (file_state conn.value) (file_state r.0.value) r.2) }
 {
-    match query(conn, text, params) {
-        Ok(rows) => Ok(shows_of(conn, rows)),
-        Err(error) => Err(error),
+    match query(conn, base, marks, text, params) {
+        Ok((conn, marks, rows)) => {
+            let shows = shows_of(&*conn, rows);
+            Ok((conn, marks, shows))
+        }
+        Err((conn, marks, error)) => Err((conn, marks, error)),
     }
 }
 
 fn run_plain(
     alloc: Global,
-    conn: &mut Conn,
+    conn: BoxedConnection,
+    base: &Image,
+    marks: Option<Marks>,
     text: &str,
     params: &[ValueRef<'_>],
-) -> Result<Shows, Error>
-    ensures ok { (columns : _) → columns ≡ [] → IfOk result (λ shows. Asked text.now (bound params.now) conn.old conn.new (showing columns shows)) }
-    ensures bare { IfOk result (λ shows. shows.rows.items ≡ []) }
-    ensures err { IfErr result (λ error. Executes text.now (bound params.now) (file_state conn.old) (file_state conn.new) (Err error)) }
+) -> Ran<Shows>
+    requires { AreMarked base.now marks conn.value }
+    ensures ok_marked { IfOk result (λ r. AreMarked base.now r.1 r.0.value) }
+    ensures ok { (columns : _) → columns ≡ [] → IfOk result (λ r. Asked text.now (bound params.now) conn.value r.0.value (showing columns r.2)) }
+    ensures bare { IfOk result (λ r. r.2.rows.items ≡ []) }
+    ensures err_marked { IfErr result (λ r. AreMarked base.now r.1 r.0.value) }
+    ensures err { IfErr result (λ r. Executes text.now (bound params.now) (file_state conn.value) (file_state r.0.value) (Err r.2)) }
 {
-    match execute(conn, text, params) {
-        Ok(affected) => Ok(Shows {
-            affected,
-            rows: Vec::new(alloc),
-        }),
-        Err(error) => Err(error),
+    match execute(conn, base, marks, text, params) {
+        Ok((conn, marks, affected)) => {
+            let rows = Vec::new(alloc);
+            Ok((conn, marks, Shows { affected, rows }))
+        }
+        Err((conn, marks, error)) => Err((conn, marks, error)),
     }
 }
 
 fn ask(
     alloc: Global,
-    conn: &mut Conn,
+    conn: BoxedConnection,
+    base: &Image,
+    marks: Option<Marks>,
     statement: &Statement,
     text: &str,
     params: &[ValueRef<'_>],
-) -> Result<Shows, Error>
-    requires { (statement.now.columns ≡ [] → ⊥) → HasReturning (understood (file_state conn.old).now.schema text.now) }
-    ensures ok { IfOk result (λ shows. Asked text.now (bound params.now) conn.old conn.new (showing statement.now.columns shows)) }
-    ensures bare { IfOk result (λ shows. statement.now.columns ≡ [] → shows.rows.items ≡ []) }
-    ensures err { IfErr result (FailsSomehow text.now (bound params.now) (file_state conn.old) (file_state conn.new)) }
+) -> Ran<Shows>
+    requires returns { (statement.now.columns ≡ [] → ⊥) → HasReturning (understood (file_state conn.value).now.schema text.now) }
+    requires marked { AreMarked base.now marks conn.value }
+    ensures ok_marked { IfOk result (λ r. AreMarked base.now r.1 r.0.value) }
+    ensures ok { IfOk result (λ r. Asked text.now (bound params.now) conn.value r.0.value (showing statement.now.columns r.2)) }
+    ensures bare { IfOk result (λ r. statement.now.columns ≡ [] → r.2.rows.items ≡ []) }
+    ensures err_marked { IfErr result (λ r. AreMarked base.now r.1 r.0.value) }
+    ensures err { IfErr result (λ r. FailsSomehow text.now (bound params.now) (file_state conn.value) (file_state r.0.value) r.2) }
 {
     match statement.column_names() {
-        [] => run_plain(alloc, conn, text, params),
-        [_, ..] => run_rows(conn, text, params),
+        [] => run_plain(alloc, conn, base, marks, text, params),
+        [_, ..] => run_rows(conn, base, marks, text, params),
     }
 }

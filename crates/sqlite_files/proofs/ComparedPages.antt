@@ -1,6 +1,8 @@
 -- What a comparison of all pages says of an image and two files.
-use Rattle.std.proofs.Common.{◌≡◌, ℕ, ◌+◌, ◌-◌, ◌*◌, ◌<◌, min, List, [], ◌∷◌, ◌++◌, length, get_or, take, drop, Some, None, refl, sym, ap, ◌∙◌, inl, inr, arith, take_all, get_or-take, get_or-drop}
-use Rattle.std.proofs.lemmas.Bool.{cases_lt}
+use Rattle.std.proofs.Common.{◌≡◌, ℕ, ◌+◌, ◌-◌, ◌*◌, ◌<◌, ◌≤◌, min, List, [], ◌∷◌, ◌++◌, length, get_or, take, drop, Some, None, refl, sym, ap, ◌∙◌, inl, inr, arith, take_all, get_or-take, get_or-drop}
+use Rattle.std.specs.Str.{bytes_eq}
+use Rattle.std.proofs.lemmas.Bool.{cases_lt, cases_Bool}
+use Rattle.std.proofs.lemmas.Slice.Eq.{bytes_eq-Decides}
 use Rattle.std.proofs.lemmas.List.{length-take, length-drop, ext_get_or}
 use Rattle.dq_base.specs.declared.images.Image.{Image}
 use Rattle.dq_base.specs.declared.pages.NumberedPage.{NumberedPage}
@@ -49,10 +51,10 @@ numbered_page image number page above start =
       | inr past ↦ page_at_past image number above (omega (arith, past, start)) ∙ sym (no_page (piece_of file page) (omega (arith, past, piece_length file page)))
     ]
 
-main_page : (image : Image) (page : ℕ) → page_at image (2 * (page + 1)) ≡ page_of (piece_of image.main page)
+pub main_page : (image : Image) (page : ℕ) → page_at image (2 * (page + 1)) ≡ page_of (piece_of image.main page)
 main_page image page = numbered_page image (2 * (page + 1)) page (omega arith) (omega arith) ∙ ap (λ (file : List ℕ). page_of (piece_of file page)) (even_is_main image page)
 
-side_page : (image : Image) (page : ℕ) → page_at image (2 * (page + 1) + 1) ≡ page_of (piece_of image.side page)
+pub side_page : (image : Image) (page : ℕ) → page_at image (2 * (page + 1) + 1) ≡ page_of (piece_of image.side page)
 side_page image page = numbered_page image (2 * (page + 1) + 1) page (omega arith) (omega arith) ∙ ap (λ (file : List ℕ). page_of (piece_of file page)) (odd_is_side image page)
 
 -- the pages of one index more
@@ -72,3 +74,20 @@ two_more_compared a b page pages one two main_before main side_before side main_
 -- bytes that are the same make a page that isn't listed
 pub same_piece : (number : ℕ) (before now : List ℕ) → before ≡ now → changed_page number (page_of before) (page_of now) ≡ []
 same_piece number before now same = ap (λ (bytes : List ℕ). changed_page number (page_of bytes) (page_of now)) same ∙ same_is_unlisted number (page_of now)
+
+-- other bytes of the same length make another page
+resized_same : (a b : List ℕ) → length a ≡ length b → length b ≤ 4096 → resized 4096 a ≡ resized 4096 b → a ≡ b
+resized_same a b len short same = ext_get_or 0 a b len (λ j lt.
+    let inside : j < 4096 = omega (arith, lt, len, short) in
+    sym (get_or-resized 4096 a j inside) ∙ ap (λ (page : List ℕ). get_or page j 0) same ∙ get_or-resized 4096 b j inside)
+
+pub other_piece : (number : ℕ) (before now : List ℕ) → length before ≡ length now → length now ≤ 4096 → (before ≡ now → ⊥) → changed_page number None (page_of now) ≡ changed_page number (page_of before) (page_of now)
+other_piece number before [] len short other = refl
+other_piece number [] (byte ∷ rest) len short other = refl
+other_piece number (first ∷ more) (byte ∷ rest) len short other =
+    let before : List ℕ = first ∷ more in
+    let now : List ℕ = byte ∷ rest in
+    elim (cases_Bool (bytes_eq (resized 4096 before) (resized 4096 now))) [
+      | inl same ↦ absurd (other (resized_same before now len short ((bytes_eq-Decides (resized 4096 before) (resized 4096 now)).0 same)))
+      | inr differs ↦ rw differs refl
+    ]

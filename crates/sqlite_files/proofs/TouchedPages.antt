@@ -1,34 +1,10 @@
 -- What the calls of a file record.
-use Rattle.std.proofs.Common.{◌≡◌, ℕ, ◌+◌, ◌/◌, ◌<◌, ◌≤◌, min, max, Bool, true, false, cond, List, [], length, set, sym, ◌∙◌, arith, inl, inr}
+use Rattle.std.proofs.Common.{◌≡◌, ℕ, ◌+◌, ◌/◌, ◌<◌, ◌≤◌, min, max, Bool, false, List, [], length, sym, ◌∙◌, arith, inl, inr}
 use Rattle.std.proofs.lemmas.Bool.{cases_lt}
-use Rattle.std.proofs.lemmas.List.{get_or_past, get_or-set_other}
-use Rattle.std.proofs.lemmas.List.Sums.{sum_by-set}
-use Rattle.std.proofs.lemmas.Grind.{get_or-set_at}
+use Rattle.std.proofs.lemmas.List.{get_or_past}
 use Rattle.sqlite_disk.specs.Disk.{Torn, Cut}
 use Rattle.dq_base.specs.Images.{pages_of}
-use Rattle.sqlite_files.specs.Recording.{is_touched, touched_count, Touches, IsRecorded}
-
--- ---- noting one page
-
-pub mark_keeps : (touched : List Bool) (i page : ℕ) → i < length touched → is_touched (set touched i true) page ≡ false → is_touched touched page ≡ false
-mark_keeps touched i page within clean =
-    elim (cases_lt page i) [
-      | inl below ↦ sym (get_or-set_other touched i page true false (λ e. omega arith)) ∙ clean
-      | inr above ↦ elim (cases_lt i page) [
-        | inl past ↦ sym (get_or-set_other touched i page true false (λ e. omega arith)) ∙ clean
-        | inr here ↦ let is = get_or-set_at touched i page true false (omega arith) within in absurd cc
-      ]
-    ]
-
-pub mark_covers : (touched : List Bool) (i page : ℕ) → i < length touched → (page < i → is_touched touched page ≡ true) → page < i + 1 → is_touched (set touched i true) page ≡ true
-mark_covers touched i page within was below =
-    elim (cases_lt page i) [
-      | inl under ↦ get_or-set_other touched i page true false (λ e. omega arith) ∙ was under
-      | inr here ↦ get_or-set_at touched i page true false (omega arith) within
-    ]
-
-pub mark_counts : (touched : List Bool) (i : ℕ) → i < length touched → touched_count (set touched i true) ≤ touched_count touched + 1
-mark_counts touched i within = omega (arith, sum_by-set (λ (b : Bool). cond b 1 0) touched i true false within)
+use Rattle.sqlite_files.specs.Recording.{is_touched, Touches, IsRecorded}
 
 -- ---- a call of the disk
 

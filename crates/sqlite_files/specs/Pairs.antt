@@ -2,7 +2,7 @@
 use Rattle.std.specs.Prelude.{ℕ, ◌+◌, ◌*◌, List, [], ◌∷◌, take, drop, Option, Some, None}
 use Rattle.dq_base.specs.Images.{resized}
 use Rattle.dq_base.specs.declared.images.Image.{Image}
-use Rattle.sqlite_files.specs.Recording.{Recorded, touched_count}
+use Rattle.sqlite_files.specs.Recording.{Recorded, since, touched_count}
 
 -- a pair of files that records: the images before and after, and how many pages of both were touched
 pub record Pair : Type 0 where
@@ -15,7 +15,7 @@ abbrev pub pair_of : Recorded → Recorded → Pair
 pair_of main side = record {
   before = record { main = main.before; side = side.before };
   after = record { main = main.after; side = side.after };
-  touched = touched_count main.touched + touched_count side.touched;
+  touched = touched_count (since 0 main.stamps) + touched_count (since 0 side.stamps);
 }
 
 -- the image of two files

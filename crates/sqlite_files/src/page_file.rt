@@ -2,11 +2,11 @@ ghost use Rattle.std.specs.Prelude.{◌≡◌, ◌+◌, ◌≤◌, ◌^◌, ◌<
 ghost use Rattle.sqlite_disk.specs.Disk.{Holds, Torn, Cut, CountsFault};
 ghost use Rattle.sqlite_disk.specs.Digest.{digest};
 ghost use Rattle.sqlite_disk.specs.Refusal.{finds_no_room};
-ghost use Rattle.sqlite_files.specs.Recording.{touched_count, pages_between, IsRecorded};
+ghost use Rattle.sqlite_files.specs.Recording.{since, touched_count, pages_between, IsRecorded, KeepsPast};
 ghost use Rattle.std.specs.Str.{bytes_eq};
 
 use crate::original_image::FileBefore;
-use crate::touched::touch;
+use crate::stamps::touch;
 use crate::writes::{set_length, write};
 use dq_base::Bytes;
 use sqlite_disk::{Disk, Tally};
@@ -15,51 +15,62 @@ use std::io;
 use std::marker::Model;
 
 /// A file in memory as `sqlite` wants its disks: what is written is there at once, a crash leaves just that, and no
-/// read lies. It keeps the file before and notes each page that is written, cut or grown.
+/// read lies. It keeps the file before, and for each page the number of the last call that wrote, cut or grew it.
 #[derive(Drop)]
 pub struct PageFile {
     before: FileBefore,
     bytes: Vec<u8>,
-    touched: Vec<bool>,
+    stamps: Vec<u64>,
+    writes: u64,
+    is_log: bool,
     faults: u64,
 }
 
 impl Model for PageFile {
-    ghost use Rattle.sqlite_files.specs.Recording.{Recorded, IsRecorded};
+    ghost use Rattle.sqlite_files.specs.Recording.{Recorded, IsSince};
 
     ghost Value = { Recorded };
 
-    ghost view = { λ a. record { before = a.before; after = a.bytes.items; touched = a.touched.items; faults = a.faults } };
+    ghost view = { λ a. record { before = a.before; after = a.bytes.items; stamps = a.stamps.items; writes = a.writes; is_log = a.is_log; faults = a.faults } };
 
-    ghost invariant = { λ a. IsRecorded a.before a.bytes.items a.touched.items };
+    ghost invariant = { λ a. IsSince (record { bytes = a.before; mark = 0 }) a.bytes.items a.stamps.items a.writes };
 }
 
 impl PageFile {
     /// A file of these bytes, of which the first are kept and the second, their copy, may change.
-    pub(crate) fn new(alloc: Global, before: Bytes, bytes: Bytes) -> PageFile
+    #[tactic(auto, using(crate::proofs::StampedPages::copy_is_since))]
+    pub(crate) fn new(alloc: Global, before: Bytes, bytes: Bytes, is_log: bool) -> PageFile
         requires { before ≡ bytes }
-        ensures { result ≡ record { before = before; after = bytes; touched = []; faults = 0 } }
+        ensures { result ≡ record { before = before; after = bytes; stamps = []; writes = 0; is_log = is_log; faults = 0 } }
     {
         PageFile {
             before: FileBefore::new(before),
             bytes: bytes.into_vec(),
-            touched: Vec::new(alloc),
+            stamps: Vec::new(alloc),
+            writes: 0,
+            is_log,
             faults: 0,
         }
     }
 
     /// A file of these bytes that was empty before, so that each page of it is noted. Fails where memory runs out.
-    #[tactic(auto, using(crate::proofs::TouchedPages::grown_recorded))]
-    pub(crate) fn grown_to(alloc: Global, bytes: Bytes) -> Result<PageFile, AllocError>
+    #[tactic(auto, using(crate::proofs::StampedPages::grown_is_since))]
+    pub(crate) fn grown_to(
+        alloc: Global,
+        bytes: Bytes,
+        is_log: bool,
+    ) -> Result<PageFile, AllocError>
         ensures before { IfOk result (λ file. file.before ≡ []) }
         ensures after { IfOk result (λ file. file.after ≡ bytes) }
     {
-        let mut touched = Vec::new(alloc);
-        touch(&mut touched, 0, bytes.len())?;
+        let mut stamps = Vec::new(alloc);
+        touch(&mut stamps, 0, bytes.len(), 1)?;
         Ok(PageFile {
             before: FileBefore::new(Bytes::new(Vec::new(alloc))),
             bytes: bytes.into_vec(),
-            touched,
+            stamps,
+            writes: 1,
+            is_log,
             faults: 0,
         })
     }
@@ -69,6 +80,27 @@ impl PageFile {
         ensures { result.now ≡ self.now.after }
     {
         self.bytes.as_slice()
+    }
+
+    /// For each page the number of the last call that touched it, up to the last that one has touched.
+    pub fn stamps(&self) -> &[u64]
+        ensures { result.now ≡ self.now.stamps }
+    {
+        self.stamps.as_slice()
+    }
+
+    /// The number of the last call that wrote, cut or grew it. It stays at 18,446,744,073,709,551,615.
+    pub fn writes(&self) -> u64
+        ensures { result ≡ self.now.writes }
+    {
+        self.writes
+    }
+
+    /// Whether it is the log of its pair.
+    pub fn is_log(&self) -> bool
+        ensures { result ≡ self.now.is_log }
+    {
+        self.is_log
     }
 
     /// Whether these are the bytes before.
@@ -85,14 +117,14 @@ impl PageFile {
         Bytes::new(self.bytes)
     }
 
-    /// The file before, the file after, and the pages that were touched.
-    pub(crate) fn into_parts(self) -> (FileBefore, Bytes, Vec<bool>)
+    /// The file before, the file after, and the stamps of the pages.
+    pub(crate) fn into_parts(self) -> (FileBefore, Bytes, Vec<u64>)
         ensures before { result.0 ≡ self.before }
         ensures after { result.1 ≡ self.after }
-        ensures touched { result.2.items ≡ self.touched }
-        ensures recorded { IsRecorded self.before self.after self.touched }
+        ensures stamps { result.2.items ≡ self.stamps }
+        ensures recorded { IsRecorded self.before self.after (since 0 self.stamps) }
     {
-        (self.before, Bytes::new(self.bytes), self.touched)
+        (self.before, Bytes::new(self.bytes), self.stamps)
     }
 }
 
@@ -167,29 +199,39 @@ impl Disk for PageFile {
         self.read_at(at, buf)
     }
 
-    /// It notes each page from the place, or the file's end where that comes first, up to the end of what is written.
+    /// It stamps each page from the place, or the file's end where that comes first, up to the end of what is written.
     fn write_at(&mut self, at: usize, bytes: &[u8]) -> io::Result<()>
         ensures written { OnOk result (Holds self.new.after at bytes.now) }
         ensures others { Torn at (length bytes.now) self.old.after self.new.after }
         ensures faults { CountsFault result self.old.faults self.new.faults }
         ensures room { finds_no_room result ≡ false }
         ensures before { self.new.before ≡ self.old.before }
-        ensures touches { touched_count self.new.touched ≤ touched_count self.old.touched + pages_between (min at (length self.old.after)) (at + length bytes.now) }
+        ensures which { self.new.is_log ≡ self.old.is_log }
+        ensures past { KeepsPast self.old self.new }
+        ensures touches { touched_count (since 0 self.new.stamps) ≤ touched_count (since 0 self.old.stamps) + pages_between (min at (length self.old.after)) (at + length bytes.now) }
     {
-        let outcome = write(&mut self.bytes, &mut self.touched, at, bytes);
+        let outcome = write(
+            &mut self.bytes,
+            &mut self.stamps,
+            &mut self.writes,
+            at,
+            bytes,
+        );
         count(outcome, &mut self.faults)
     }
 
-    /// It notes each page that is cut or grown.
+    /// It stamps each page that is cut or grown.
     fn set_len(&mut self, len: usize) -> io::Result<()>
         ensures len { OnOk result (length self.new.after ≡ len) }
         ensures others { Cut len self.old.after self.new.after }
         ensures faults { CountsFault result self.old.faults self.new.faults }
         ensures room { finds_no_room result ≡ false }
         ensures before { self.new.before ≡ self.old.before }
-        ensures touches { touched_count self.new.touched ≤ touched_count self.old.touched + pages_between (min len (length self.old.after)) (max len (length self.old.after)) }
+        ensures which { self.new.is_log ≡ self.old.is_log }
+        ensures past { KeepsPast self.old self.new }
+        ensures touches { touched_count (since 0 self.new.stamps) ≤ touched_count (since 0 self.old.stamps) + pages_between (min len (length self.old.after)) (max len (length self.old.after)) }
     {
-        let outcome = set_length(&mut self.bytes, &mut self.touched, len);
+        let outcome = set_length(&mut self.bytes, &mut self.stamps, &mut self.writes, len);
         count(outcome, &mut self.faults)
     }
 

@@ -40,8 +40,8 @@ impl PairDisk {
         let before = image.try_clone(alloc)?;
         let after = image.try_clone(alloc)?;
         Ok(PairDisk {
-            main: PageFile::new(alloc, before.main, after.main),
-            side: PageFile::new(alloc, before.side, after.side),
+            main: PageFile::new(alloc, before.main, after.main, false),
+            side: PageFile::new(alloc, before.side, after.side, true),
         })
     }
 
@@ -53,8 +53,8 @@ impl PairDisk {
     {
         let after = image.try_clone(alloc)?;
         Ok(PairDisk {
-            main: PageFile::grown_to(alloc, after.main)?,
-            side: PageFile::grown_to(alloc, after.side)?,
+            main: PageFile::grown_to(alloc, after.main, false)?,
+            side: PageFile::grown_to(alloc, after.side, true)?,
         })
     }
 
@@ -98,7 +98,7 @@ impl PairDisk {
 
     /// The image after, and the set of the pages that differ from the image before, with the sizes page last; no pages
     /// where nothing differs. Of the image before it looks only at pages that were written, cut or grown, each one step.
-    /// It costs a comparison of each of those, a copy of those that differ, and a look at one bit a page of the longer
+    /// It costs a comparison of each of those, a copy of those that differ, and a look at 8 bytes a page of the longer
     /// file. Fails where memory runs out.
     pub fn taken<L: Ledger>(
         self,
@@ -111,11 +111,11 @@ impl PairDisk {
         ensures pages { IfOk result (λ r. r.1.pages ≡ changed self.before self.after) }
         ensures cost { steps.new ≤ steps.old + self.touched }
     {
-        let (main_before, main, main_touched) = self.main.into_parts();
-        let (side_before, side, side_touched) = self.side.into_parts();
+        let (main_before, main, main_stamps) = self.main.into_parts();
+        let (side_before, side, side_stamps) = self.side.into_parts();
         let before = OriginalImage::new(main_before, side_before);
         let after = Image { main, side };
-        let pages = change(alloc, &before, &after, &main_touched, &side_touched, steps)?;
+        let pages = change(alloc, &before, &after, &main_stamps, &side_stamps, steps)?;
         Ok((after, PageSet { tx, pages }))
     }
 

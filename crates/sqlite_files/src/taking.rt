@@ -1,29 +1,29 @@
 ghost use Rattle.std.specs.Prelude.{◌≡◌, ◌+◌, ◌^◌, ◌≤◌, false, [], ◌∷◌, ◌++◌, length, max, Some, if◌then◌else◌, ℕ, IsTrue, IfOk, OnOk};
 ghost use Rattle.dq_base.specs.Images.{page_at, pages_in};
 ghost use Rattle.dq_base.specs.Changes.{changed, changed_page, changed_from, numbers_above_one, sizes_of};
-ghost use Rattle.sqlite_files.specs.Recording.{touched_count, IsRecorded};
+ghost use Rattle.sqlite_files.specs.Recording.{since, touched_count, IsRecorded};
 
 use crate::original_image::OriginalImage;
+use crate::stamps::is_touched;
 use crate::steps::PageReads;
-use crate::touched::is_touched;
 use dq_base::{Image, Items, NumberedPage, PAGE_SIZE, Page, page_at};
 use std::alloc::{AllocError, Global};
 use std::sync::ledger::Ledger;
 
 /// The change from one image to another: the pages that differ, the sizes page last, and none where nothing differs.
-/// The image before is looked at only at the touched pages.
+/// The image before is looked at only at the pages that have a stamp.
 pub(crate) fn change<L: Ledger>(
     alloc: Global,
     before: &OriginalImage,
     after: &Image,
-    main: &[bool],
-    side: &[bool],
+    main: &[u64],
+    side: &[u64],
     steps: &mut PageReads<L>,
 ) -> Result<Items<NumberedPage>, AllocError>
-    requires main { IsRecorded before.now.main after.now.main main.now }
-    requires side { IsRecorded before.now.side after.now.side side.now }
+    requires main { IsRecorded before.now.main after.now.main (since 0 main.now) }
+    requires side { IsRecorded before.now.side after.now.side (since 0 side.now) }
     ensures pages { IfOk result (λ pages. pages ≡ changed before.now after.now) }
-    ensures cost { steps.new ≤ steps.old + (touched_count main.now + touched_count side.now) }
+    ensures cost { steps.new ≤ steps.old + (touched_count (since 0 main.now) + touched_count (since 0 side.now)) }
 {
     let mut pages = Vec::new(alloc);
     push_changed(&mut pages, before, after, main, side, steps)?;
@@ -56,25 +56,32 @@ fn push_changed<L: Ledger>(
     pages: &mut Vec<NumberedPage>,
     before: &OriginalImage,
     after: &Image,
-    main: &[bool],
-    side: &[bool],
+    main: &[u64],
+    side: &[u64],
     steps: &mut PageReads<L>,
 ) -> Result<(), AllocError>
     requires empty { pages.old.items ≡ [] }
-    requires main { IsRecorded before.now.main after.now.main main.now }
-    requires side { IsRecorded before.now.side after.now.side side.now }
+    requires main { IsRecorded before.now.main after.now.main (since 0 main.now) }
+    requires side { IsRecorded before.now.side after.now.side (since 0 side.now) }
     ensures pages { OnOk result (pages.new.items ≡ changed_from 2 (numbers_above_one after.now) before.now after.now) }
-    ensures cost { steps.new ≤ steps.old + (touched_count main.now + touched_count side.now) }
+    ensures cost { steps.new ≤ steps.old + (touched_count (since 0 main.now) + touched_count (since 0 side.now)) }
 {
     for index in 0..longer(after) {
         let number = 2 * (index as u64 + 1);
-        push_page(pages, before, after, number, is_touched(main, index), steps)?;
+        push_page(
+            pages,
+            before,
+            after,
+            number,
+            is_touched(main, 0, index),
+            steps,
+        )?;
         push_page(
             pages,
             before,
             after,
             number + 1,
-            is_touched(side, index),
+            is_touched(side, 0, index),
             steps,
         )?;
     }

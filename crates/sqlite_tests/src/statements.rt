@@ -313,3 +313,66 @@ fn a_long_join_is_cut_short(rt: HostRuntime) -> Result<(), Fail> {
     }
     Ok(())
 }
+
+/// A number, and a text of 1,000 bytes.
+fn numbered(alloc: Global, number: i64) -> Result<[Value; 2], Fail> {
+    let mut text = String::new(alloc);
+    for _ in 0..50 {
+        text.push_str("twenty bytes of text")?;
+    }
+    Ok([Value::Integer(number), Value::Text(WireText::new(text))])
+}
+
+/// Runs one of a chain of statements that add rows, change them, are refused, look, and take rows away.
+fn go_on(database: &mut Database, alloc: Global, number: i64) -> Result<(), Fail> {
+    match number % 6 {
+        2 => {
+            database.write("UPDATE t SET b = b || 'y' WHERE a % 3 = 0", &[])?;
+        }
+        3 => {
+            let text = "INSERT INTO t VALUES (5, 'z')";
+            let _is_refused = answer(&mut database.engine, &database.image, text, &[], 1).is_err();
+        }
+        4 => {
+            database.write("SELECT b FROM t WHERE a = 5", &[])?;
+        }
+        5 => {
+            database.write("DELETE FROM t WHERE a % 11 = 4", &[])?;
+        }
+        _ => {
+            database.write("INSERT INTO t VALUES (?, ?)", &numbered(alloc, number)?)?;
+        }
+    }
+    Ok(())
+}
+
+/// How many rows there are, and the greatest text.
+fn summed(engine: &mut SqliteEngine, image: &Image) -> Result<StatementResult, EngineFault> {
+    answer(engine, image, "SELECT count(*), max(b) FROM t", &[], 2)
+}
+
+/// Whether another engine that opens the image of a chain of statements finds the rows that the engine of the chain has, and how many
+/// openings this one tried in all.
+fn chained(alloc: Global, length: i64) -> Result<(bool, u64), Fail> {
+    let mut database = filled(alloc)?;
+    for number in 100..100 + length {
+        go_on(&mut database, alloc, number)?;
+    }
+    let mut anew = database.engine.fork()?;
+    let own = summed(&mut database.engine, &database.image)?;
+    let other = summed(&mut anew, &database.image)?;
+    let is_same = row_of(&own).is_some() && row_of(&own) == row_of(&other);
+    Ok((is_same, database.engine.openings()))
+}
+
+#[test]
+fn touched_pages_lead_along_a_chain_of_statements(rt: HostRuntime) -> Result<(), Fail> {
+    for length in [1, 7, 60] {
+        assert_eq!(rt;
+            chained(rt.alloc(), length)?,
+            (true, 1),
+            "{length} statements"
+        );
+    }
+    Ok(())
+}

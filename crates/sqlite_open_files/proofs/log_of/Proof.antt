@@ -1,43 +1,44 @@
 -- A `&` to a connection holds a `&` to the log, which lies first.
 use Rattle.sqlite_open_files.proofs.Steps.{◌≡◌, ℕ, List, [], ◌∷◌, refl, ap, proved, ftrue, flft, named, Val, vptr, tables, ‵, ◌⊛◌, at_ret, ◌$◌, ◌∵◌, !, qed, done, move, keep, drop, split, join, fsplit, fjoin, fpick, feq_i, rewrite, suffices, group, enter, of_opd, addr, stop, first, blocks, exec, returns, alloc_all, pass_all, free_all, look_at, get, through, sets, sets_last, env, unhide, hide, RefOf, yes, ShrRef, shr_vals, shr_Tells, plain, nothing, Stays, walk_of, says, stay_dropped, Goes-dropped, ends_at}
 use Rattle.std.proofs.Common.{◌+◌, arith}
+use mir.Syntax.{Fn, Args, dcons, dnil, a_type}
+use mir.MapTy.{inst_fn}
+use types.Kit.{raw}
+use contract.Monad.{fact}
+use contract.BorrowLft.{◌⊑◌}
 use denote.RattleType.{RattleType}
 use denote.Memory.{shared_of}
+use denote.Param.{param, bounded}
+use Rattle.std.proofs.VecSteps.Shapes.{after}
 use Rattle.sqlite_open_files.specs.contracts.log_of as f
 use Rattle.sqlite_open_files.proofs.log_of.Statement.{statement}
 use Rattle.sqlite_open_files.proofs.log_of.Code as code
-use Rattle.sqlite_files.specs.contracts.page_file.PageFile as disk
-use Rattle.sqlite_files.specs.contracts.page_file.PageFileDisk.TheImpl as as_disk
-use Rattle.sqlite_store.specs.contracts.store.FileStore as filestore
-use Rattle.sqlite_store.specs.contracts.store.FileStoreStore.TheImpl as as_store
+use Rattle.sqlite_open_files.proofs.Turned.{Disk, Conn}
 use Rattle.sqlite_store.specs.FileStore.{files}
 use Rattle.sqlite_pool.specs.Pool as pool
-use Rattle.sqlite.specs.contracts.connection.Connection as connection
-
-abbrev R : RattleType
-R = connection.the_row (filestore.the_row disk.the_row as_disk.ghosts) (as_store.ghosts disk.the_row as_disk.ghosts as_store.no_dict)
-
-abbrev stayed : Stays f.ended.signature.params f.ended.kept
-stayed = (stay_dropped (RefOf (0 ∷ []) tt (plain (λ _. R)) (λ _. tt)) yes, tt)
 
 pub log_of_spec : {M : Type 1} → statement M
 unfolding pool.files
-log_of_spec 𝓤 𝓛 𝓜 𝓡 wired =
-    let c = f.clauses 𝓛 𝓜.mem 𝓡.returns in let W = walk_of 𝓛 f.ended stayed c in let 𝓣 = tables 𝓤 𝓛.H 𝓜 𝓡 𝓡.env in
-    proved 𝓛 f.ended stayed c 𝓜 𝓡 (Goes-dropped 𝓛 1 (RefOf (0 ∷ []) tt (plain (λ _. R)) (λ _. tt)) yes (λ κs x w. refl), tt)
-    f.Key.name code.function (code.unfolded 𝓤 𝓛.H 𝓜 𝓡 wired)
+log_of_spec 𝓤 𝓛 𝓜 𝓡 wired K LK g gd met =
+    let c = f.clauses K g gd 𝓛 𝓜.mem 𝓡.returns in let T = f.ended K g gd in
+    let R : RattleType = Conn (param 0 K) g in let D : RattleType = Disk (param 0 K) g in
+    let args : Args = bounded (a_type ∷ []) (K, tt) (dcons gd dnil) in let function : Fn = inst_fn args code.function in
+    let stayed : Stays T.signature.params T.kept = (stay_dropped (RefOf (0 ∷ []) tt (plain (λ _. R)) (λ _. tt)) yes, tt) in
+    let W = walk_of 𝓛 T stayed c in let 𝓣 = tables 𝓤 𝓛.H 𝓜 𝓡 𝓡.env in
+    proved 𝓛 T stayed c 𝓜 𝓡 (Goes-dropped 𝓛 2 (RefOf (0 ∷ []) tt (plain (λ _. R)) (λ _. tt)) yes (λ κs x w. refl), tt)
+    (f.Key.name args) function (code.unfolded 𝓤 𝓛.H 𝓜 𝓡 wired (K, tt) gd)
     (λ κs. (shr_vals, tt)) (λ κs. (shr_Tells (named 0) κs.0 R, tt)) (λ κs qs bounds a _ are.
     let b = a.0.ref_ptr.0 in let o = a.0.ref_ptr.1 in let vs = shr_vals a.0 in
     let y : W.Ghost = ((κs, qs, bounds, a, (vs, tt)), tt) in
-    qed 𝓛 (((‵ (flft κs.0 qs.0) ⊛ ‵ ftrue) ⊛ ‵ ((ShrRef (named 0) κs.0 R).own_val a.0 vs) ⊛ ‵ ftrue) ∷ ‵ ftrue ∷ []) ∵
-    split ! $ split ! $ move ! (2 ∷ []) $ split ! $ keep ! (0 ∷ 2 ∷ []) $
+    qed 𝓛 (((‵ (flft κs.0 qs.0) ⊛ ‵ (flft κs.1.0 qs.1.0) ⊛ ‵ ftrue) ⊛ ‵ ((ShrRef (named 0) κs.0 R).own_val a.0 vs) ⊛ ‵ ftrue) ∷ raw (fact 𝓤 (κs.1.0 ⊑ K.lives)) ∷ ‵ ftrue ∷ []) ∵
+    split ! $ move ! (1 ∷ []) $ split ! $ keep ! (0 ∷ 2 ∷ []) $
     enter ! _ _ _ _ _ $ alloc_all ! (λ l. pass_all ! refl ((tt, tt), tt) $
-    -- [the reference; the token]
+    -- [the reference; the tokens]
     first ! $ blocks ! $
     sets ! (addr ! (through ! refl (stop !))) refl (tt, tt) $
     sets ! (of_opd ! (get ! refl)) refl (tt, tt) $
     sets_last ! (addr ! (through ! refl (stop !))) refl (tt, tt) $
-    exec ! 𝓣.C 𝓣.Λ (env code.Mir.locals l) code.Mir.t-2 (at_ret _ (W.post y)) $
+    exec ! 𝓣.C 𝓣.Λ (env function.locals l) (after 1 function.body) (at_ret _ (W.post y)) $
     sets ! (of_opd ! (get ! refl)) refl (tt, tt) $
     returns ! (look_at ! 0 refl) $ free_all ! refl $
     fsplit ! $ drop ! $ unhide ! $
@@ -51,10 +52,9 @@ log_of_spec 𝓤 𝓛 𝓜 𝓡 wired =
     fsplit ! $ fsplit ! $ keep ! (0 ∷ 3 ∷ []) $
     let it = at.0.store.pool.backing.pager.log.log in
     let e : o + 0 + 0 + 0 + 0 + 0 + 0 ≡ o = omega arith in
-    rewrite ! 0 (λ (m : ℕ). ‵ (shared_of disk.the_row it b m κs.0)) e refl $
+    rewrite ! 0 (λ (m : ℕ). ‵ (shared_of D it b m κs.0)) e refl $
     hide ! $
-    suffices ! _ (ends_at 𝓛 f.ended stayed c y (vptr b o) (record { ref_ptr = (b, o); now = it }) (tt, tt) (tt, tt)) $
+    suffices ! _ (ends_at 𝓛 T stayed c y (vptr b o) (record { ref_ptr = (b, o); now = it }) (tt, tt) (tt, tt)) $
     says ! (ap (λ s. (files s.store).0) at.1.0) $
     feq_i ! (List Val) (vptr b o ∷ []) (vptr b o ∷ []) refl $ fjoin ! $
-    nothing ! $ nothing ! $ join ! $ move ! (2 ∷ []) $ nothing ! $ move ! (1 ∷ 0 ∷ []) $ join ! $
-    group ! 3 $ done !)))
+    nothing ! $ nothing ! $ join ! $ move ! (2 ∷ 0 ∷ 1 ∷ []) $ group ! 3 $ done !)))

@@ -1,0 +1,9 @@
+use Rattle.sqlite.specs.Files.{file_state}
+use Rattle.sqlite_engine.proofs.Standing.{executes_open}
+use Rattle.sqlite_engine.proofs.again.execute_again.Goals as goal
+
+pub execute-requires : goal.execute-requires
+execute-requires c it none = absurd cc
+
+pub returns-in-Ok : goal.returns-in-Ok
+returns-in-Ok c sure = executes_open (file_state c.args.conn.value) (file_state c.in-Ok.conn.value) c.requires _ _ _ c.in-Ok.ensures.ok

@@ -1,0 +1,7 @@
+use Rattle.std.proofs.Common.{sym, subst}
+use Rattle.sqlite_files.specs.Recording.{Recorded}
+use Rattle.sqlite_open_files.specs.Pins.{IsPinned}
+use Rattle.sqlite_open_files.proofs.pinned_file.PinnedFileDisk.read_at.Goals as goal
+
+pub invariant_of-self : goal.invariant_of-self
+invariant_of-self g c = subst (λ (file : Recorded). IsPinned g.K.Pin.pinned file) (sym c.read_at.ensures.same) c.self.invariant
