@@ -81,7 +81,8 @@ resized_same a b len short same = ext_get_or 0 a b len (λ j lt.
     let inside : j < 4096 = omega (arith, lt, len, short) in
     sym (get_or-resized 4096 a j inside) ∙ ap (λ (page : List ℕ). get_or page j 0) same ∙ get_or-resized 4096 b j inside)
 
-pub other_piece : (number : ℕ) (before now : List ℕ) → length before ≡ length now → length now ≤ 4096 → (before ≡ now → ⊥) → changed_page number None (page_of now) ≡ changed_page number (page_of before) (page_of now)
+pub other_piece : (number : ℕ) (before now : List ℕ) → length before ≡ length now → length now ≤ 4096 → (before ≡ now → ⊥)
+    → changed_page number None (page_of now) ≡ changed_page number (page_of before) (page_of now)
 other_piece number before [] len short other = refl
 other_piece number [] (byte ∷ rest) len short other = refl
 other_piece number (first ∷ more) (byte ∷ rest) len short other =

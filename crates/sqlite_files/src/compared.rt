@@ -78,7 +78,8 @@ pub fn changes_since(
 /// Whether no page differs, nor any length.
 fn nothing_differs(pages: &[NumberedPage], before: &Image, main: &[u8], side: &[u8]) -> bool
     ensures same { IsTrue result → (pages.now ≡ []) × (length before.now.main ≡ length main.now) × (length before.now.side ≡ length side.now) }
-    ensures other { result ≡ false → pages.now ≡ [] → length before.now.main ≡ length main.now → length before.now.side ≡ length side.now → ⊥ }
+    ensures other { result ≡ false → pages.now ≡ [] → length before.now.main ≡ length main.now
+        → length before.now.side ≡ length side.now → ⊥ }
 {
     pages.is_empty() && before.main.len() == main.len() && before.side.len() == side.len()
 }
@@ -130,7 +131,8 @@ fn push_touched(
     requires empty { pages.old.items ≡ [] }
     requires main { IsRecorded before.now.main main.now.bytes.now (since main.now.mark main.now.stamps.now) }
     requires side { IsRecorded before.now.side side.now.bytes.now (since side.now.mark side.now.stamps.now) }
-    ensures { OnOk result (pages.new.items ≡ changed_from 2 (numbers_above_one (both main.now.bytes.now side.now.bytes.now)) before.now (both main.now.bytes.now side.now.bytes.now)) }
+    ensures { OnOk result (pages.new.items ≡ changed_from 2 (numbers_above_one (both main.now.bytes.now side.now.bytes.now)) before.now
+        (both main.now.bytes.now side.now.bytes.now)) }
 {
     let main_before = before.main.as_slice();
     let side_before = before.side.as_slice();
@@ -166,8 +168,10 @@ fn push_since(
     number: u64,
 ) -> Result<(), AllocError>
     requires small { index * 4096 ≤ 2 ^ 63 }
-    requires same { is_touched (since now.now.mark now.now.stamps.now) index ≡ false → page_of (piece_of before.now index) ≡ page_of (piece_of now.now.bytes.now index) }
-    ensures { OnOk result (pages.new.items ≡ pages.old.items ++ changed_page number (page_of (piece_of before.now index)) (page_of (piece_of now.now.bytes.now index))) }
+    requires same { is_touched (since now.now.mark now.now.stamps.now) index ≡ false
+        → page_of (piece_of before.now index) ≡ page_of (piece_of now.now.bytes.now index) }
+    ensures { OnOk result (pages.new.items ≡ pages.old.items
+        ++ changed_page number (page_of (piece_of before.now index)) (page_of (piece_of now.now.bytes.now index))) }
 {
     if !is_touched(now.stamps, now.mark, index) {
         return Ok(());

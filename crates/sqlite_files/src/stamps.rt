@@ -1,5 +1,5 @@
 ghost use Rattle.std.specs.Prelude.{◌≡◌, ◌+◌, ◌-◌, ◌<◌, ◌≤◌, false, true, length, nat_lt, OnOk, OnErr};
-ghost use Rattle.sqlite_files.specs.Recording.{stamp_at, since, is_touched, touched_count, pages_between, Stamps};
+ghost use Rattle.sqlite_files.specs.Recording.{stamp_at, since, is_touched, touched_count, pages_between, StampsPages};
 
 use dq_base::PAGE_SIZE;
 use std::alloc::AllocError;
@@ -46,7 +46,7 @@ pub(crate) fn touch(
     to: usize,
     stamp: u64,
 ) -> Result<(), AllocError>
-    ensures ok { OnOk result (Stamps stamp from to stamps.old.items stamps.new.items) }
+    ensures ok { OnOk result (StampsPages stamp from to stamps.old.items stamps.new.items) }
     ensures err { OnErr result (stamps.new.items ≡ stamps.old.items) }
     ensures count { touched_count (since 0 stamps.new.items) ≤ touched_count (since 0 stamps.old.items) + pages_between from to }
 {

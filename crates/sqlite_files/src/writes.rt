@@ -17,7 +17,8 @@ pub(crate) fn write(
     ensures written { OnOk result (Holds file.new.items at bytes.now) }
     ensures others { Torn at (length bytes.now) file.old.items file.new.items }
     ensures since { StaysSince file.old.items stamps.old.items writes.old file.new.items stamps.new.items writes.new }
-    ensures count { touched_count (since 0 stamps.new.items) ≤ touched_count (since 0 stamps.old.items) + pages_between (min at (length file.old.items)) (at + length bytes.now) }
+    ensures count { touched_count (since 0 stamps.new.items) ≤ touched_count (since 0 stamps.old.items)
+        + pages_between (min at (length file.old.items)) (at + length bytes.now) }
 {
     let end = at.checked_add(bytes.len()).ok_or(AllocError)?;
     *writes = writes.saturating_add(1);
@@ -35,7 +36,8 @@ pub(crate) fn set_length(
     ensures len { OnOk result (length file.new.items ≡ len) }
     ensures others { Cut len file.old.items file.new.items }
     ensures since { StaysSince file.old.items stamps.old.items writes.old file.new.items stamps.new.items writes.new }
-    ensures count { touched_count (since 0 stamps.new.items) ≤ touched_count (since 0 stamps.old.items) + pages_between (min len (length file.old.items)) (max len (length file.old.items)) }
+    ensures count { touched_count (since 0 stamps.new.items) ≤ touched_count (since 0 stamps.old.items)
+        + pages_between (min len (length file.old.items)) (max len (length file.old.items)) }
 {
     *writes = writes.saturating_add(1);
     touch(stamps, len.min(file.len()), len.max(file.len()), *writes)?;

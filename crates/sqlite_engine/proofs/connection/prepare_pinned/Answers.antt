@@ -32,5 +32,6 @@ pub returns-in-Err-clause-err : goal.returns-in-Err-clause-err
 returns-in-Err-clause-err g c params =
     let text = c.args.text.now.text.now in
     subst (λ (d : Conn). IsNotRun (file_state c.args.conn.value) (file_state d) text params c.in-Err.error) (sym c.loosened-in-Err.ensures.value)
-    (subst (λ (d : Conn). IsNotRun (file_state d) (file_state c.prepare.new.self) text params c.in-Err.error) (c.deref_mut.ensures.value ∙ c.pinned-conn.ensures)
+    (subst (λ (d : Conn). IsNotRun (file_state d) (file_state c.prepare.new.self) text params c.in-Err.error)
+    (c.deref_mut.ensures.value ∙ c.pinned-conn.ensures)
     (c.in-Err.ensures.err (always_clean (λ _. refl) c.prepare.new.self) params))

@@ -13,4 +13,5 @@ returns c it is =
     let side_low : c.writes-side.result < 2 ^ 64 - 1 = search rules in
     subst (λ (m : Marks). IsMarked (files_beneath c.args.conn.now) m c.args.conn.now) (some_is _ _ is)
     (marked_now c.args.conn.now (record { main = c.writes-main.result; side = c.writes-side.result }) (c.are_told.ensures told)
-    (c.writes-main.ensures ∙ ap (λ (r : Recorded). r.writes) c.main_of.ensures) (c.writes-side.ensures ∙ ap (λ (r : Recorded). r.writes) c.log_of.ensures) main_low side_low)
+    (c.writes-main.ensures ∙ ap (λ (r : Recorded). r.writes) c.main_of.ensures)
+    (c.writes-side.ensures ∙ ap (λ (r : Recorded). r.writes) c.log_of.ensures) main_low side_low)

@@ -11,7 +11,8 @@ returns-then-nothing_differs c =
     let yes : IsTrue c.nothing_differs.result = search rules in
     let same = c.nothing_differs.ensures.same yes in
     let none : c.push_touched.new.pages.items ≡ [] = sym c.as_slice.ensures.value ∙ same.0 in
-    let is : c.new.result ≡ changed c.args.before.now after = c.new.ensures ∙ changed_nothing c.args.before.now after c.push_touched.new.pages.items c.in_ok-push_touched.ensures none same.1 same.2 in
+    let is : c.new.result ≡ changed c.args.before.now after = c.new.ensures
+    ∙ changed_nothing c.args.before.now after c.push_touched.new.pages.items c.in_ok-push_touched.ensures none same.1 same.2 in
     λ i. record { tx = c.args.tx; pages = is i }
 
 pub returns : goal.returns

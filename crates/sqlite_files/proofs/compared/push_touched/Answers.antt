@@ -13,7 +13,8 @@ loop-index-init c =
     record {
       within = next.ensures.end;
       pages = c.requires.empty ∙ sym (changed_none c.args.before.now after 2)
-          ∙ sym (skipped c.args.before.now after _ _ c.requires.main c.requires.side 0 next.result next.result (omega arith) next.ensures.main next.ensures.side);
+          ∙ sym (skipped c.args.before.now after _ _ c.requires.main c.requires.side 0 next.result next.result
+          (omega arith) next.ensures.main next.ensures.side);
     }
 
 pub push_since-requires-clause-same : goal.push_since-requires-clause-same
@@ -39,5 +40,6 @@ loop-index-preserved c =
     c.loop-index.invariant.pages c.in_ok-push_since.ensures c.in_ok-push_since-2.ensures in
     record {
       within = next.ensures.end;
-      pages = pushed ∙ sym (skipped c.args.before.now after _ _ c.requires.main c.requires.side (index + 1) (next.result - (index + 1)) next.result (omega (arith, next.ensures.from)) next.ensures.main next.ensures.side);
+      pages = pushed ∙ sym (skipped c.args.before.now after _ _ c.requires.main c.requires.side (index + 1) (next.result - (index + 1)) next.result
+          (omega (arith, next.ensures.from)) next.ensures.main next.ensures.side);
     }

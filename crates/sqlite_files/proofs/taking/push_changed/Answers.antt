@@ -19,14 +19,17 @@ overflow_add-number-in-loop-index g c =
     omega arith
 
 pub push_page-requires : goal.push_page-requires
-push_page-requires g c clean = main_page_same c.args.before.now c.args.after.now c.loop-index.index (since 0 c.args.main.now) c.requires.main (sym c.is_touched.ensures ∙ clean)
+push_page-requires g c clean = main_page_same c.args.before.now c.args.after.now c.loop-index.index (since 0 c.args.main.now) c.requires.main
+    (sym c.is_touched.ensures ∙ clean)
 
 pub push_page-requires-in-loop-index : goal.push_page-requires-in-loop-index
 push_page-requires-in-loop-index g c clean =
-    side_page_same c.args.before.now c.args.after.now c.loop-index.index (since 0 c.args.side.now) c.requires.side (sym c.is_touched-in-loop-index.ensures ∙ clean)
+    side_page_same c.args.before.now c.args.after.now c.loop-index.index (since 0 c.args.side.now) c.requires.side
+    (sym c.is_touched-in-loop-index.ensures ∙ clean)
 
 pub returns-in_err-push_page-clause-cost : goal.returns-in_err-push_page-clause-cost
-returns-in_err-push_page-clause-cost g c = steps_of_one (since 0 c.args.main.now) (since 0 c.args.side.now) c.loop-index.index c.args.steps.now c.loop-index.steps c.loop-index.invariant.cost _ _ c.is_touched.ensures c.push_page.ensures.cost
+returns-in_err-push_page-clause-cost g c = steps_of_one (since 0 c.args.main.now)
+    (since 0 c.args.side.now) c.loop-index.index c.args.steps.now c.loop-index.steps c.loop-index.invariant.cost _ _ c.is_touched.ensures c.push_page.ensures.cost
 
 pub returns-in_err-push_page-2-clause-cost : goal.returns-in_err-push_page-2-clause-cost
 returns-in_err-push_page-2-clause-cost g c =
