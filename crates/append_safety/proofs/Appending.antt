@@ -16,7 +16,7 @@ use Rattle.raft_safety.proofs.Worlds.{blank}
 use Rattle.raft_safety.proofs.Leds.{steps_snoc, run_snoc}
 use Rattle.raft_safety.proofs.Properties.{chosen_step}
 use Rattle.raft_safety.proofs.Sources.{Fronts, AllOwnFit, EventFit, RunFit, NextFit, run_fit, start_fit, midway_fit}
-use Rattle.append_safety.specs.Appending.{Appended, IsNotLater, ChosenAppended, AppendedInOrder}
+use Rattle.append_safety.specs.Appending.{WasAppended, IsNotLater, ChosenAppended, AppendedInOrder}
 
 leads_so : (r : Role) → is_leader r ≡ true → r ≡ Leader
 leads_so Leader e = refl
@@ -35,7 +35,7 @@ new_term s i d j (proposed new p r t e) lt le = let z = ap length e in ap (λ l.
 
 -- an entry that was appended in this step of this event
 record Here (vs : Setup) (es qs : List Event) (k : ℕ) (x : List Entry) : Type 0 where
-  is : Appended vs es x
+  is : WasAppended vs es x
   first : is.first ≡ qs
   step : is.step ≡ k
 
@@ -46,16 +46,20 @@ module _ (vs : Setup) (es qs : List Event) (e : Event) (rest : List Event) (spli
   s0 : Node
   s0 = (run vs qs).nodes (actor e)
 
-  appended_now : (done more : List Input) (i : Input) → intake (run vs qs) e ≡ done ++ i ∷ more → (d : Node) → (f (steps f s0 done) i).node ≡ d → is_leader d.role ≡ true → Adds (steps f s0 done) i d → (j : ℕ) → length (steps f s0 done).log < j → j ≤ length d.log → Here vs es qs (length done) (take j d.log)
+  appended_now : (done more : List Input) (i : Input) → intake (run vs qs) e ≡ done ++ i ∷ more → (d : Node) → (f (steps f s0 done) i).node ≡ d →
+      is_leader d.role ≡ true → Adds (steps f s0 done) i d → (j : ℕ) → length (steps f s0 done).log < j → j ≤ length d.log → Here vs es qs (length done)
+      (take j d.log)
   unfolding f s0
   appended_now done more i all d is l a j lt le =
       let front : take (suc (length done)) (intake (run vs qs) e) ≡ done ++ i ∷ [] =
-      ap (take (suc (length done))) (all ∙ sym (append_assoc done (i ∷ []) more)) ∙ take-append-le (suc (length done)) (done ++ i ∷ []) more (omega (arith, length-append done (i ∷ []))) ∙ take_all (suc (length done)) (done ++ i ∷ []) (omega (arith, length-append done (i ∷ []))) in
+      ap (take (suc (length done))) (all ∙ sym (append_assoc done (i ∷ []) more)) ∙ take-append-le (suc (length done)) (done ++ i ∷ []) more
+      (omega (arith, length-append done (i ∷ []))) ∙ take_all (suc (length done)) (done ++ i ∷ []) (omega (arith, length-append done (i ∷ []))) in
       let before : take (length done) (intake (run vs qs) e) ≡ done = ap (take (length done)) all ∙ take_at done (i ∷ more) (length done) refl in
       let node : midway vs (run vs qs) e (suc (length done)) ≡ d = ap (steps f s0) front ∙ steps_snoc f s0 done i ∙ is in
       let old : midway vs (run vs qs) e (length done) ≡ steps f s0 done = ap (steps f s0) before in
       let size = length-take-le j d.log le in
-      let term : term_at (take j d.log) (length (take j d.log)) ≡ d.term = ap (term_at (take j d.log)) size ∙ term_at-take j d.log j (omega arith) ∙ new_term (steps f s0 done) i d j a lt le in
+      let term : term_at (take j d.log) (length (take j d.log)) ≡ d.term = ap (term_at (take j d.log)) size ∙ term_at-take j d.log j (omega arith)
+      ∙ new_term (steps f s0 done) i d j a lt le in
       record {
         is = record {
           first = qs;
@@ -75,27 +79,35 @@ module _ (vs : Setup) (es qs : List Event) (e : Event) (rest : List Event) (spli
       }
 
   -- so of these steps
-  own_appended : (Q : List Entry → Type 0) (k : ℕ) → ((x : List Entry) (n : ℕ) → n < k → Here vs es qs n x → Q x) → (more done after : List Input) (s : Node) → steps f s0 done ≡ s → intake (run vs qs) e ≡ done ++ (more ++ after) → length done + length more ≤ k → AllOwnFit Q vs (actor e) s more
+  own_appended : (Q : List Entry → Type 0) (k : ℕ) → ((x : List Entry) (n : ℕ) → n < k → Here vs es qs n x → Q x) → (more done after : List Input)
+      (s : Node) → steps f s0 done ≡ s → intake (run vs qs) e ≡ done ++ (more ++ after) → length done + length more ≤ k → AllOwnFit Q vs (actor e) s more
   unfolding f s0
   own_appended Q k by [] done after s is all le = tt
   own_appended Q k by (i ∷ more) done after s is all le = (
-    (λ l a q j lt low. by (take j (f s i).node.log) (length done) (omega (arith, le)) (appended_now done (more ++ after) i all (f s i).node (ap (λ z. (f z i).node) is) l (subst (λ z. Adds z i (f s i).node) (sym is) a) j (subst (λ (z : Node). length z.log < j) (sym is) lt) low)),
-    own_appended Q k by more (done ++ i ∷ []) after (f s i).node (steps_snoc f s0 done i ∙ ap (λ z. (f z i).node) is) (all ∙ sym (append_assoc done (i ∷ []) (more ++ after))) (omega (arith, le, length-append done (i ∷ []))),
+    (λ l a q j lt low. by (take j (f s i).node.log) (length done) (omega (arith, le)) (appended_now done (more ++ after) i all (f s i).node
+        (ap (λ z. (f z i).node) is) l (subst (λ z. Adds z i (f s i).node) (sym is) a) j (subst (λ (z : Node). length z.log < j) (sym is) lt) low)),
+    own_appended Q k by more (done ++ i ∷ []) after (f s i).node (steps_snoc f s0 done i ∙ ap (λ z. (f z i).node) is)
+        (all ∙ sym (append_assoc done (i ∷ []) (more ++ after))) (omega (arith, le, length-append done (i ∷ []))),
   )
 
 -- ---- the events of a run
 
--- any entry that was appended in an event after fewer than so many events
-run_appended : (vs : Setup) (es : List Event) (Q : List Entry → Type 0) (k : ℕ) → ((x : List Entry) (a : Appended vs es x) → length a.first < k → Q x) → (rest qs more : List Event) → es ≡ qs ++ (rest ++ more) → length qs + length rest ≤ k → RunFit Q vs (run vs qs) rest
+-- any entry that was appended in an event after fewer than k events
+run_appended : (vs : Setup) (es : List Event) (Q : List Entry → Type 0) (k : ℕ) → ((x : List Entry) (a : WasAppended vs es x) → length a.first < k → Q x) →
+    (rest qs more : List Event) → es ≡ qs ++ (rest ++ more) → length qs + length rest ≤ k → RunFit Q vs (run vs qs) rest
 unfolding s0
 run_appended vs es Q k by [] qs more split le = tt
 run_appended vs es Q k by (e ∷ rest) qs more split le = (
   (λ up. let w = run vs qs in
-      own_appended vs es qs e (rest ++ more) split up Q (length (intake w e)) (λ x n lt here. by x here.is (subst (λ (l : List Event). length l < k) (sym here.first) (omega (arith, le)))) (intake w e) [] [] (w.nodes (actor e)) refl (sym (append-nil (intake w e))) (omega arith)),
-  subst (λ w. RunFit Q vs w rest) (run_snoc vs qs e) (run_appended vs es Q k by rest (qs ++ e ∷ []) more (split ∙ sym (append_assoc qs (e ∷ []) (rest ++ more))) (omega (arith, le, length-append qs (e ∷ [])))),
+      own_appended vs es qs e (rest ++ more) split up Q (length (intake w e))
+      (λ x n lt here. by x here.is (subst (λ (l : List Event). length l < k) (sym here.first) (omega (arith, le)))) (intake w e) [] []
+      (w.nodes (actor e)) refl (sym (append-nil (intake w e))) (omega arith)),
+  subst (λ w. RunFit Q vs w rest) (run_snoc vs qs e) (run_appended vs es Q k by rest (qs ++ e ∷ []) more
+      (split ∙ sym (append_assoc qs (e ∷ []) (rest ++ more))) (omega (arith, le, length-append qs (e ∷ [])))),
 )
 
-all_appended : (vs : Setup) (ps : List Event) (es more : List Event) (Q : List Entry → Type 0) → es ≡ ps ++ more → ((x : List Entry) (a : Appended vs es x) → length a.first < length ps → Q x) → NextFit Q vs blank (run vs ps)
+all_appended : (vs : Setup) (ps : List Event) (es more : List Event) (Q : List Entry → Type 0) → es ≡ ps ++ more → ((x : List Entry) (a : WasAppended vs es x) →
+    length a.first < length ps → Q x) → NextFit Q vs blank (run vs ps)
 unfolding run
 all_appended vs ps es more Q split by = run_fit Q ps blank (start vs) (start_fit Q vs) (run_appended vs es Q (length ps) by ps [] more split (omega arith))
 
@@ -103,7 +115,8 @@ all_appended vs ps es more Q split by = run_fit Q ps blank (start vs) (start_fit
 
 one_or_none : (n : ℕ) (o : Option Message) → (taken n o ≡ []) ⊎ ((i : Input) × (taken n o ≡ i ∷ []))
 one_or_none n None = inl refl
-one_or_none n (Some m) = cond_both (m.to == n) (Receive m ∷ []) [] (λ (l : List Input). (l ≡ []) ⊎ ((i : Input) × (l ≡ i ∷ []))) (λ e. inr (Receive m, refl)) (λ e. inl refl)
+one_or_none n (Some m) = cond_both (m.to == n) (Receive m ∷ []) [] (λ (l : List Input). (l ≡ []) ⊎ ((i : Input) × (l ≡ i ∷ [])))
+    (λ e. inr (Receive m, refl)) (λ e. inl refl)
 
 cut_causes : (n : ℕ) (ms : List Message) (cs : List Cause) (k : ℕ) → (ds : List Cause) × (inputs n ms ds ≡ take k (inputs n ms cs))
 cut_causes n ms cs zero = ([], refl)
@@ -120,10 +133,11 @@ cut_causes n ms (Takes m ∷ cs) (suc k) =
 
 -- appended in an event before the last of these, or in one of its first steps
 record AppendedBy (vs : Setup) (ps : List Event) (e : Event) (k : ℕ) (x : List Entry) : Type 0 where
-  is : Appended vs (ps ++ e ∷ []) x
+  is : WasAppended vs (ps ++ e ∷ []) x
   by : (length is.first < length ps) ⊎ ((length is.first ≡ length ps) × (is.step < k))
 
-midway_appended : (vs : Setup) (ps : List Event) (e : Event) (k : ℕ) → ((run vs ps).nodes (actor e)).up ≡ true → Fronts (AppendedBy vs ps e k) (midway vs (run vs ps) e k).log
+midway_appended : (vs : Setup) (ps : List Event) (e : Event) (k : ℕ) → ((run vs ps).nodes (actor e)).up ≡ true → Fronts (AppendedBy vs ps e k)
+    (midway vs (run vs ps) e k).log
 unfolding s0
 midway_appended vs ps e k up =
     let w = run vs ps in
@@ -132,7 +146,8 @@ midway_appended vs ps e k up =
     let cut = cut_causes n w.messages (causes_of e) k in
     let g = Acts n cut.0 [] in
     let own : AllOwnFit Q vs n (w.nodes n) (take k (intake w e)) =
-    own_appended vs (ps ++ e ∷ []) ps e [] refl up Q k (λ x m lt here. record { is = here.is; by = inr (ap length here.first, subst (λ z. z < k) (sym here.step) lt) })
+    own_appended vs (ps ++ e ∷ []) ps e [] refl up Q k
+    (λ x m lt here. record { is = here.is; by = inr (ap length here.first, subst (λ z. z < k) (sym here.step) lt) })
     (take k (intake w e)) [] (drop k (intake w e)) (w.nodes n) refl (sym (take-append-drop k (intake w e))) (omega (arith, length-take k (intake w e))) in
     let fits : EventFit Q vs w g = λ u. subst (AllOwnFit Q vs n (w.nodes n)) (sym cut.1) own in
     let so = (all_appended vs ps (ps ++ e ∷ []) (e ∷ []) Q refl (λ x a lt. record { is = a; by = inl lt })).so in
@@ -141,7 +156,7 @@ midway_appended vs ps e k up =
 
 -- ---- the chosen entries
 
-later_run : (vs : Setup) (ps more es : List Event) (x : List Entry) → es ≡ ps ++ more → (a : Appended vs ps x) → Appended vs es x
+later_run : (vs : Setup) (ps more es : List Event) (x : List Entry) → es ≡ ps ++ more → (a : WasAppended vs ps x) → WasAppended vs es x
 later_run vs ps more es x split a = record {
   first = a.first;
   event = a.event;
@@ -156,24 +171,25 @@ later_run vs ps more es x split a = record {
   has = a.has;
 }
 
-logs_appended : (vs : Setup) (es : List Event) (n : ℕ) → Fronts (Appended vs es) (log_at vs es n)
-logs_appended vs es n = (all_appended vs es es [] (Appended vs es) (sym (append-nil es)) (λ x a lt. a)).so.nodes n
+logs_appended : (vs : Setup) (es : List Event) (n : ℕ) → Fronts (WasAppended vs es) (log_at vs es n)
+logs_appended vs es n = (all_appended vs es es [] (WasAppended vs es) (sym (append-nil es)) (λ x a lt. a)).so.nodes n
 
-chosen_fronts : (vs : Setup) (rest ps : List Event) → Fronts (Appended vs ps) (chosen vs ps) → Fronts (Appended vs (ps ++ rest)) (chosen vs (ps ++ rest))
-chosen_fronts vs [] ps q = subst (λ l. Fronts (Appended vs l) (chosen vs l)) (sym (append-nil ps)) q
+chosen_fronts : (vs : Setup) (rest ps : List Event) → Fronts (WasAppended vs ps) (chosen vs ps) → Fronts (WasAppended vs (ps ++ rest)) (chosen vs (ps ++ rest))
+chosen_fronts vs [] ps q = subst (λ l. Fronts (WasAppended vs l) (chosen vs l)) (sym (append-nil ps)) q
 chosen_fronts vs (e ∷ rest) ps q =
     let es = ps ++ e ∷ [] in
     let n = actor e in
     let log = log_at vs es n in
-    let more : Fronts (Appended vs es) (chosen vs es) = ⊎_elim
-    (λ (x : chosen vs es ≡ chosen vs ps). subst (Fronts (Appended vs es)) (sym x) (λ i pos le. later_run vs ps (e ∷ []) es (take i (chosen vs ps)) refl (q i pos le)))
-    (λ (x : (k : ℕ) × (chosen vs es ≡ take k log)). subst (Fronts (Appended vs es)) (sym x.1) (λ i pos le.
+    let more : Fronts (WasAppended vs es) (chosen vs es) = ⊎_elim
+    (λ (x : chosen vs es ≡ chosen vs ps). subst (Fronts (WasAppended vs es)) (sym x) (λ i pos le. later_run vs ps (e ∷ []) es (take i (chosen vs ps)) refl
+    (q i pos le)))
+    (λ (x : (k : ℕ) × (chosen vs es ≡ take k log)). subst (Fronts (WasAppended vs es)) (sym x.1) (λ i pos le.
     let size = length-take x.0 log in
-    subst (Appended vs es) (sym (take-take i x.0 log (omega arith))) (logs_appended vs es n i pos (omega arith))))
+    subst (WasAppended vs es) (sym (take-take i x.0 log (omega arith))) (logs_appended vs es n i pos (omega arith))))
     (chosen_step vs ps e) in
-    subst (λ l. Fronts (Appended vs l) (chosen vs l)) (append_assoc ps (e ∷ []) rest) (chosen_fronts vs rest es more)
+    subst (λ l. Fronts (WasAppended vs l) (chosen vs l)) (append_assoc ps (e ∷ []) rest) (chosen_fronts vs rest es more)
 
-none_chosen : (vs : Setup) → Fronts (Appended vs []) (chosen vs [])
+none_chosen : (vs : Setup) → Fronts (WasAppended vs []) (chosen vs [])
 unfolding chosen
 none_chosen vs = λ i pos le. absurd (omega (arith, pos, le))
 
@@ -186,15 +202,14 @@ not_later first late k m (inr l) = inr (l.0, let z = l.1 in omega (arith, z))
 
 pub appended_in_order_holds : AppendedInOrder
 unfolding later_run
-appended_in_order_holds vs es i j pos low le late =
-    let c = chosen vs es in
+appended_in_order_holds vs es entries i pos low late =
     let m = (midway vs (run vs late.first) late.event (suc late.step)).log in
-    let size = length-take-le j c le in
     let within = late.within in
     let inside : i ≤ length m = omega arith in
     let x = midway_appended vs late.first late.event (suc late.step) late.runs i pos inside in
-    let same : take i m ≡ take i c = sym (take-take i (length (take j c)) m (omega arith)) ∙ ap (take i) late.has ∙ take-take i j c low in
-    let y : AppendedBy vs late.first late.event (suc late.step) (take i c) = subst (AppendedBy vs late.first late.event (suc late.step)) same x in (
-      later_run vs (late.first ++ late.event ∷ []) late.rest es (take i c) (late.split ∙ sym (append_assoc late.first (late.event ∷ []) late.rest)) y.is,
+    let same : take i m ≡ take i entries = sym (take-take i (length entries) m low) ∙ ap (take i) late.has in
+    let y : AppendedBy vs late.first late.event (suc late.step) (take i entries) = subst (AppendedBy vs late.first late.event (suc late.step)) same x in (
+      later_run vs (late.first ++ late.event ∷ []) late.rest es (take i entries)
+          (late.split ∙ sym (append_assoc late.first (late.event ∷ []) late.rest)) y.is,
       not_later y.is.first late.first y.is.step late.step y.by,
     )

@@ -34,29 +34,73 @@ unmoved : (vs : Setup) (n : ℕ) (s : Node) (k : ℕ) → steps (member_step vs 
 unmoved vs n s zero = refl
 unmoved vs n s (suc k) = refl
 
-passes : {vs : Setup} {h : Hist} (w : World) (e : Event) (k : ℕ) → WorldOk vs h w → (w.nodes (actor e)).up ≡ true → Made vs w e k → Passed vs (happens vs w e) h (midway vs w e k)
+passes : {vs : Setup} {h : Hist} (w : World) (e : Event) (k : ℕ) → WorldOk vs h w → (w.nodes (actor e)).up ≡ true → Made vs w e k → Passed vs
+    (happens vs w e) h (midway vs w e k)
 passes {vs} {h} w (Acts n cs places) k a up made =
     let x = split_fine n (inputs n w.messages cs) k h (w.nodes n) a.hist (a.nodes n) (inputs_fine vs h n w.messages cs a.messages) in
-    let r : Reach vs h n (after vs w n cs) (picked (outs vs w n cs) places) = record { to = x.whole.to; grows = x.whole.grows; hist = x.whole.hist; node = x.whole.node; sent = all_picked vs x.whole.to (outs vs w n cs) places x.whole.sent } in
+    let r : Reach vs h n (after vs w n cs) (picked (outs vs w n cs) places) = record {
+      to = x.whole.to;
+      grows = x.whole.grows;
+      hist = x.whole.hist;
+      node =
+          x.whole.node;
+      sent = all_picked vs x.whole.to (outs vs w n cs) places x.whole.sent;
+    } in
     record {
       mid = x.mid.to;
       grows = x.mid.grows.later;
       sound = x.mid.node.sound;
-      next = record { to = x.whole.to; later = x.later; world = subst (WorldOk vs x.whole.to) (sym (cond-true (w.nodes n).up (put w n (after vs w n cs) (picked (outs vs w n cs) places)) w up)) (put_world w n (after vs w n cs) (picked (outs vs w n cs) places) a r) };
+      next = record {
+        to = x.whole.to;
+        later = x.later;
+        world = subst (WorldOk vs x.whole.to)
+            (sym (cond-true (w.nodes n).up (put w n (after vs w n cs) (picked (outs vs w n cs) places)) w up))
+            (put_world w n (after vs w n cs) (picked (outs vs w n cs) places) a r);
+      };
     }
 passes {vs} {h} w (Stops n cs acts applied base) k a up made =
     let x = stop_split n (inputs n w.messages cs) k acts h (w.nodes n) made a.hist (a.nodes n) (inputs_fine vs h n w.messages cs a.messages) in
     let kept = enacted (stored_of (w.nodes n)) (take acts (account (member_step vs n) (w.nodes n) (inputs n w.messages cs))) in
-    let fit : StoredOk vs x.stands.to n (stopped vs w n cs acts) = subst (StoredOk vs x.stands.to n) (sym (cond-true (w.nodes n).up kept (stored_of (w.nodes n)) up)) x.stands.fit in
+    let fit : StoredOk vs x.stands.to n (stopped vs w n cs acts) = subst (StoredOk vs x.stands.to n)
+    (sym (cond-true (w.nodes n).up kept (stored_of (w.nodes n)) up)) x.stands.fit in
     let down = loaded false [] (older base (stopped vs w n cs acts)) in
-    let r : Reach vs h n down [] = record { to = x.stands.to; grows = x.stands.grows; hist = x.stands.hist; node = loaded_ok false [] (older base (stopped vs w n cs acts)) (older_ok base (stopped vs w n cs acts) fit); sent = tt } in
-    record { mid = x.mid.to; grows = x.mid.grows.later; sound = x.mid.node.sound; next = record { to = x.stands.to; later = x.later; world = put_world w n down [] a r } }
+    let r : Reach vs h n down [] = record {
+      to = x.stands.to;
+      grows = x.stands.grows;
+      hist = x.stands.hist;
+      node = loaded_ok false []
+          (older base (stopped vs w n cs acts)) (older_ok base (stopped vs w n cs acts) fit);
+      sent = tt;
+    } in
+    record {
+      mid = x.mid.to;
+      grows = x.mid.grows.later;
+      sound = x.mid.node.sound;
+      next = record {
+        to = x.stands.to;
+        later = x.later;
+        world =
+            put_world w n down [] a r;
+      };
+    }
 passes {vs} {h} w (Crash n) k a up made =
     let x = happens_fine w (Crash n) a in
-    record { mid = h; grows = later_refl h; sound = subst (λ (s : Node). Sound h s.log) (sym (unmoved vs n (w.nodes n) k)) (a.nodes n).sound; next = record { to = x.to; later = x.later; world = x.world } }
+    record {
+      mid = h;
+      grows = later_refl h;
+      sound = subst (λ (s : Node). Sound h s.log) (sym (unmoved vs n (w.nodes n) k)) (a.nodes n).sound;
+      next =
+          record { to = x.to; later = x.later; world = x.world };
+    }
 passes {vs} {h} w (Start n servers) k a up made =
     let x = happens_fine w (Start n servers) a in
-    record { mid = h; grows = later_refl h; sound = subst (λ (s : Node). Sound h s.log) (sym (unmoved vs n (w.nodes n) k)) (a.nodes n).sound; next = record { to = x.to; later = x.later; world = x.world } }
+    record {
+      mid = h;
+      grows = later_refl h;
+      sound = subst (λ (s : Node). Sound h s.log) (sym (unmoved vs n (w.nodes n) k)) (a.nodes n).sound;
+      next =
+          record { to = x.to; later = x.later; world = x.world };
+    }
 
 run_past : (vs : Setup) (es : List Event) (e : Event) (more : List Event) → run vs (es ++ e ∷ more) ≡ run_from vs (happens vs (run vs es) e) more
 unfolding run
@@ -65,8 +109,10 @@ run_past vs es e more = run_append vs (start vs) es (e ∷ more)
 -- ---- the step and a log between two events
 
 -- before the event
-meets_before : (vs : Setup) (ps more : List Event) (e : Event) (n k i : ℕ) → ((run vs (ps ++ more)).nodes (actor e)).up ≡ true → Made vs (run vs (ps ++ more)) e k →
-    i ≤ length (midway vs (run vs (ps ++ more)) e k).log → i ≤ length (log_at vs ps n) → term_at (midway vs (run vs (ps ++ more)) e k).log i ≡ term_at (log_at vs ps n) i →
+meets_before : (vs : Setup) (ps more : List Event) (e : Event) (n k i : ℕ) → ((run vs (ps ++ more)).nodes (actor e)).up ≡ true → Made vs
+    (run vs (ps ++ more)) e k →
+    i ≤ length (midway vs (run vs (ps ++ more)) e k).log → i ≤ length (log_at vs ps n) → term_at (midway vs (run vs (ps ++ more)) e k).log i ≡ term_at
+    (log_at vs ps n) i →
     take i (midway vs (run vs (ps ++ more)) e k).log ≡ take i (log_at vs ps n)
 meets_before vs ps more e n k i up made in_mid in_log same =
     let m = moments vs ps more in
@@ -75,7 +121,8 @@ meets_before vs ps more e n k i up made in_mid in_log same =
 
 -- after it
 meets_after : (vs : Setup) (ps : List Event) (e : Event) (more : List Event) (n k i : ℕ) → ((run vs ps).nodes (actor e)).up ≡ true → Made vs (run vs ps) e k →
-    i ≤ length (midway vs (run vs ps) e k).log → i ≤ length (log_at vs (ps ++ e ∷ more) n) → term_at (midway vs (run vs ps) e k).log i ≡ term_at (log_at vs (ps ++ e ∷ more) n) i →
+    i ≤ length (midway vs (run vs ps) e k).log → i ≤ length (log_at vs (ps ++ e ∷ more) n) → term_at (midway vs (run vs ps) e k).log i ≡ term_at
+    (log_at vs (ps ++ e ∷ more) n) i →
     take i (midway vs (run vs ps) e k).log ≡ take i (log_at vs (ps ++ e ∷ more) n)
 meets_after vs ps e more n k i up made in_mid in_log same =
     let m = moments vs ps [] in
@@ -87,29 +134,46 @@ meets_after vs ps e more n k i up made in_mid in_log same =
 -- ---- the applied entries
 
 -- they are the front of a log at some moment, or none
-record Shown (vs : Setup) (es : List Event) : Type 0 where
-  past : List Event
-  rest : List Event
-  split : es ≡ past ++ rest
-  node : ℕ
-  size : ℕ
-  is : chosen vs es ≡ take size (log_at vs past node)
+pub record Shown (vs : Setup) (es : List Event) : Type 0 where
+  pub past : List Event
+  pub rest : List Event
+  pub split : es ≡ past ++ rest
+  pub node : ℕ
+  pub size : ℕ
+  pub is : chosen vs es ≡ take size (log_at vs past node)
 
-shown_from : (vs : Setup) (rest ps : List Event) → Shown vs ps → Shown vs (ps ++ rest)
+pub shown_from : (vs : Setup) (rest ps : List Event) → Shown vs ps → Shown vs (ps ++ rest)
 shown_from vs [] ps x = subst (Shown vs) (sym (append-nil ps)) x
 shown_from vs (e ∷ rest) ps x =
     let es = ps ++ e ∷ [] in
     subst (Shown vs) (append_assoc ps (e ∷ []) rest) (shown_from vs rest es (⊎_elim
-    (λ (y : chosen vs es ≡ chosen vs ps). record { past = x.past; rest = x.rest ++ e ∷ []; split = ap (λ l. l ++ e ∷ []) x.split ∙ append_assoc x.past x.rest (e ∷ []); node = x.node; size = x.size; is = y ∙ x.is })
-    (λ (y : (k : ℕ) × (chosen vs es ≡ take k (log_at vs es (actor e)))). record { past = es; rest = []; split = sym (append-nil es); node = actor e; size = y.0; is = y.1 })
+    (λ (y : chosen vs es ≡ chosen vs ps). record {
+      past = x.past;
+      rest = x.rest ++ e ∷ [];
+      split = ap (λ l. l ++ e ∷ []) x.split
+          ∙ append_assoc x.past x.rest (e ∷ []);
+      node = x.node;
+      size = x.size;
+      is = y ∙ x.is;
+    })
+    (λ (y : (k : ℕ) × (chosen vs es ≡ take k (log_at vs es (actor e)))). record {
+      past = es;
+      rest = [];
+      split = sym (append-nil es);
+      node = actor e;
+      size =
+          y.0;
+      is = y.1;
+    })
     (chosen_step vs ps e)))
 
-shown_first : (vs : Setup) → Shown vs []
+pub shown_first : (vs : Setup) → Shown vs []
 unfolding chosen
 shown_first vs = record { past = []; rest = []; split = refl; node = 0; size = 0; is = refl }
 
 -- one front of a list, and another
-fronts : (xs us ys ts : List Event) → xs ++ us ≡ ys ++ ts → ((d : List Event) × (xs ≡ ys ++ d)) ⊎ ((x : Event) × (d : List Event) × (ys ≡ xs ++ x ∷ d) × (us ≡ x ∷ (d ++ ts)))
+fronts : (xs us ys ts : List Event) → xs ++ us ≡ ys ++ ts → ((d : List Event) × (xs ≡ ys ++ d)) ⊎ ((x : Event) × (d : List Event) × (ys ≡ xs ++ x ∷ d) ×
+    (us ≡ x ∷ (d ++ ts)))
 fronts xs us [] ts e = inl (xs, refl)
 fronts [] us (y ∷ ys) ts e = inr (y, ys, refl, e)
 fronts (x ∷ xs) us (y ∷ ys) ts e =
@@ -117,7 +181,8 @@ fronts (x ∷ xs) us (y ∷ ys) ts e =
     let tail : xs ++ us ≡ ys ++ ts = cc in
     ⊎_elim
     (λ (r : (d : List Event) × (xs ≡ ys ++ d)). inl (r.0, ap (λ z. z ∷ xs) head ∙ ap (λ l. y ∷ l) r.1))
-    (λ (r : (z : Event) × (d : List Event) × (ys ≡ xs ++ z ∷ d) × (us ≡ z ∷ (d ++ ts))). inr (r.0, r.1, ap (λ l. y ∷ l) r.2 ∙ ap (λ z. z ∷ (xs ++ r.0 ∷ r.1)) (sym head), r.3))
+    (λ (r : (z : Event) × (d : List Event) × (ys ≡ xs ++ z ∷ d) × (us ≡ z ∷ (d ++ ts))). inr
+    (r.0, r.1, ap (λ l. y ∷ l) r.2 ∙ ap (λ z. z ∷ (xs ++ r.0 ∷ r.1)) (sym head), r.3))
     (fronts xs us ys ts tail)
 
 same_head : (x y : Event) (xs ys : List Event) → x ∷ xs ≡ y ∷ ys → x ≡ y
@@ -125,13 +190,16 @@ same_head x y xs ys e = cc
 
 -- what holds of the step and a log, if both have one term there
 abbrev Same : Setup → List Event → Event → ℕ → ℕ → List Entry → Type 0
-Same vs ps e k i log = ((run vs ps).nodes (actor e)).up ≡ true → Made vs (run vs ps) e k → i ≤ length (midway vs (run vs ps) e k).log → i ≤ length log → term_at (midway vs (run vs ps) e k).log i ≡ term_at log i → take i (midway vs (run vs ps) e k).log ≡ take i log
+Same vs ps e k i log = ((run vs ps).nodes (actor e)).up ≡ true → Made vs (run vs ps) e k → i ≤ length (midway vs (run vs ps) e k).log → i ≤ length log →
+    term_at (midway vs (run vs ps) e k).log i ≡ term_at log i → take i (midway vs (run vs ps) e k).log ≡ take i log
 
 before_so : (vs : Setup) (ps past d : List Event) → ps ≡ past ++ d → (e : Event) (n k i : ℕ) → Same vs ps e k i (log_at vs past n)
-before_so vs ps past d is e n k i = subst (λ l. Same vs l e k i (log_at vs past n)) (sym is) (λ up made in_mid in_log same. meets_before vs past d e n k i up made in_mid in_log same)
+before_so vs ps past d is e n k i = subst (λ l. Same vs l e k i (log_at vs past n)) (sym is)
+    (λ up made in_mid in_log same. meets_before vs past d e n k i up made in_mid in_log same)
 
 after_so : (vs : Setup) (ps : List Event) (e : Event) (past d : List Event) → past ≡ ps ++ e ∷ d → (n k i : ℕ) → Same vs ps e k i (log_at vs past n)
-after_so vs ps e past d is n k i = subst (λ l. Same vs ps e k i (log_at vs l n)) (sym is) (λ up made in_mid in_log same. meets_after vs ps e d n k i up made in_mid in_log same)
+after_so vs ps e past d is n k i = subst (λ l. Same vs ps e k i (log_at vs l n)) (sym is)
+    (λ up made in_mid in_log same. meets_after vs ps e d n k i up made in_mid in_log same)
 
 pub kept_agrees_holds : KeptAgrees
 kept_agrees_holds vs ps e rest k i up made in_mid in_chosen same =
