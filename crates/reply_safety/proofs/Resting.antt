@@ -3,7 +3,6 @@ use Rattle.std.proofs.Common.{◌≡◌, ℕ, suc, ◌+◌, ◌-◌, ◌≤◌, 
 use Rattle.std.specs.Prelude.{◌&&◌, not, is_none, Option, Some, None}
 use Rattle.std.proofs.lemmas.Bool.{cond_both, cases_Bool, and_parts, or_cases, or_parts}
 use Rattle.dq_base.specs.declared.images.Image.{Image}
-use Rattle.dq_base.specs.Images.{page_count}
 use Rattle.dq_base.specs.Changes.{changed}
 use Rattle.wire_msgs.specs.declared.request.Request.{Request}
 use Rattle.wire_rows.specs.Answering.{parts_of}
@@ -12,31 +11,29 @@ use Rattle.sql_engine.specs.declared.answer.StatementResult.{StatementResult}
 use Rattle.sql_engine.specs.Meanings.{Meaning, IsShort, reply_of as told_by_statement}
 use Rattle.sql_engine.specs.Replies.{Statement, Reply as StatementReply}
 use Rattle.sql_engine.specs.Runs.{RanAll}
-use Rattle.session_spec.specs.Asking.{Asked, Never, Tells, Sets, Opens, Creates, Prepares, Drops, Begins, Commits, RollsBack, Changes, Runs, Reads, asked, asked_by}
+use Rattle.session_spec.specs.Asking.{Asked, Begins, Commits, Runs, Reads, asked}
 use Rattle.session_spec.specs.Causes.{Cause, NotLeader, LogFull, DatabaseFull, Locked, engine_cause}
 use Rattle.session_spec.specs.Engines.{Answer, no_pages, takes, Ending, Lacking, TooLarge, Stopped, Ended, no_answer, AllowsAll, AllowsFor}
-use Rattle.session_spec.specs.Entries.{Content, Entry, entries_of}
-use Rattle.session_spec.specs.Limits.{other_holds, log_full, first_cause, change_refusal}
+use Rattle.session_spec.specs.Entries.{Entry, entries_of}
+use Rattle.session_spec.specs.Limits.{other_holds, log_full, change_refusal}
 use Rattle.session_spec.specs.Machine.{base_at, image_at}
-use Rattle.session_spec.specs.Requests.{with_tx, with_flight, with_later, begun, worked, flying, change_of, row_cause, rows_cause, rows_or, reply_of, outside_write, outside, inside, ground, run_in, job_of, job_reply, read_in, waits_first, barrier_first, has_nothing, committed, commit_in, does, on_request, handed_over, handed_for, handed, on_later, handed_later}
-use Rattle.session_spec.specs.Sessions.{Reply, Refusal, Single, Rows, result, Kind, Opening, Configuring, Writing, Committing, Querying, Flight, Lent, later_query, lent_query, Transaction, Session, Job, may_ask, Nothing, Began, Inside, Outside, Turned, Refused, Lacks, Answers, Proposes, Lends, Affects}
+use Rattle.session_spec.specs.Requests.{begun, worked, row_cause, rows_cause, rows_or, reply_of, outside_write, outside, inside, ground, run_in, job_reply, read_in, waits_first, barrier_first, has_nothing, committed, commit_in, does, on_request, handed_over, handed_for, handed, on_later, handed_later}
+use Rattle.session_spec.specs.Sessions.{Reply, Refusal, Rows, result, Transaction, Session, Job, may_ask, Began, Inside, Outside, Refused, Answers}
 use Rattle.session_spec.proofs.Images.{unchanged, changed_same}
 use Rattle.session_safety.specs.Nodes.{Node, Standing, databases, view_of, started}
-use Rattle.session_safety.specs.Life.{Event, Call, Resume, Done, undue, outcome_later, job_at, told_at, happens, run_from, Fits, AllowsLater, AllowsRead, AllFit}
-use Rattle.session_safety.specs.Laws.{Starts, life}
-use Rattle.session_safety.specs.Replies.{CommitOk}
+use Rattle.session_safety.specs.Life.{Event, Call, Resume, Done, undue, job_at, happens, run_from, Fits, AllowsLater, AllowsRead, AllFit}
 use Rattle.session_safety.proofs.Runs.{Led, last_reply, RunsOk, runs_ok}
 use Rattle.session_safety.proofs.Invariant.{Calm, TxIs, TxOk, NodeOk, free_later}
 use Rattle.session_safety.proofs.Files.{counts_between}
 use Rattle.session_safety.proofs.Wrotes.{block_for, wrote_commit}
-use Rattle.session_safety.proofs.Calls.{unless_ok, first_none, row_none, Unhindered, hindrance_none, One, calm_here}
-use Rattle.session_safety.proofs.Ways.{read_in_both, barrier_both, reads_both, later_both}
+use Rattle.session_safety.proofs.Calls.{unless_ok, first_none, row_none, hindrance_none, One, calm_here}
+use Rattle.session_safety.proofs.Ways.{read_in_both, barrier_both}
 use Rattle.session_safety.proofs.Moves.{no, undue_ok}
 use Rattle.session_safety.proofs.Laters.{undue_here, later_there}
 use Rattle.session_safety.proofs.Lives.{none_is, run_ok, started_ok}
 use Rattle.session_safety.proofs.Turns.{changes_take_turns}
 use Rattle.session_safety.proofs.Asks.{IsIdle, request_idle}
-use Rattle.reply_safety.specs.Resting.{IsLastReply, RanWithReply, newest_of, SameBeginning, AnswerRests, LeadsToImage, ProposalRests, StatementsRest, BeginRests, CommitRests, RestsRight, RequestsRest, LaterQueriesRest, ReaderRests, ReadersRest}
+use Rattle.reply_safety.specs.Resting.{IsLastReply, RanWithReply, newest_of, StatementsRest, BeginRests, CommitRests, RestsRight, RequestsRest, LaterQueriesRest, ReaderRests, ReadersRest}
 
 -- ---- replies
 

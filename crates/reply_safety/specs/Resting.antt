@@ -6,7 +6,7 @@ use Rattle.sql_engine.specs.declared.kind.EngineKind.{EngineKind}
 use Rattle.sql_engine.specs.Meanings.{Meaning, reply_of}
 use Rattle.sql_engine.specs.Replies.{Statement, Reply as StatementReply}
 use Rattle.sql_engine.specs.Runs.{RanAll}
-use Rattle.session_spec.specs.Asking.{Asked, Never, Tells, Sets, Opens, Creates, Prepares, Drops, Begins, Commits, RollsBack, Changes, Runs, Reads, asked}
+use Rattle.session_spec.specs.Asking.{Asked, Begins, Commits, Runs, Reads, asked}
 use Rattle.session_spec.specs.Engines.{Answer}
 use Rattle.session_spec.specs.Entries.{Content, Entry, entries_of}
 use Rattle.session_spec.specs.Machine.{base_at, image_at}
