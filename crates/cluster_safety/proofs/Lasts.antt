@@ -11,7 +11,8 @@ use Rattle.session_spec.specs.Seen.{log_seen}
 use Rattle.session_spec.specs.Restarts.{shifted_tx}
 use Rattle.session_spec.specs.Sessions.{is_busy, Gateway}
 use Rattle.session_safety.specs.Lending.{handed_on}
-use Rattle.session_safety.specs.Laws.{NoneComes, SeeEarlier}
+use Rattle.session_safety.specs.Laws.{NoneComes, SeeEarlier, EachTo, HadSeen}
+use Rattle.session_safety.proofs.Replying.{said_to_append}
 use Rattle.session_safety.specs.Life.{run_from as lives_on}
 use Rattle.session_safety.specs.Nodes.{Query, Said, Node as Life}
 use Rattle.session_safety.specs.Answering.{Handled, handled_in, said_to, ArePaired, IsOpen}
@@ -33,13 +34,13 @@ use Rattle.node_spec.specs.Nodes.{Node}
 use Rattle.node_spec.specs.Steps.{calls, ArePartOf}
 use Rattle.cluster_safety.specs.Runs.{Place, Up, Run, Goes, Event, spoken, with_place, happens, first_run, run_from, run, AllHold}
 use Rattle.cluster_safety.specs.Acts.{RunIs, asked, waits}
-use Rattle.cluster_safety.specs.Laws.{applied, SafeRun, InTime, RunsAnswer, HasAll, FirstIs, RunsLast}
+use Rattle.cluster_safety.specs.Laws.{applied, SafeRun, InTime, RunsAnswer, HasAll, FirstIs, RunsLast, spoken_in, said_at}
 use Rattle.cluster_safety.proofs.Fresh.{QueryNew, lives, begins_quiet}
 use Rattle.cluster_safety.proofs.Letters.{causes}
 use Rattle.cluster_safety.proofs.Parts.{part_trans, part_less, handled_called}
 use Rattle.cluster_safety.proofs.Runs.{goes, said_more, runs_make_acts_hold}
 use Rattle.cluster_safety.proofs.Safes.{log_is, up_at, applied_is, run_is_safe}
-use Rattle.cluster_safety.proofs.Speaks.{speaks_on}
+use Rattle.cluster_safety.proofs.Speaks.{speaks_on, newly, told_at, told_in, told_newly}
 
 pub run_join : (r : Run) (xs ys : List Event) → run_from r (xs ++ ys) ≡ run_from (run_from r xs) ys
 run_join r [] ys = refl
@@ -65,6 +66,25 @@ chosen_grows vs acts more =
     let rest = drop (length (chosen vs es)) (chosen vs (es ++ r.0)) in
     let whole : chosen_seen vs (cluster vs (acts ++ more)) ≡ log_seen (chosen vs es) ++ log_seen rest = ap (λ l. log_seen (chosen vs l)) r.1 ∙ ap log_seen (more_chosen vs es r.0) ∙ seen_append (chosen vs es) rest in
     ap (take (length (log_seen (chosen vs es)))) whole ∙ take_at (log_seen (chosen vs es)) (log_seen rest) (length (log_seen (chosen vs es))) refl
+
+-- ---- fronts of accounts
+
+each_front : (conn : ℕ) (P : Said → Type 0) (xs ys : List Said) → EachTo conn P (xs ++ ys) → EachTo conn P xs
+each_front conn P [] ys h = tt
+each_front conn P (x ∷ xs) ys h = (h.0, each_front conn P xs ys h.1)
+
+see_front : (conn : ℕ) (xs ys : List Said) → SeeEarlier conn (xs ++ ys) → SeeEarlier conn xs
+see_front conn [] ys h = tt
+see_front conn (x ∷ xs) ys h = (λ e. each_front conn (λ y. HadSeen x y.query) xs ys (h.0 e), see_front conn xs ys h.1)
+
+first_front : (P : Said → Type 0) (xs ys : List Said) → FirstIs P (xs ++ ys) → FirstIs P xs
+first_front P [] ys h = tt
+first_front P (x ∷ xs) ys h = h
+
+paired_front : (xs ys : List Said) (hs owed : List Handled) → ArePaired (xs ++ ys) hs owed → (yet : List Handled) × ArePaired xs hs yet
+paired_front [] ys hs owed h = (hs, refl)
+paired_front (x ∷ xs) ys [] owed h = absurd h
+paired_front (x ∷ xs) ys (k ∷ hs) owed h = let r = paired_front xs ys hs owed h.1 in (r.0, (h.0, r.1))
 
 module _ (mean : Meaning) (kind : EngineKind) where
   pub hold_parts : (vs : Setup) (r : Run) (xs ys : List Event) → AllHold mean kind vs r (xs ++ ys) →
@@ -206,6 +226,7 @@ module _ (mean : Meaning) (kind : EngineKind) where
         still = subst (λ z. SafeRun mean vs z (chosen_seen vs d) d.said) (sym same) (run_is_safe mean kind vs q (acts ++ later) y.on.is);
         grows = chosen_grows vs acts later;
         stays = replies_stay_hold vs acts later;
+        tells = λ n. told_at n (spoken_in more) (newly vs acts later) (told_newly mean kind vs r q acts later more x.1 y.on.is refl) ∙ told_in n more;
         flights = λ n conn v f e flight writes i term name pages pos there.
             let st = up_at mean kind vs r acts n v e x.1 in
             let in_life : ((c.lives n).gate.session conn).flight ≡ Some f = ap (λ (g : Gateway). (g.session conn).flight) st.sessions ∙ flight in
@@ -231,13 +252,16 @@ module _ (mean : Meaning) (kind : EngineKind) where
             (ap (λ (z : Gateway). (z.session conn).tx) st.sessions ∙ ap (option_map (shifted_tx st.lacks)) asks.outside)
             (ap (λ (z : Gateway). (z.session conn).barriers) st.sessions ∙ asks.barriers) in
             let one : k.more ≡ s.0 = sym (drop-append_seam w k.more) ∙ ap (drop (length w)) (sym k.said ∙ s.1) ∙ drop-append_seam w s.0 in
-            record { more = k.more; rest = k.rest; are = k.are; first = subst (λ l. FirstIs (λ z. HasAll c.said z.query) (said_to conn l)) (sym one) s.2 };
+            let own = said_at n (spoken_in more) (newly vs acts later) in
+            first_front (λ z. HasAll c.said z.query) (said_to conn own) (said_to conn k.own)
+            (subst (FirstIs (λ z. HasAll c.said z.query)) (ap (said_to conn) k.mine ∙ said_to_append conn own k.own)
+            (subst (λ l. FirstIs (λ z. HasAll c.said z.query) (said_to conn l)) (sym one) s.2));
         sees = λ n conn starts joins.
             let s = clusters_see_hold mean kind vs acts later n conn fit (y.on.starts n starts) (y.on.comes n conn joins) in
             let k = y.speaks n starts in
             let w = (c.lives n).said in
             let one : k.more ≡ s.more = sym (drop-append_seam w k.more) ∙ ap (drop (length w)) (sym k.said ∙ s.said) ∙ drop-append_seam w s.more in
-            record { more = k.more; rest = k.rest; are = k.are; see = subst (SeeEarlier conn) (sym one) s.see };
+            see_front conn (said_at n (spoken_in more) (newly vs acts later)) k.own (subst (SeeEarlier conn) (sym one ∙ k.mine) s.see);
         answers = λ n conn v u e g starts joins free is_open.
             let st = up_at mean kind vs r acts n v e x.1 in
             let g_at : q.places n ≡ Up u = ap (λ (z : Run). z.places n) (sym same) ∙ g in
@@ -253,5 +277,9 @@ module _ (mean : Meaning) (kind : EngineKind) where
             let asks : ArePartOf (map (λ (h : Handled). h.request) (handled_in conn (c.lives n) doings)) (v.waiting conn ++ asked n conn more) =
             part_trans (v.waiting conn ++ asked n conn more) (calls conn doings) (map (λ (h : Handled). h.request) (handled_in conn (c.lives n) doings)) (handled_called conn (c.lives n) doings)
             (subst (λ (z : Place). ArePartOf (calls conn doings) (waits z conn ++ asked n conn more)) e (part_less (calls conn doings) (waits (q.places n) conn) (waits (r.places n) conn ++ asked n conn more) (y.on.handles n conn))) in
-            record { more = k.more; rest = k.rest; are = k.are; handled = handled_in conn (c.lives n) doings; asked_so = asks; owed_yet = to.owed; paired = subst (λ l. ArePaired (said_to conn l) (handled_in conn (c.lives n) doings) to.owed) (sym one) to.paired };
+            let own = said_at n (spoken_in more) (newly vs acts later) in
+            let pairs = paired_front (said_to conn own) (said_to conn k.own) (handled_in conn (c.lives n) doings) to.owed
+            (subst (λ l. ArePaired l (handled_in conn (c.lives n) doings) to.owed) (ap (said_to conn) (sym one ∙ k.mine)
+            ∙ said_to_append conn own k.own) to.paired) in
+            record { handled = handled_in conn (c.lives n) doings; asked_so = asks; owed_yet = pairs.0; paired = pairs.1 };
       }

@@ -22,7 +22,7 @@ use Rattle.raft_safety.specs.Members.{Setup, configuration}
 use Rattle.cluster_model.specs.Laws.{AllBelow}
 use Rattle.node_spec.specs.Nodes.{Node, SnapshotOf}
 use Rattle.node_spec.specs.Steps.{Letter, ArePartOf, told}
-use Rattle.cluster_safety.specs.Runs.{Up, Run, Comes, Goes, Fails, Crashes, Starts, StartFails, Event, joins_in, asks_in, kept_at, first_run, run, AllHold}
+use Rattle.cluster_safety.specs.Runs.{Up, Run, Spoken, spoken, Comes, Goes, Fails, Crashes, Starts, StartFails, Event, joins_in, asks_in, kept_at, first_run, run, AllHold}
 use Rattle.cluster_safety.specs.Acts.{spoken_to, NotStarted, NotJoined, asked}
 
 -- Two machines have the same databases; their counts may differ.
@@ -167,22 +167,34 @@ replies_in n (Crashes k ∷ events) = replies_in n events
 replies_in n (Starts k servers new ∷ events) = replies_in n events
 replies_in n (StartFails k kept ∷ events) = replies_in n events
 
--- The replies of a node to a connection, from where it came: queries of later ones had seen what the earlier ones rest on.
-pub record SeesOn (conn : ℕ) (replies : List (ℕ × Reply)) : Type 0 where
-  pub more : List Said
-  pub rest : List (ℕ × Reply)
-  pub are : map told more ≡ replies ++ rest
-  pub see : SeeEarlier conn more
+-- All replies in these events, each with its node and its connection.
+abbrev pub spoken_by : Event → List Spoken
+spoken_by (Goes k came added new letters replies jobs) = map (spoken k) replies
+spoken_by (Fails k came added kept) = []
+spoken_by (Crashes k) = []
+spoken_by (Starts k servers new) = []
+spoken_by (StartFails k kept) = []
 
--- The replies of a node to a connection are those to what it asked, one by one, each with what that request asked.
-pub record RepliesOn (conn : ℕ) (asked : List Request) (replies : List (ℕ × Reply)) : Type 0 where
-  pub more : List Said
-  pub rest : List (ℕ × Reply)
-  pub are : map told more ≡ replies ++ rest
+abbrev pub spoken_in : List Event → List Spoken
+spoken_in [] = []
+spoken_in (e ∷ events) = spoken_by e ++ spoken_in events
+
+-- The part of an account that is about a node. An account has one item for each reply, in the same order.
+abbrev pub said_at : ℕ → List Spoken → List Said → List Said
+said_at n [] xs = []
+said_at n (s ∷ ss) [] = []
+said_at n (s ∷ ss) (x ∷ xs) = cond (s.node == n) (x ∷ []) [] ++ said_at n ss xs
+
+-- What the account `all` has of a node's replies in these events, if `said` is the account of the replies before.
+abbrev pub news : List Event → List Said → List Said → ℕ → List Said
+news more said all n = said_at n (spoken_in more) (drop (length said) all)
+
+-- The replies to a connection are those to what it asked, one by one, each with what that request asked.
+pub record AreRepliesTo (conn : ℕ) (asked : List Request) (xs : List Said) : Type 0 where
   pub handled : List Handled
   pub asked_so : ArePartOf (map (λ (h : Handled). h.request) handled) asked
   pub owed_yet : List Handled
-  pub paired : ArePaired (said_to conn more) handled owed_yet
+  pub paired : ArePaired (said_to conn xs) handled owed_yet
 
 -- The session asks for barrier reads, has no transaction open, and is owed no reply.
 pub record AsksFirst (s : Session) : Type 0 where
@@ -199,14 +211,7 @@ abbrev pub FirstIs : (Said → Type 0) → List Said → Type 0
 FirstIs P [] = Unit {0}
 FirstIs P (x ∷ xs) = P x
 
--- Of the replies of a node to a connection the first one, if it tells rows, read an image that has all of these.
-pub record ReadsNew (conn : ℕ) (answered : List Said) (replies : List (ℕ × Reply)) : Type 0 where
-  pub more : List Said
-  pub rest : List (ℕ × Reply)
-  pub are : map told more ≡ replies ++ rest
-  pub first : FirstIs (λ x. HasAll answered x.query) (said_to conn more)
-
--- A run at a moment and at a later one.
+-- A run at a moment and at a later one. There is one account of its replies, `all`. What is said of a node's replies is said of its part.
 pub record SafeLater (m : Meaning) (setup : Setup) (events more : List Event) : Type 0 where
   pub chosen : List Line
   pub said : List Said
@@ -217,6 +222,8 @@ pub record SafeLater (m : Meaning) (setup : Setup) (events more : List Event) : 
   -- what was chosen stays, and what was said
   pub grows : take (length chosen) later ≡ chosen
   pub stays : take (length said) all ≡ said
+  -- its part about a node has the node's replies in these events
+  pub tells : (n : ℕ) → map told (news more said all n) ≡ replies_in n more
   -- a write that was in flight at a node that is up: where the list has a commit of its transaction later, that is its last
   -- entry, and it stands whole and is right
   pub flights : (n conn : ℕ) (v : Node) (f : Flight) → (run events).places n ≡ Up v → (v.sessions.session conn).flight ≡ Some f → is_write f.kind ≡ true →
@@ -228,12 +235,13 @@ pub record SafeLater (m : Meaning) (setup : Setup) (events more : List Event) : 
   -- of an image that has all that any node had answered by then; so a query that waits for a barrier shows every commit that was
   -- answered before it was asked
   pub fresh : (n conn : ℕ) (v u : Node) → (run events).places n ≡ Up v → (run (events ++ more)).places n ≡ Up u → NotStarted n more → NotJoined n conn more →
-      v.raft.role ≡ Leader → u.raft.role ≡ Leader → u.raft.term ≡ v.raft.term → AsksFirst (v.sessions.session conn) → ReadsNew conn said (replies_in n more)
+      v.raft.role ≡ Leader → u.raft.role ≡ Leader → u.raft.term ≡ v.raft.term → AsksFirst (v.sessions.session conn) →
+      FirstIs (λ x. HasAll said x.query) (said_to conn (news more said all n))
   -- a connection of a node that isn't started meanwhile sees what it has seen
-  pub sees : (n conn : ℕ) → NotStarted n more → NotJoined n conn more → SeesOn conn (replies_in n more)
+  pub sees : (n conn : ℕ) → NotStarted n more → NotJoined n conn more → SeeEarlier conn (news more said all n)
   -- and its replies are those to its requests, from where it was owed none
   pub answers : (n conn : ℕ) (v u : Node) → (run events).places n ≡ Up v → (run (events ++ more)).places n ≡ Up u → NotStarted n more → NotJoined n conn more → is_busy (v.sessions.session conn) ≡ false → IsOpen (u.sessions.session conn) →
-      RepliesOn conn (v.waiting conn ++ asked n conn more) (replies_in n more)
+      AreRepliesTo conn (v.waiting conn ++ asked n conn more) (news more said all n)
 
 abbrev pub RunsLast : Meaning → EngineKind → Type 0
 RunsLast m kind = (setup : Setup) (events more : List Event) → AllHold m kind setup first_run (events ++ more) → SafeLater m setup events more

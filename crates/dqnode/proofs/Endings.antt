@@ -19,6 +19,7 @@ use Rattle.script_safety.proofs.Scripts.{loads_never_fail_hold, scripts_are_safe
 use Rattle.script_whole_nodes.specs.Safe.{AreOfNodes, IsFairTo}
 use Rattle.script_whole_nodes.specs.Turns.{Knows}
 use Rattle.script_whole_nodes.proofs.Guarding.{places_tell}
+use Rattle.script_falls.proofs.Falls.{unfallen_fair}
 use Rattle.dqnode.specs.Program.{SafeTurns, Gives, BreaksOff, RunsSafely, RunsAreSafe}
 use Rattle.dqnode.specs.Status.{status_for, OutcomeEnds, ScriptEnds}
 
@@ -43,6 +44,7 @@ safe_turns kind script outcomes turns rest over e nodes =
       safe = safe;
       later = λ early middle late parts fair. stays_safe kind nodes.voters early middle (safe (early ++ middle) late parts fair);
       answers = λ early late parts fair. scripts_are_complete_hold (any_meaning kind) kind (setup_of nodes.voters) early (safe early late parts fair);
+      unfallen = unfallen_fair kind nodes.voters turns nodes.lives;
       loads = λ fair last.
           loads_never_fail_hold (any_meaning kind) kind (setup_of nodes.voters) script outcomes turns rest over (sym (run_twin script outcomes).turns_are ∙ e)
           (nodes.by_nodes turns [] (sym (append-nil turns)) fair) (nodes.by_last last);

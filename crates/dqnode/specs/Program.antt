@@ -8,6 +8,7 @@ use Rattle.script_cluster.specs.Knowing.{outcomes_in, outcomes_over, with_over}
 use Rattle.script_cluster.specs.Outcomes.{Outcome, Item, Turn}
 use Rattle.script_cluster.specs.Run.{Fault}
 use Rattle.script_whole_nodes.specs.Safe.{AreOfNodes, IsFairOver, IsFairTo}
+use Rattle.script_falls.specs.Falls.{NoneFalls}
 use Rattle.script_runner.specs.Ending.{MayFollow, BeginWith, IsBeside}
 use Rattle.script_runner.specs.Run.{run, printed}
 use Rattle.script_safety.specs.Complete.{IsComplete}
@@ -34,6 +35,8 @@ pub record SafeTurns (kind : EngineKind) (turns : List Turn) : Type 0 where
       → IsSafeLater (any_meaning kind) kind (setup_of nodes.voters) early middle
   pub answers : (early late : List Turn) (parts : turns ≡ early ++ late) (fair : IsFairTo kind nodes.voters turns nodes.lives early)
       → IsComplete (any_meaning kind) kind (setup_of nodes.voters) early (safe early late parts fair)
+  -- none does up to the first turn in which a call of a disk stops or fails, or a start finds files that do not load
+  pub unfallen : (early late : List Turn) → turns ≡ early ++ late → NoneFalls early → IsFairTo kind nodes.voters turns nodes.lives early
   pub loads : IsFairTo kind nodes.voters turns nodes.lives turns → IsFairOver kind nodes.voters turns over nodes.last → AllLoad (with_over turns over)
 
 -- ---- what a script gives

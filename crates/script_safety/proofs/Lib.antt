@@ -5,8 +5,8 @@ pub mod Running
 pub mod Placing
 mod Worlds
 pub mod Scripts
-mod Contents
-mod Showing
+pub mod Contents
+pub mod Showing
 mod Bringing
 mod Brought
 pub mod Completing

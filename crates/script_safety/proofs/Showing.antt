@@ -23,13 +23,13 @@ use Rattle.script_safety.proofs.Contents.{same_contents}
 use Rattle.script_safety.proofs.Running.{run_on, runs_hold_hold}
 
 -- a place where a node stands so
-record Stood (place : Place) (a : Standing) : Type 0 where
+pub record Stood (place : Place) (a : Standing) : Type 0 where
   pub node : Node
   pub up : place ≡ Up node
   pub so : SlotShowsNode node a
 
 -- it does, where a standing is known
-abbrev IsShown : Place → Option Standing → Type 0
+abbrev pub IsShown : Place → Option Standing → Type 0
 IsShown place None = Unit {0}
 IsShown place (Some a) = Stood place a
 
@@ -52,14 +52,14 @@ module _ (m : Meaning) (kind : EngineKind) (setup : Setup) where
       subst (λ p. IsShown p (standing_in turn)) (sym (ap (run_from r one.leads.events).places (sym same) ∙ one.leads.here)) (turn_shown turn one.place one.letters one.replies _ one.shows)
   one_shown r turn one n o h false e = subst (λ p. IsShown p o) (sym (one.leads.others n (λ z. eqb-false (actor turn) n e (sym z))).0) h
 
-  all_shown : (turns : List Turn) (r : Run) (is : AreRun m kind setup r turns) (n : ℕ) (o : Option Standing) → IsShown (r.places n) o → IsShown ((run_from r (events_of m kind setup r turns is)).places n) (stands_from n o turns)
+  pub all_shown : (turns : List Turn) (r : Run) (is : AreRun m kind setup r turns) (n : ℕ) (o : Option Standing) → IsShown (r.places n) o → IsShown ((run_from r (events_of m kind setup r turns is)).places n) (stands_from n o turns)
   all_shown [] r is n o h = h
   all_shown (turn ∷ turns) r is n o h =
       let q = run_from r is.0.leads.events in
       let rest = events_of m kind setup q turns is.1 in
       subst (λ (z : Run). IsShown (z.places n) (stands_from n (cond (actor turn == n) (standing_in turn) o) turns)) (sym (run_on m kind setup is.0.leads.events rest r)) (all_shown turns q is.1 n (cond (actor turn == n) (standing_in turn) o) (one_shown r turn is.0 n o h (actor turn == n) refl))
 
-  known : (place : Place) (o : Option Standing) (a : Standing) → o ≡ Some a → IsShown place o → Stood place a
+  pub known : (place : Place) (o : Option Standing) (a : Standing) → o ≡ Some a → IsShown place o → Stood place a
   known place o a e h = subst (IsShown place) e h
 
 module _ (m : Meaning) (kind : EngineKind) where

@@ -1,0 +1,16 @@
+//! When a torn block of metadata has a valid checksum by chance. Nothing here runs: each law is the promise of an empty
+//! function.
+#![tactic(auto)]
+
+ghost use Rattle.store_chance.specs.Chance.{PicksLeaveThree, ChecksSuffice, ChecksAreChance, AcrossIsUnfair};
+
+/// After a crash in the write of a block of metadata over an older one, a disk in memory has the old block, the new one
+/// or their torn one. If a check of what is found says no, no metadata was found by chance. It says yes only if the old
+/// block's sum is that of the torn block. The premise that no batch reads by chance can be false without any chance, at
+/// a place that no load looks at.
+pub fn torn_metadata()
+    ensures three { PicksLeaveThree }
+    ensures suffices { ChecksSuffice }
+    ensures chance { ChecksAreChance }
+    ensures across { AcrossIsUnfair }
+{}
