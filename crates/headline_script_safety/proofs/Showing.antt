@@ -1,6 +1,6 @@
 -- How nodes are shown after the first turns of a script.
-use Rattle.std.proofs.Common.{◌≡◌, ℕ, ◌≤◌, List, [], ◌∷◌, ◌++◌, length, map, take, refl, sym, ap, ◌∙◌, subst, arith, append_assoc}
-use Rattle.std.specs.Prelude.{Some, None}
+use Rattle.std.proofs.Common.{◌≡◌, ℕ, ◌≤◌, List, [], ◌∷◌, ◌++◌, length, take, refl, sym, ap, ◌∙◌, subst, arith, append_assoc}
+use Rattle.std.specs.Prelude.{None}
 use Rattle.std.proofs.lemmas.List.{length-take, take-take}
 use Rattle.sql_engine.specs.declared.kind.EngineKind.{EngineKind}
 use Rattle.sql_engine.specs.Meanings.{Meaning}
@@ -11,24 +11,22 @@ use Rattle.database_state.specs.Files.{Content}
 use Rattle.database_state.specs.Machines.{names_of}
 use Rattle.session_spec.specs.Entries.{Entry as Line}
 use Rattle.session_spec.specs.Machine.{Machine, machine_of, files}
-use Rattle.session_safety.specs.Nodes.{Said}
 use Rattle.raft_safety.specs.Laws.{node_at}
 use Rattle.raft_safety.specs.Members.{Setup}
 use Rattle.cluster_model.specs.Clusters.{cluster}
 use Rattle.cluster_safety.specs.Acts.{PlaceIs}
-use Rattle.cluster_safety.specs.Laws.{SameFiles, applied}
-use Rattle.cluster_safety.specs.Runs.{Place, Up, Run, Event, first_run, run, run_from}
+use Rattle.cluster_safety.specs.Laws.{SameFiles}
+use Rattle.cluster_safety.specs.Runs.{Up, Run, Event, first_run, run, run_from}
 use Rattle.script_cluster.specs.Outcomes.{Standing, Turn}
 use Rattle.script_safety.specs.Showing.{stands}
 use Rattle.script_safety.specs.Turns.{AreRun, events_of}
 use Rattle.script_safety.proofs.Contents.{same_contents}
 use Rattle.script_safety.proofs.Running.{runs_hold_hold}
-use Rattle.script_safety.proofs.Showing.{Stood, all_shown, known}
-use Rattle.headline.specs.Headline.{Change, image_in, shown_image}
-use Rattle.change_safety.specs.Changes.{new_image, changes_of, changes_at}
-use Rattle.headline_safety.proofs.Moments.{Moment, Moments, moments_of}
+use Rattle.script_safety.proofs.Showing.{all_shown, known}
+use Rattle.headline.specs.Headline.{shown_image}
+use Rattle.headline_safety.proofs.Moments.{Moments, moments_of}
 use Rattle.headline_safety.proofs.Shown.{shows_by}
-use Rattle.headline_script_safety.specs.Showing.{IsShownAt, ShowsOneList, ScriptsShowChanges}
+use Rattle.headline_script_safety.specs.Showing.{IsShownAt, ScriptsShowChanges}
 
 same_files : (a b c : Machine) → SameFiles a c → SameFiles b c → SameFiles a b
 same_files a b c x y = record {
