@@ -351,27 +351,27 @@ fn summed(engine: &mut SqliteEngine, image: &Image) -> Result<StatementResult, E
     answer(engine, image, "SELECT count(*), max(b) FROM t", &[], 2)
 }
 
-/// Whether another engine that opens the image of a chain of statements finds the rows that the engine of the chain has, and how many
-/// openings this one tried in all.
-fn chained(alloc: Global, length: i64) -> Result<(bool, u64), Fail> {
+/// Whether another engine that opens the image of a chain of statements, from number 100 up to before `end`, finds the rows that the
+/// engine of the chain has; and how many openings the engine of the chain tried in all.
+fn chained(alloc: Global, end: i64) -> Result<(bool, u64), Fail> {
     let mut database = filled(alloc)?;
-    for number in 100..100 + length {
+    for number in 100..end {
         go_on(&mut database, alloc, number)?;
     }
-    let mut anew = database.engine.fork()?;
+    let mut fresh = database.engine.fork()?;
     let own = summed(&mut database.engine, &database.image)?;
-    let other = summed(&mut anew, &database.image)?;
+    let other = summed(&mut fresh, &database.image)?;
     let is_same = row_of(&own).is_some() && row_of(&own) == row_of(&other);
     Ok((is_same, database.engine.openings()))
 }
 
 #[test]
 fn touched_pages_lead_along_a_chain_of_statements(rt: HostRuntime) -> Result<(), Fail> {
-    for length in [1, 7, 60] {
+    for end in [101, 107, 160] {
         assert_eq!(rt;
-            chained(rt.alloc(), length)?,
+            chained(rt.alloc(), end)?,
             (true, 1),
-            "{length} statements"
+            "up to statement {end}"
         );
     }
     Ok(())
