@@ -1,0 +1,16 @@
+//! What a client knows of its connection is what its session has. Nothing here runs: each law is the promise of an empty
+//! function.
+#![tactic(auto)]
+
+ghost use Rattle.client_view_safety.specs.Views.{AnswersKeepViews, RequestsAskPurposes};
+
+/// If a client knows its session, then the node does for a request what the headline says that the request asks for, or
+/// refuses it.
+pub fn requests_ask_purposes()
+    ensures { RequestsAskPurposes }
+{}
+
+/// If a client knows its session, then it knows the session after each request that is answered at once, by the answer.
+pub fn answers_keep_views()
+    ensures { AnswersKeepViews }
+{}
