@@ -55,7 +55,8 @@ module _ (m : Machine) where
 
   -- ---- statements
 
-  kind_asked : (o : Option Cause) (active : Bool) (word : WordKind) (s : Statement) → IsAskedFor m (kind_purpose (not active) word s) (asks_kind o active word s)
+  kind_asked : (o : Option Cause) (active : Bool) (word : WordKind) (s : Statement) →
+      IsAskedFor m (kind_purpose (not active) word s) (asks_kind o active word s)
   kind_asked o true (words.Begin at_once) s = tt
   kind_asked o false (words.Begin at_once) s = refl
   kind_asked o true words.Commit s = refl

@@ -107,7 +107,8 @@ prepare_needs sql wide (Err fault) = tt
 
 request_needs : (s : Client) (r : Request) → NeedsDatabase (has_database s) (request_purpose s r)
 request_needs s (requests.Open name flags vfs) = open_needs (has_database s) (not (is_name name)) name (barriers_asked flags)
-request_needs s (requests.Prepare db sql wide) = in_needs (has_database s) (db == 0) (prepare_purpose sql wide (scan_of sql)) (prepare_needs sql wide (scan_of sql))
+request_needs s (requests.Prepare db sql wide) = in_needs (has_database s) (db == 0) (prepare_purpose sql wide (scan_of sql))
+    (prepare_needs sql wide (scan_of sql))
 request_needs s (requests.ExecSql db sql params wide) = in_needs (has_database s) (db == 0) (text_purpose s sql (scan_of sql) params)
     (text_needs s sql (scan_of sql) params)
 request_needs s (requests.QuerySql db sql params wide) = in_needs (has_database s) (db == 0) (query_text_purpose sql (scan_of sql) params)

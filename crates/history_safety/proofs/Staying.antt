@@ -134,7 +134,8 @@ module _ (m : Meaning) (h : List Observation) (x : HoldsOfAll m h) where
 
   run_at : (conn place : ℕ) → IsRunIfAny m h x (client_at h conn place).name (client_at h conn place).transaction
   run_at conn place = along h conn (λ s. IsRunIfAny m h x s.name s.transaction)
-      (λ node p q request answer reply was. answer_run (client_at h conn p) p request answer (refused answer) (x.right node conn p q request answer reply).0 was)
+      (λ node p q request answer reply was.
+      answer_run (client_at h conn p) p request answer (refused answer) (x.right node conn p q request answer reply).0 was)
       tt place
 
   -- ---- changes

@@ -29,6 +29,9 @@ none_more [] (suc k) e = refl
 none_more (y ∷ xs) zero e = absurd cc
 none_more (y ∷ xs) (suc k) e = ap (λ ys. y ∷ ys) (none_more xs k e)
 
+sum_zero : (n : ℕ) → n ≡ n + 0
+sum_zero n = omega arith
+
 same_pair : (x y : ℕ × Option Request) → Some x ≡ Some y → x ≡ y
 same_pair x y e = cc
 
@@ -70,7 +73,7 @@ one_ask node c q h conn first zero place request own same e rest =
     record {
       at = 0;
       node = node;
-      sum = omega (arith, u);
+      sum = sym u ∙ sum_zero first;
       is = ap (λ r. Some (Asks node c r)) v ∙ ap (λ n. Some (Asks node n request)) own;
       front = refl;
     }
@@ -185,7 +188,8 @@ module _ (h : List Observation) (conn : ℕ) (Q : Client → Type 0)
     (each : (node place answered : ℕ) (request : Option Request) (answer : List Response) → IsReply h node conn place answered request answer →
     Q (client_at h conn place) → Q (after_answer (client_at h conn place) place request answer (refused answer))) where
   -- the message and the answer of the same number
-  paired : (last k : ℕ) (x : ℕ × Option Request) (a : List Response) → slice_get (asked_before conn last h) k ≡ Some x → slice_get (answers_on conn h) k ≡ Some a →
+  paired : (last k : ℕ) (x : ℕ × Option Request) (a : List Response) → slice_get (asked_before conn last h) k ≡ Some x →
+      slice_get (answers_on conn h) k ≡ Some a →
       Q (client_after new_client (take k (asked_before conn last h)) (answers_on conn h)) →
       Q (after_answer (client_after new_client (take k (asked_before conn last h)) (answers_on conn h)) x.0 x.1 a (refused a))
   paired last k x a e f q =

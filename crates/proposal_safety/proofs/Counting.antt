@@ -65,7 +65,8 @@ inside_once m g c s x ss rows (TooLarge answer) = unless_ok _ (Refused DatabaseF
 inside_once m g c s x ss rows (Stopped fault) = tt
 inside_once m g c s x ss rows (Ended to answer) =
     cond_both (no_pages (changed x.working to)) _ _ ProposesOneIfAny
-    (λ p. unless_ok (row_cause rows answer None) (Answers (worked s x to x.turn) (reply_of rows answer) (Inside x.name ss)) ProposesOneIfAny (λ why. tt) (λ e. tt))
+    (λ p. unless_ok (row_cause rows answer None) (Answers (worked s x to x.turn) (reply_of rows answer) (Inside x.name ss)) ProposesOneIfAny
+    (λ why. tt) (λ e. tt))
     (λ p. unless_ok (row_cause rows answer (change_refusal m g c x.name x.mark (changed x.working to) to))
     (Answers (worked s x to true) (reply_of rows answer) (Inside x.name ss)) ProposesOneIfAny (λ why. tt) (λ e. tt))
 

@@ -133,7 +133,8 @@ landed_here c t f (Writing reply) rest pos r =
 landed_here c t f Committing rest pos r = one_here c (result 0) None (Some (commit_of f t.ran)) None f.last f.term rest tt
 landed_here c t f (Querying statement) rest pos r = absurd (omega (arith, pos))
 
-applied_here : (c index : ℕ) (trail : ℕ → Trail) (session : ℕ → Session) (cs : List ℕ) (f : Flight) → among cs c ≡ true → 0 < kind_count f.kind → HasReply f.kind →
+applied_here : (c index : ℕ) (trail : ℕ → Trail) (session : ℕ → Session) (cs : List ℕ) (f : Flight) → among cs c ≡ true →
+    0 < kind_count f.kind → HasReply f.kind →
     said_by index c (trail c) (session c).hung (session c).flight ≡ said_landed c (trail c) f f.kind →
     HasAnswer c (said_applied index trail session cs)
 applied_here c index trail session [] f e pos r own = absurd (true≢false (sym e))
@@ -208,13 +209,15 @@ module _ (c : ℕ) (f : Flight) (pos : 0 < kind_count f.kind) (reply : HasReply 
   effect_same g (Weighs weight) = refl
 
   other_called : (w : Node) (d : ℕ) (t : Turned) → d ≢ c → IsHeld (w.gate.session c) → IsNext w (called w d t)
-  other_called w d (Refused cause) n h = quiet w (called w d (Refused cause)) (tells d (Refusal cause) ∷ []) refl (to_other c (tells d (Refusal cause)) [] n) refl h
+  other_called w d (Refused cause) n h = quiet w (called w d (Refused cause)) (tells d (Refusal cause) ∷ []) refl
+      (to_other c (tells d (Refusal cause)) [] n) refl h
   other_called w d Lacks n h = silent w w refl refl h
   other_called w d (Answers s r note) n h =
       quiet w (called w d (Answers s r note)) _ refl (one_other c d r (query_by w.applied (w.trail d) r note) None None 0 0 n) (with_same w.gate d s n) h
   other_called w d (Proposes s contents note) n h = silent w (called w d (Proposes s contents note)) refl (with_same w.gate d s n) h
   other_called w d (Lends s job) n h = silent w (called w d (Lends s job)) refl (with_same w.gate d s n) h
-  other_called w d (Affects effect) n h = quiet w (called w d (Affects effect)) (tells d empty ∷ []) refl (to_other c (tells d empty) [] n) (effect_same w.gate effect) h
+  other_called w d (Affects effect) n h = quiet w (called w d (Affects effect)) (tells d empty ∷ []) refl
+      (to_other c (tells d empty) [] n) (effect_same w.gate effect) h
 
   call_next : (w : Node) (d : ℕ) (t : Turned) → IsHeld (w.gate.session c) → IsNext w (cond (may_ask (w.gate.session d)) (called w d t) w)
   call_next w d t h = ⊎_elim
