@@ -1,4 +1,4 @@
--- After an answer at once the client knows the session that is left.
+-- After an answer the client knows the session that is left.
 use Rattle.std.proofs.Common.{◌≡◌, ℕ, zero, suc, Bool, true, false, List, [], ◌∷◌, refl, sym, ap, ◌∙◌, subst, ⊎_elim}
 use Rattle.std.specs.Prelude.{◌&&◌, ◌==◌, not, is_none, Option, Some, None, if◌then◌else◌}
 use Rattle.std.proofs.Math.Dec.{eqb-suc-zero, eqb-zero-suc, eqb-suc-suc}
@@ -11,17 +11,19 @@ use Rattle.wire_msgs.specs.declared.response.Response.TheVariants as responses
 use Rattle.sql_engine.specs.Replies.{Statement}
 use Rattle.session_spec.specs.Asking.{Asked, Never, Tells, Sets, Opens, Creates, Prepares, Drops, Begins, Commits, RollsBack, Changes, Runs, Reads, asked}
 use Rattle.session_spec.specs.Causes.{LogFull, DatabaseFull}
+use Rattle.log_commands.specs.declared.command.Command.TheVariants.{OpenDb}
+use Rattle.session_spec.specs.Entries.{Content, Does, Configures, Other}
 use Rattle.session_spec.specs.Engines.{Answer, no_pages, Ending, Lacking, TooLarge, Stopped, Ended}
 use Rattle.session_spec.specs.Limits.{other_holds, pages_full, log_full, first_cause, change_refusal}
 use Rattle.session_spec.specs.Machine.{Machine}
-use Rattle.session_spec.specs.Requests.{with_statements, flying, change_of, row_cause, reply_of, outside_write, outside, inside, run_in, has_nothing, committed, commit_in, worked, does, on_request}
-use Rattle.session_spec.specs.Sessions.{Single, Prepared, Writing, Committing, Transaction, Session, Gateway, View, in_tx, Inside, Outside, Nothing, Turned, Refused, Answers, Proposes}
+use Rattle.session_spec.specs.Requests.{with_flight, with_barriers, with_statements, flying, change_of, row_cause, reply_of, outside_write, outside, inside, run_in, has_nothing, committed, commit_in, worked, does, on_request}
+use Rattle.session_spec.specs.Sessions.{Reply, Single, Prepared, Opening, Configuring, Writing, Committing, Querying, Flight, Transaction, Session, Gateway, View, in_tx, Inside, Outside, Nothing, Turned, Refused, Answers, Proposes}
 use Rattle.session_spec.specs.Statements.{prepared_at, free_id, with_prepared, without_prepared}
 use Rattle.session_safety.proofs.Calls.{unless_ok}
 use Rattle.session_safety.proofs.Ways.{read_in_both, barrier_both, reads_both}
 use Rattle.headline.specs.Clients.{Client, is_idle, Idle, Begun, Lost, Purpose, request_purpose, ran_at, after_result}
 use Rattle.headline.specs.Clients as client
-use Rattle.client_view_safety.specs.Views.{KnowsSession, IsToldFor, IsAskedFor, KnowsAfter, AnswersKeepViews}
+use Rattle.client_view_safety.specs.Views.{KnowsSession, IsToldFor, IsAskedFor, KnowsLanded, KnowsAfter, AnswersKeepViews}
 use Rattle.client_view_safety.proofs.Asking.{request_asked}
 
 -- ---- prepared statements
@@ -51,6 +53,9 @@ at_none (o ∷ os) (suc one) (suc id) = at_none os one id ∙ sym (ap (λ (b : B
 
 -- ---- what is left
 
+flight_is : (one f : Flight) → Some one ≡ Some f → one ≡ f
+flight_is one f e = cc
+
 module _ (k : Client) (place : ℕ) (s : Session) (h : KnowsSession k s) where
   abbrev IsKept : Purpose → Turned → Type 0
   IsKept p t = KnowsAfter k place p t
@@ -77,6 +82,14 @@ module _ (k : Client) (place : ℕ) (s : Session) (h : KnowsSession k s) where
     idle = ran_idle k.transaction ∙ h.idle ∙ ap not (sym tx);
   }
 
+  write_kept : (v : View) (all : List Statement) (told : Bool) (name : List ℕ) (contents : List Content) (pages : ℕ) (reply : Reply) (f : Flight) →
+      (flying v s name contents pages (Writing reply)).flight ≡ Some f → (answer : List Response) →
+      KnowsLanded (after_result k place answer (client.Runs told all)) (flying v s name contents pages (Writing reply)) f f.kind
+  write_kept v all told name contents pages reply f flies answer =
+      subst (λ (y : Flight). KnowsLanded (after_result k place answer (client.Runs told all)) (flying v s name contents pages (Writing reply)) y y.kind)
+      (flight_is _ f flies)
+      (ran_kept told all (with_flight (flying v s name contents pages (Writing reply)) None) answer refl refl refl refl)
+
   outside_kept : (v : View) (m : Machine) (g : Gateway) (c : ℕ) (all : List Statement) (told : Bool) (ss : List Statement) (rows : Bool) (end : Ending) →
       IsKept (client.Runs told all) (outside v m g c s ss rows end)
   unfolding outside outside_write
@@ -90,7 +103,8 @@ module _ (k : Client) (place : ℕ) (s : Session) (h : KnowsSession k s) where
       (λ p. unless_ok (first_cause (log_full v) LogFull (row_cause rows answer (change_refusal m g c s.database (m.base s.database).newest
       (changed (m.base s.database).image to) to)))
       (Proposes (flying v s s.database (change_of v s.database (changed (m.base s.database).image to)) (page_count to) (Writing (reply_of rows answer)))
-      (change_of v s.database (changed (m.base s.database).image to)) (Outside s.database ss)) (IsKept (client.Runs told all)) (λ why. tt) (λ e. tt))
+      (change_of v s.database (changed (m.base s.database).image to)) (Outside s.database ss)) (IsKept (client.Runs told all)) (λ why. tt)
+      (λ e. write_kept v all told s.database (change_of v s.database (changed (m.base s.database).image to)) (page_count to) (reply_of rows answer)))
 
   inside_kept : (m : Machine) (g : Gateway) (c : ℕ) (x : Transaction) (all : List Statement) (told : Bool) (ss : List Statement) (rows : Bool) (end : Ending) →
       s.tx ≡ Some x → IsKept (client.Runs told all) (inside m g c s x ss rows end)
@@ -119,7 +133,10 @@ module _ (k : Client) (place : ℕ) (s : Session) (h : KnowsSession k s) where
       (λ p answer sent. record { name = h.name; barriers = h.barriers; prepared = h.prepared; idle = refl })
       (λ p. unless_ok (first_cause (log_full v) LogFull (change_refusal m g c x.name x.mark (changed x.pinned x.working) x.working))
       (Proposes (flying v s x.name (change_of v x.name (changed x.pinned x.working)) (page_count x.working) Committing)
-      (change_of v x.name (changed x.pinned x.working)) Nothing) (IsKept client.Commits) (λ why. tt) (λ e. tt))
+      (change_of v x.name (changed x.pinned x.working)) Nothing) (IsKept client.Commits) (λ why. tt)
+      (λ e f flies answer. subst (λ (y : Flight). KnowsLanded (after_result k place answer client.Commits)
+      (flying v s x.name (change_of v x.name (changed x.pinned x.working)) (page_count x.working) Committing) y y.kind) (flight_is _ f flies)
+      (record { name = h.name; barriers = h.barriers; prepared = h.prepared; idle = refl })))
 
   -- what is done is what the message asks for
   does_kept : (v : View) (m : Machine) (g : Gateway) (c : ℕ) (p : Purpose) (x : Asked) (answers : List Answer) → IsAskedFor m p x →
@@ -131,7 +148,12 @@ module _ (k : Client) (place : ℕ) (s : Session) (h : KnowsSession k s) where
   does_kept v m g c p (Opens name barriers) answers is =
       subst (λ q. IsKept q (does v m g c s (Opens name barriers) answers)) (sym is)
       (λ answer sent. record { name = refl; barriers = refl; prepared = h.prepared; idle = h.idle })
-  does_kept v m g c p (Creates name barriers) answers is = cond_both (pages_full m g name empty_image) _ _ (IsKept p) (λ e. tt) (λ e. tt)
+  does_kept v m g c p (Creates name barriers) answers is =
+      subst (λ q. IsKept q (does v m g c s (Creates name barriers) answers)) (sym is)
+      (cond_both (pages_full m g name empty_image) _ _ (IsKept (client.Opens name barriers)) (λ e. tt)
+      (λ e f flies answer. subst (λ (y : Flight). KnowsLanded (after_result k place answer (client.Opens name barriers))
+      (flying v (with_barriers s barriers) name (Does (OpenDb name) ∷ []) 0 Opening) y y.kind) (flight_is _ f flies)
+      (record { name = refl; barriers = refl; prepared = h.prepared; idle = h.idle })))
   does_kept v m g c p (Prepares q tail) answers is =
       subst (λ w. IsKept w (does v m g c s (Prepares q tail) answers)) (sym is)
       (λ answer sent. subst (λ a. KnowsSession (after_result k place a (client.Prepares q tail))
@@ -159,13 +181,19 @@ module _ (k : Client) (place : ℕ) (s : Session) (h : KnowsSession k s) where
   does_kept v m g c p RollsBack answers is =
       subst (λ w. IsKept w (does v m g c s RollsBack answers)) (sym is)
       (λ answer sent. record { name = h.name; barriers = h.barriers; prepared = h.prepared; idle = refl })
-  does_kept v m g c p (Changes servers) answers is = cond_both (log_full v) _ _ (IsKept p) (λ e. tt) (λ e. tt)
+  does_kept v m g c p (Changes servers) answers is =
+      subst (λ q. IsKept q (does v m g c s (Changes servers) answers)) (sym is)
+      (cond_both (log_full v) _ _ (IsKept client.Empties) (λ e. tt)
+      (λ e f flies answer. subst (λ (y : Flight). KnowsLanded k (flying v s [] (Configures servers ∷ []) 0 Configuring) y y.kind) (flight_is _ f flies)
+      (record { name = h.name; barriers = h.barriers; prepared = h.prepared; idle = h.idle })))
   does_kept v m g c p (Runs ss) answers is =
       subst (λ w. IsKept w (does v m g c s (Runs ss) answers)) (sym is) (run_kept v m g c s.tx ss false ss false answers refl)
   does_kept v m g c p (Reads statement) answers is =
       subst (λ w. IsKept w (does v m g c s (Reads statement) answers)) (sym is)
       (reads_both (IsKept (client.Runs true (statement ∷ []))) v m g c s statement answers
-      (λ e. barrier_both (IsKept (client.Runs true (statement ∷ []))) v m g c s statement tt tt)
+      (λ e. barrier_both (IsKept (client.Runs true (statement ∷ []))) v m g c s statement tt
+      (λ f flies answer. subst (λ (y : Flight). KnowsLanded (after_result k place answer (client.Runs true (statement ∷ [])))
+      (flying v s [] (Other ∷ []) 0 (Querying statement)) y y.kind) (flight_is _ f flies) tt))
       (λ e. read_in_both (IsKept (client.Runs true (statement ∷ []))) v m g c s statement s.tx answers (λ o r. tt)
       (run_kept v m g c s.tx (statement ∷ []) true (statement ∷ []) true answers refl)))
 

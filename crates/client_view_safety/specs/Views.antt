@@ -1,13 +1,14 @@
 -- What a client knows of its connection is what its session has.
-use Rattle.std.specs.Prelude.{◌≡◌, ◌⊎◌, ℕ, true, false, not, List, [], ◌∷◌}
+use Rattle.std.specs.Prelude.{◌≡◌, ◌⊎◌, ℕ, true, false, not, List, [], ◌∷◌, Some}
 use Rattle.wire_msgs.specs.declared.request.Request.{Request}
 use Rattle.wire_msgs.specs.declared.response.Response.{Response}
 use Rattle.wire_msgs.specs.declared.response.Response.TheVariants as responses
 use Rattle.session_spec.specs.Asking.{Asked, Never, Tells, Sets, Opens, Creates, Prepares, Drops, Begins, Commits, RollsBack, Changes, Runs, Reads, asked, files_of}
 use Rattle.session_spec.specs.Engines.{Answer}
+use Rattle.session_spec.specs.Events.{landed}
 use Rattle.session_spec.specs.Machine.{Machine}
 use Rattle.session_spec.specs.Requests.{on_request}
-use Rattle.session_spec.specs.Sessions.{Reply, Refusal, Single, Rows, Session, Gateway, View, in_tx, Turned, Refused, Lacks, Answers, Proposes, Lends, Affects}
+use Rattle.session_spec.specs.Sessions.{Reply, Refusal, Single, Rows, Kind, Opening, Configuring, Writing, Committing, Querying, Flight, Session, Gateway, View, in_tx, Turned, Refused, Lacks, Answers, Proposes, Lends, Affects}
 use Rattle.session_spec.specs.Statements.{prepared_at}
 use Rattle.headline.specs.Clients.{Client, is_idle, Purpose, request_purpose, after_result}
 use Rattle.headline.specs.Clients as client
@@ -50,12 +51,21 @@ IsSentFor (Refusal cause) answer = Unit {0}
 IsSentFor (Single response) answer = answer ≡ response ∷ []
 IsSentFor (Rows answer) sent = Unit {0}
 
--- After an answer at once the client knows the session that is left.
+-- The client knows what a session becomes when the last entry of its proposal is applied, except if this is the barrier of a query, which is answered later.
+abbrev pub KnowsLanded : Client → Session → Flight → Kind → Type 0
+KnowsLanded k s f Opening = KnowsSession k (landed s f Opening)
+KnowsLanded k s f Configuring = KnowsSession k (landed s f Configuring)
+KnowsLanded k s f (Writing reply) = KnowsSession k (landed s f (Writing reply))
+KnowsLanded k s f Committing = KnowsSession k (landed s f Committing)
+KnowsLanded k s f (Querying statement) = Unit {0}
+
+-- After an answer the client knows the session that is left: at once, or when the last entry of its proposal is applied.
 abbrev pub KnowsAfter : Client → ℕ → Purpose → Turned → Type 0
 KnowsAfter k place p (Refused cause) = Unit {0}
 KnowsAfter k place p Lacks = Unit {0}
 KnowsAfter k place p (Answers session reply note) = (answer : List Response) → IsSentFor reply answer → KnowsSession (after_result k place answer p) session
-KnowsAfter k place p (Proposes session contents note) = Unit {0}
+KnowsAfter k place p (Proposes session contents note) = (f : Flight) → session.flight ≡ Some f → (answer : List Response) →
+    KnowsLanded (after_result k place answer p) session f f.kind
 KnowsAfter k place p (Lends session job) = Unit {0}
 KnowsAfter k place p (Affects effect) = Unit {0}
 

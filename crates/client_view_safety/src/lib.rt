@@ -10,7 +10,8 @@ pub fn requests_ask_purposes()
     ensures { RequestsAskPurposes }
 {}
 
-/// If a client knows its session, then it knows the session after each request that is answered at once, by the answer.
+/// If a client knows its session, then it knows, by the answer, the session after each request that is answered at once,
+/// or when the last entry of what it proposed is applied.
 pub fn answers_keep_views()
     ensures { AnswersKeepViews }
 {}
