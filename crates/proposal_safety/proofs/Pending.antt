@@ -13,7 +13,7 @@ use Rattle.session_spec.specs.Engines.{Answer}
 use Rattle.session_spec.specs.Events.{tidy, landed, settled_by, on_applied, lost, on_lost, waits, last_of, placed, ordered, told_lost, left, on_hangup, connects, connected}
 use Rattle.session_spec.specs.Requests.{with_later, with_session, affected_by, on_request}
 use Rattle.session_spec.specs.Sessions.{Reply, Refusal, result, empty, db, Kind, Opening, Configuring, Writing, Committing, Querying, Flight, Later, later_query, lent_query, Session, Gateway, absent, fresh, may_ask, Effect, HandsOver, JoinsPeer, Weighs, Turned, Refused, Lacks, Answers, Proposes, Lends, Affects}
-use Rattle.session_safety.specs.Answering.{said_to}
+use Rattle.session_safety.specs.Answering.{outcome, said_to}
 use Rattle.session_safety.specs.Laws.{NoneComes}
 use Rattle.session_safety.specs.Life.{query_for, query_by, commit_of, Event, Connect, Hangup, Call, Resume, Done, Apply, Lose, Lead, Serve, Append, Follow, tells, called, undue, outcome_later, resumed, told_at, said_read, read_by, read, said_landed, said_by, said_applied, told_all, joined, happens, run_from, AllFit}
 use Rattle.session_safety.specs.Nodes.{Query, Commit, Said, Trail, Node, Standing, databases, view_of, started}
@@ -24,7 +24,8 @@ use Rattle.session_safety.proofs.Lasts.{run_append, fit_parts, lasts_step}
 use Rattle.session_safety.proofs.Lives.{run_ok, happens_ok, started_ok}
 use Rattle.session_safety.proofs.Replying.{said_to_append}
 use Rattle.session_safety.proofs.Tables.{among_filter}
-use Rattle.proposal_safety.specs.Proposing.{kind_count, IsLossIfRefused, HasReply, FirstIsLossIfRefused, AnswersProposal, ProposalsAreAnswered}
+use Rattle.proposal_safety.proofs.Counting.{requests_propose_once_hold}
+use Rattle.proposal_safety.specs.Proposing.{change_count, proposed, ProposesOneIfAny, ChangesAreAnswered, kind_count, IsLossIfRefused, HasReply, FirstIsLossIfRefused, AnswersProposal, ProposalsAreAnswered}
 
 -- ---- lists of connections
 
@@ -440,3 +441,44 @@ proposals_are_answered_hold mean kind log applied term es fs c f s fits none is 
     subst (AnswersProposal c w) (sym (run_append first es fs))
     (walk c f pos reply mean kind w fs parts.1 none a
     (begins c f pos reply mean kind (w.gate.session c) (w.trail c).seen (w.trail c).at is (a.sessions c).free))
+
+-- ---- a request that is handled
+
+module _ (mean : Meaning) (kind : EngineKind) (w : Node) (c : ℕ) (fs : List Event) (none : NoneComes c fs) where
+  -- the reply comes after the request was handled, which says nothing
+  from_there : (v : Node) (f : Flight) → v.said ≡ w.said → (v.gate.session c).flight ≡ Some f → 0 < kind_count f.kind → HasReply f.kind →
+      AllFit mean kind v fs → NodeOk mean v → AnswersProposal c w (run_from v fs)
+  from_there v f same is pos reply fits a =
+      let s = a.sessions c in
+      let x = walk c f pos reply mean kind v fs fits none a
+      (begins c f pos reply mean kind (v.gate.session c) (v.trail c).seen (v.trail c).at is s.free) in
+      record { more = x.more; said = x.said ∙ ap (λ l. l ++ x.more) same; first = x.first }
+
+  handled : (t : Turned) → ProposesOneIfAny t → 0 < change_count (proposed t) → AllFit mean kind (called w c t) fs → NodeOk mean (called w c t) →
+      AnswersProposal c w (run_from (called w c t) fs)
+  unfolding with_session
+  handled (Refused cause) one pos fits a = absurd (omega (arith, pos))
+  handled Lacks one pos fits a = absurd (omega (arith, pos))
+  handled (Answers s r note) one pos fits a = absurd (omega (arith, pos))
+  handled (Proposes s contents note) one pos fits a =
+      let count = one.count in
+      from_there (called w c (Proposes s contents note)) one.flight refl
+      (ap (λ (y : Session). y.flight) (cond-true (c == c) s (w.gate.session c) (eq-eqb c c refl)) ∙ one.is) (omega (arith, pos, count)) one.reply fits a
+  handled (Lends s job) one pos fits a = absurd (omega (arith, pos))
+  handled (Affects effect) one pos fits a = absurd (omega (arith, pos))
+
+pub changes_are_answered_hold : (mean : Meaning) (kind : EngineKind) → ChangesAreAnswered mean kind
+unfolding happens
+changes_are_answered_hold mean kind log applied term es fs c standing r answers s fits none may pos =
+    let first = started log applied term in
+    let w = run_from first es in
+    let e = Call c standing r answers in
+    let parts = fit_parts mean kind first es (e ∷ fs) fits in
+    let a = run_ok mean kind first es parts.0 (started_ok mean kind log applied term s.within s.woven) in
+    let t = outcome w c standing r answers in
+    let one = requests_propose_once_hold (view_of w standing) (databases w) w.gate c r answers in
+    let now : happens w e ≡ called w c t = cond-true (may_ask (w.gate.session c)) (called w c t) w may in
+    subst (AnswersProposal c w) (sym (run_append first es (e ∷ fs)))
+    (subst (λ v. AnswersProposal c w (run_from v fs)) (sym now)
+    (handled mean kind w c fs none t one pos (subst (λ v. AllFit mean kind v fs) now parts.1.1)
+    (subst (NodeOk mean) now (happens_ok mean kind w e parts.1.0 a))))

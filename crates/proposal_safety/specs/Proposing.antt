@@ -11,11 +11,11 @@ use Rattle.session_spec.specs.Engines.{Answer}
 use Rattle.session_spec.specs.Entries.{Content, Does, Configures, Other, Entry, entries_of}
 use Rattle.session_spec.specs.Machine.{Machine}
 use Rattle.session_spec.specs.Requests.{on_request, on_later}
-use Rattle.session_spec.specs.Sessions.{Reply, Refusal, Single, Rows, Kind, Opening, Configuring, Writing, Committing, Querying, Flight, Session, Gateway, View, Turned, Refused, Lacks, Answers, Proposes, Lends, Affects}
-use Rattle.session_safety.specs.Answering.{said_to}
+use Rattle.session_spec.specs.Sessions.{Reply, Refusal, Single, Rows, Kind, Opening, Configuring, Writing, Committing, Querying, Flight, Session, Gateway, View, may_ask, Turned, Refused, Lacks, Answers, Proposes, Lends, Affects}
+use Rattle.session_safety.specs.Answering.{outcome, said_to}
 use Rattle.session_safety.specs.Laws.{life, Starts, NoneComes}
-use Rattle.session_safety.specs.Life.{Event, called, AllFit}
-use Rattle.session_safety.specs.Nodes.{Said, Node, started}
+use Rattle.session_safety.specs.Life.{Event, Call, called, AllFit}
+use Rattle.session_safety.specs.Nodes.{Said, Node, Standing, started}
 
 -- ---- changes
 
@@ -116,3 +116,12 @@ ProposalsAreAnswered m kind =
     AllFit m kind (started log applied term) (es ++ fs) → NoneComes conn fs →
     ((life log applied term es).gate.session conn).flight ≡ Some f → 0 < kind_count f.kind → HasReply f.kind →
     AnswersProposal conn (life log applied term es) (life log applied term (es ++ fs))
+
+-- A request is handled that proposes a change. Then the first reply to its connection from there on is no refusal, or names a loss of leadership.
+abbrev pub ChangesAreAnswered : Meaning → EngineKind → Type 0
+ChangesAreAnswered m kind =
+    (log : List Entry) (applied term : ℕ) (es fs : List Event) (conn : ℕ) (standing : Standing) (request : Request) (answers : List Answer) →
+    Starts log applied → AllFit m kind (started log applied term) (es ++ Call conn standing request answers ∷ fs) → NoneComes conn fs →
+    let w = life log applied term es in
+    may_ask (w.gate.session conn) ≡ true → 0 < change_count (proposed (outcome w conn standing request answers)) →
+    AnswersProposal conn w (life log applied term (es ++ Call conn standing request answers ∷ fs))

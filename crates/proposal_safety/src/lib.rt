@@ -3,6 +3,7 @@
 #![tactic(auto)]
 
 ghost use Rattle.proposal_safety.specs.Proposing.{
+  ChangesAreAnswered,
   LatersProposeOnce,
   LogsGrowByProposals,
   ProposalsAreAnswered,
@@ -19,7 +20,9 @@ pub fn requests_propose_once()
     ensures grows { LogsGrowByProposals }
 {}
 
-/// If a request proposed a change, then the next reply to its connection is no refusal, or names a loss of leadership.
+/// If a proposal that makes a change is pending, then the next reply to its connection is no refusal, or names a loss of
+/// leadership. The same holds of the first reply from where a request was handled that proposed a change.
 pub fn proposals_are_answered<E: Engine>()
-    ensures { (kind : _) → ProposalsAreAnswered (E.meaning kind) kind }
+    ensures pending { (kind : _) → ProposalsAreAnswered (E.meaning kind) kind }
+    ensures requests { (kind : _) → ChangesAreAnswered (E.meaning kind) kind }
 {}
