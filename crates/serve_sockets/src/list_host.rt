@@ -5,15 +5,15 @@ ghost use Rattle.std.specs.Prelude.{◌≡◌, Some};
 use crate::mem_door::MemDoor;
 use crate::mem_host::MemHost;
 use dq_base::Failed;
-use serve_threads::{ChannelPost, Host};
+use serve_threads::{ChannelPost, Host, NoReplies};
 use serve_traits::{Event, Inbox, MemInbox, MemLink};
 use std::alloc::{AllocError, Global};
 use std::sync::Wait;
 use std::thread::Threads;
 use std::time::Clock;
 
-/// A host over memory whose events are those of a list: a take fails where none is left. It tells them. At its listeners no link comes,
-/// each dial fails, and what is posted at its ends is never taken.
+/// A host over memory whose events are those of a list: a take fails where none is left. It tells them. No connection comes where it
+/// listens, replies get lost, each dial fails, and what is posted at its ends is never taken.
 #[derive(Drop)]
 pub struct ListHost<R: Wait + Copy + Drop, T: Drop> {
     host: MemHost<R, T>,
@@ -23,7 +23,7 @@ pub struct ListHost<R: Wait + Copy + Drop, T: Drop> {
 impl<R: Wait + Copy + Drop, T: Drop> ListHost<R, T> {
     /// A host with these events that did nothing yet.
     pub fn new(rt: R, alloc: Global, events: Vec<Event<T>>) -> Result<ListHost<R, T>, AllocError> {
-        let host = MemHost::new(rt, alloc, Vec::new(alloc), Vec::new(alloc), Vec::new(alloc))?;
+        let host = MemHost::new(rt, alloc, Vec::new(alloc), Vec::new(alloc))?;
         Ok(ListHost {
             host,
             events: MemInbox::new(events),
@@ -49,7 +49,9 @@ impl<R: Wait + Copy + Drop, T: Drop> Inbox<T> for ListHost<R, T> {
 impl<R: Threads + Wait + Clock + Copy + Drop + Send + 'static, T: Drop> Host<T> for ListHost<R, T> {
     type Rt = R;
 
-    type Door = MemDoor;
+    type Dialer = MemDoor;
+
+    type Replies = NoReplies;
 
     ghost done = { λ host. host.host.done };
 
@@ -57,16 +59,20 @@ impl<R: Threads + Wait + Clock + Copy + Drop + Send + 'static, T: Drop> Host<T> 
         self.host.rt
     }
 
+    fn replies(&self) -> Result<NoReplies, AllocError> {
+        Ok(NoReplies)
+    }
+
     fn post(&self) -> Result<ChannelPost<R, T>, AllocError> {
         self.host.post.again()
     }
 
-    fn listen(&mut self, _address: &str) -> Result<MemDoor, Failed> {
+    fn listen(&mut self, _address: &str) -> Result<(), Failed> {
         self.host.listen_once()
     }
 
-    fn twin(&mut self, door: &MemDoor) -> Result<MemDoor, Failed> {
-        self.host.twin_of(door)
+    fn dialer(&mut self) -> Result<MemDoor, Failed> {
+        self.host.next_dialer()
     }
 
     fn dial(&mut self, _address: &str) -> Result<MemLink, Failed> {

@@ -1,33 +1,21 @@
-//! A listener over memory.
+//! A dialer over memory.
 
 ghost use Rattle.std.specs.Prelude.{◌≡◌};
 ghost use Rattle.serve_threads.specs.Counts.{IsCounted};
 
 use dq_base::Failed;
 use serve_traits::{Door, MemLink};
-use std::alloc::Global;
-use std::collections::VecDeque;
 
-/// A listener over memory, at which some links come. An accept fails where none is left, and a dial always
-/// does.
+/// A dialer over memory: each dial fails.
 #[derive(Drop)]
 pub struct MemDoor {
-    links: VecDeque<MemLink>,
     faults: u64,
 }
 
 impl MemDoor {
-    /// A listener at which these links come.
-    pub(crate) fn new(links: Vec<MemLink>) -> MemDoor {
-        MemDoor {
-            links: VecDeque::from(links),
-            faults: 0,
-        }
-    }
-
-    /// A listener at which no link comes.
-    pub(crate) fn closed(alloc: Global) -> MemDoor {
-        MemDoor::new(Vec::new(alloc))
+    /// A dialer that did nothing yet.
+    pub(crate) fn new() -> MemDoor {
+        MemDoor { faults: 0 }
     }
 
     /// Counts a call that failed.
@@ -45,10 +33,7 @@ impl Door for MemDoor {
     ghost faults = { λ door. door.faults };
 
     fn accept(&mut self) -> Result<MemLink, Failed> {
-        match self.links.pop_front() {
-            Some(link) => Ok(link),
-            None => Err(self.fail()),
-        }
+        Err(self.fail())
     }
 
     fn dial(&mut self, _address: &str) -> Result<MemLink, Failed> {

@@ -6,7 +6,7 @@ ghost use Rattle.serve_threads.specs.Counts.{Does, one_dial, one_listen, one_wor
 
 use crate::mem_door::MemDoor;
 use dq_base::{Calls, Failed};
-use serve_threads::{ChannelInbox, ChannelPost, Host, HostCounts, event_channel};
+use serve_threads::{ChannelInbox, ChannelPost, Host, HostCounts, NoReplies, event_channel};
 use serve_traits::{Event, Inbox, MemLink};
 use std::alloc::{AllocError, Global};
 use std::collections::VecDeque;
@@ -16,14 +16,12 @@ use std::time::Clock;
 
 /// A host over memory, whose workers run in threads of the runtime. Some of its calls may be told to fail.
 ///
-/// Its first listen that succeeds gives a listener at which some links come; at others, and at second ends of listeners, none comes.
-/// Each dial that succeeds gives the next of other links, and one that finds none left fails. Its events come by a channel, so it tells
-/// none, but counts them. Its moments are the numbers of the calls that asked for them, and its random words are the same in each run.
+/// No connection comes where it listens, and replies get lost. Each dial that succeeds gives the next of some links, and one that finds none
+/// left fails; so does each dial of its dialers. Its events come by a channel, so it tells none, but counts them. Its moments are the numbers
+/// of the calls that asked for them, and its random words are the same in each run.
 #[derive(Drop)]
 pub struct MemHost<R: Wait + Copy + Drop, T: Drop> {
     pub(crate) rt: R,
-    alloc: Global,
-    accepts: Option<Vec<MemLink>>,
     dials: VecDeque<MemLink>,
     inbox: ChannelInbox<R, T>,
     pub(crate) post: ChannelPost<R, T>,
@@ -37,15 +35,12 @@ impl<R: Wait + Copy + Drop, T: Drop> MemHost<R, T> {
     pub fn new(
         rt: R,
         alloc: Global,
-        accepts: Vec<MemLink>,
         dials: Vec<MemLink>,
         fails: Vec<u64>,
     ) -> Result<MemHost<R, T>, AllocError> {
         let (inbox, post) = event_channel(rt, alloc)?;
         Ok(MemHost {
             rt,
-            alloc,
-            accepts: Some(accepts),
             dials: VecDeque::from(dials),
             inbox,
             post,
@@ -55,20 +50,8 @@ impl<R: Wait + Copy + Drop, T: Drop> MemHost<R, T> {
         })
     }
 
-    /// The listener of a listen: the first one has the links.
-    fn door(&mut self) -> MemDoor
-        ensures done { self.new.done ≡ self.old.done }
-        ensures calls { self.new.calls ≡ self.old.calls }
-        ensures taken { self.new.inbox.taken ≡ self.old.inbox.taken }
-    {
-        match self.accepts.take() {
-            Some(links) => MemDoor::new(links),
-            None => MemDoor::closed(self.alloc),
-        }
-    }
-
     /// Listens, unless the call is to fail.
-    pub(crate) fn listen_once(&mut self) -> Result<MemDoor, Failed>
+    pub(crate) fn listen_once(&mut self) -> Result<(), Failed>
         ensures done { Does self.old.done (one_listen self.old.done) self.new.done result }
         ensures taken { self.new.inbox.taken ≡ self.old.inbox.taken }
         ensures cause { HasCause self.old.calls.faults self.new.calls.faults result }
@@ -78,17 +61,17 @@ impl<R: Wait + Copy + Drop, T: Drop> MemHost<R, T> {
             return Err(self.calls.fail());
         };
         self.done.listens = listens;
-        Ok(self.door())
+        Ok(())
     }
 
-    /// A second end of a listener, unless the call is to fail.
-    pub(crate) fn twin_of(&mut self, _door: &MemDoor) -> Result<MemDoor, Failed>
+    /// What dials, unless the call is to fail.
+    pub(crate) fn next_dialer(&mut self) -> Result<MemDoor, Failed>
         ensures done { self.new.done ≡ self.old.done }
         ensures taken { self.new.inbox.taken ≡ self.old.inbox.taken }
         ensures cause { HasCause self.old.calls.faults self.new.calls.faults result }
     {
         self.calls.start()?;
-        Ok(MemDoor::closed(self.alloc))
+        Ok(MemDoor::new())
     }
 
     /// The next of the links that are dialled, unless the call is to fail.
@@ -171,7 +154,9 @@ impl<R: Wait + Copy + Drop, T: Drop> Inbox<T> for MemHost<R, T> {
 impl<R: Threads + Wait + Clock + Copy + Drop + Send + 'static, T: Drop> Host<T> for MemHost<R, T> {
     type Rt = R;
 
-    type Door = MemDoor;
+    type Dialer = MemDoor;
+
+    type Replies = NoReplies;
 
     ghost done = { λ host. host.done };
 
@@ -179,16 +164,20 @@ impl<R: Threads + Wait + Clock + Copy + Drop + Send + 'static, T: Drop> Host<T> 
         self.rt
     }
 
+    fn replies(&self) -> Result<NoReplies, AllocError> {
+        Ok(NoReplies)
+    }
+
     fn post(&self) -> Result<ChannelPost<R, T>, AllocError> {
         self.post.again()
     }
 
-    fn listen(&mut self, _address: &str) -> Result<MemDoor, Failed> {
+    fn listen(&mut self, _address: &str) -> Result<(), Failed> {
         self.listen_once()
     }
 
-    fn twin(&mut self, door: &MemDoor) -> Result<MemDoor, Failed> {
-        self.twin_of(door)
+    fn dialer(&mut self) -> Result<MemDoor, Failed> {
+        self.next_dialer()
     }
 
     fn dial(&mut self, _address: &str) -> Result<MemLink, Failed> {

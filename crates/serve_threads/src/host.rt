@@ -1,6 +1,7 @@
 //! What a node is served by.
 
 use crate::channel::ChannelPost;
+use crate::replies::Replies;
 use dq_base::Failed;
 use serve_traits::{Door, Inbox};
 use std::alloc::AllocError;
@@ -22,8 +23,11 @@ pub trait Host<T: Drop>: Inbox<T> {
     /// The runtime that threads, waits and clocks ask for.
     type Rt: Threads + Wait + Clock + Copy + Drop + Send + 'static;
 
-    /// Where links come.
-    type Door: Door + Send + 'static;
+    /// What dials.
+    type Dialer: Door + Send + 'static;
+
+    /// Where replies go.
+    type Replies: Replies;
 
     /// What it did.
     ghost done: { Self → HostCounts };
@@ -34,22 +38,25 @@ pub trait Host<T: Drop>: Inbox<T> {
     /// An end at which events are posted that `take` gives, where the host doesn't tell its events.
     fn post(&self) -> Result<ChannelPost<Self::Rt, T>, AllocError>;
 
-    /// Listens at an address, as `localhost:9001`.
-    fn listen(&mut self, address: &str) -> Result<Self::Door, Failed>
+    /// An end at which replies go out.
+    fn replies(&self) -> Result<Self::Replies, AllocError>;
+
+    /// Listens at an address, as `localhost:9001`. What comes there are events from then on.
+    fn listen(&mut self, address: &str) -> Result<(), Failed>
         ensures done { Does (done self.old) (one_listen (done self.old)) (done self.new) result }
         ensures events { Self.taken self.new ≡ Self.taken self.old }
         ensures left { Self.left self.new ≡ Self.left self.old }
         ensures cause { HasCause (Self.faults self.old) (Self.faults self.new) result };
 
-    /// A second end of the same listener.
-    fn twin(&mut self, door: &Self::Door) -> Result<Self::Door, Failed>
+    /// What dials, for another thread.
+    fn dialer(&mut self) -> Result<Self::Dialer, Failed>
         ensures done { done self.new ≡ done self.old }
         ensures events { Self.taken self.new ≡ Self.taken self.old }
         ensures left { Self.left self.new ≡ Self.left self.old }
         ensures cause { HasCause (Self.faults self.old) (Self.faults self.new) result };
 
     /// A link to an address.
-    fn dial(&mut self, address: &str) -> Result<<Self::Door as Door>::Link, Failed>
+    fn dial(&mut self, address: &str) -> Result<<Self::Dialer as Door>::Link, Failed>
         ensures done { Does (done self.old) (one_dial (done self.old)) (done self.new) result }
         ensures events { Self.taken self.new ≡ Self.taken self.old }
         ensures left { Self.left self.new ≡ Self.left self.old }

@@ -24,7 +24,7 @@ const STACK: usize = 262_144;
 fn stack_of<R: Wait + Clock + Copy + Drop, D: Door, Q: Reader>(worker: &Worker<R, D, Q>) -> usize {
     match worker {
         Worker::Reader(_) => READER_STACK,
-        Worker::Keeper(_) | Worker::Writer(_) | Worker::Peer(_) | Worker::Ticker(_) => STACK,
+        Worker::Peer(_) | Worker::Ticker(_) => STACK,
     }
 }
 
@@ -52,7 +52,7 @@ fn start<
 /// the worker is dropped then.
 pub fn beside<Q: Reader + Send + 'static, H: Host<Q::Told>>(
     host: &mut H,
-    worker: Worker<H::Rt, H::Door, Q>,
+    worker: Worker<H::Rt, H::Dialer, Q>,
 ) -> Result<(), Failed>
     ensures done { Does (H.done host.old) (one_worker (H.done host.old)) (H.done host.new) result }
     ensures events { H.taken host.new ≡ H.taken host.old }

@@ -7,6 +7,7 @@ use serve_threads::{Peer, PeerQueue};
 use std::alloc::Global;
 use std::sync::Wait;
 use std::test::*;
+use std::time::Clock;
 use wire_words::WireText;
 
 /// Where the low byte of the term stands in a message's bytes.
@@ -63,7 +64,7 @@ const ROWS: &[(&[(u8, bool)], &[u64], &[u64], &[u8])] = &[
 ];
 
 /// Whether these are the deeds of a peer's thread that works once all was put.
-fn sends<R: Wait + Copy + Drop>(
+fn sends<R: Wait + Clock + Copy + Drop>(
     rt: R,
     alloc: Global,
     put: &[(u8, bool)],
