@@ -16,7 +16,7 @@ ghost use Rattle.arguments.specs.Asking.{IsAskable};
 ghost use Rattle.serve_node.specs.Rules.{GoesWell};
 ghost use Rattle.dqnode.specs.Asks.{asks_for, ForStatement, ForGenerated, ForRun, ForServed, IsScript, IsRun, IsStatement, IsServed, IsCheck, IsNothing, RunsWith};
 ghost use Rattle.dqnode.specs.Program.{words_error, Gives, Completes, BreaksOff, RunsSafely, RunsAreSafe};
-ghost use Rattle.dqnode.specs.Status.{IsStatus, IsBroken, IsServeCode};
+ghost use Rattle.dqnode.specs.Status.{IsStatus, IsBroken, IsBrokenOff, IsServeCode};
 ghost use Rattle.dqnode.specs.Statements.{StatementEnds, IsAnswered, IsOfStatement, HasLinked};
 ghost use Rattle.dqnode.specs.Checks.{CheckEnds};
 ghost use Rattle.dqnode.specs.Decided.{BrokenScriptsDecide, ScriptsDecide};
@@ -92,7 +92,7 @@ fn run<S: Source, K: Sink, D: Disk, N: Dialer, H: Host<Read>, W: Notes>(
     ensures write_fault { result ≡ 4 → Rose (K.faults output.old) (K.faults output.new) }
     ensures cut { result ≡ 3 → RunsWith asked (λ kind. BreaksOff kind Anything (S.left input.old) (S.left input.new)
         (K.written output.old) (K.written output.new)) }
-    ensures broken { IsScript asked → IsBroken result → RunsWith asked (λ kind. BreaksOff kind (MayFollow (S.left input.new))
+    ensures broken { IsScript asked → IsBrokenOff result → RunsWith asked (λ kind. BreaksOff kind (MayFollow (S.left input.new))
         (S.left input.old) (S.left input.new) (K.written output.old) (K.written output.new)) }
     ensures words_broken { IsNothing asked → IsBroken result → AppendsFront (K.written output.old) (K.written output.new) words_error }
     ensures statement { (statement : Statement) → ForStatement statement asked → StatementEnds statement (N.net network.old.dialer) (N.net network.new.dialer)
@@ -111,11 +111,12 @@ fn run<S: Source, K: Sink, D: Disk, N: Dialer, H: Host<Read>, W: Notes>(
     ensures serve_codes { IsServed asked → IsServeCode result }
     ensures host_fault { result ≡ 6 → IsServed asked × Rose (H.faults network.old.host) (H.faults network.new.host) }
     ensures of_spent { result ≡ 10 → IsServed asked }
+    ensures of_internal { result ≡ 15 → IsScript asked ⊎ IsRun asked ⊎ IsServed asked }
     ensures serves { (served : Serve) → ForServed served asked → WasServed D.tells D.states D.faults H.done served network.old.host disk.old disk.new
         (record { left = H.left network.old.host; count = H.taken network.old.host }) (record { left = H.left network.new.host; count = H.taken network.new.host }) result }
     ensures spent { (served : Serve) → ForServed served asked → result ≡ 10 → H.taken network.new.host ≡ H.taken network.old.host + served.events }
     ensures serves_well { IsServed asked → GoesWell (D.states disk.old) (D.faults disk.old) (D.faults disk.new) (H.faults network.old.host) (H.faults network.new.host) →
-        (result ≡ 10) ⊎ (result ≡ 7) }
+        (result ≡ 10) ⊎ (result ≡ 7) ⊎ (result ≡ 15) }
     ensures host { ¬ (IsServed asked) → network.new.host ≡ network.old.host }
     ensures generated { (number writes : ℕ) → ForGenerated number writes asked → GenerateEnds number writes (K.written output.old) (K.written output.new) result }
     ensures made { (number writes : ℕ) → ForRun number writes asked → RunEnds number writes journal.new (K.written output.old) (K.written output.new) result }
@@ -245,7 +246,7 @@ pub fn dqnode<S: Source, K: Sink, D: Disk, N: Dialer, H: Host<Read>, W: Notes>(
     ensures cut { result ≡ 3 → RunsWith (asks_for words.now) (λ kind. BreaksOff kind Anything (S.left input.old)
         (S.left input.new) (K.written output.old) (K.written output.new)) }
     // So it is after a fault of the output and out of memory; but where the input is at its end nothing follows.
-    ensures broken { IsScript (asks_for words.now) → IsBroken result → RunsWith (asks_for words.now) (λ kind. BreaksOff kind
+    ensures broken { IsScript (asks_for words.now) → IsBrokenOff result → RunsWith (asks_for words.now) (λ kind. BreaksOff kind
         (MayFollow (S.left input.new)) (S.left input.old) (S.left input.new) (K.written output.old) (K.written output.new)) }
     ensures words_broken { IsNothing (asks_for words.now) → IsBroken result → AppendsFront (K.written output.old) (K.written output.new) words_error }
     // A statement: the client that finds the leader and has it run that came to an end, which the status tells and which was printed,
@@ -273,6 +274,7 @@ pub fn dqnode<S: Source, K: Sink, D: Disk, N: Dialer, H: Host<Read>, W: Notes>(
     ensures serve_codes { IsServed (asks_for words.now) → IsServeCode result }
     ensures host_fault { result ≡ 6 → IsServed (asks_for words.now) × Rose (H.faults network.old.host) (H.faults network.new.host) }
     ensures of_spent { result ≡ 10 → IsServed (asks_for words.now) }
+    ensures of_internal { result ≡ 15 → IsScript (asks_for words.now) ⊎ IsRun (asks_for words.now) ⊎ IsServed (asks_for words.now) }
     // With an engine of the kind that is named, which knew no image, the node that the words name was started over the disk, behind that the
     // host listened and took all workers, and the node made a step for each event that the host gave; where there is not enough memory to
     // read the words, nothing was done.

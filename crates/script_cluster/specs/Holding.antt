@@ -129,6 +129,7 @@ TellsAll (Ok x) node aim answers failed ending old new before now = Tells true n
 TellsAll (Err faults.NotThere) node aim answers failed ending old new before now = ⊥
 TellsAll (Err faults.TooMany) node aim answers failed ending old new before now = Tells false node aim answers failed ending old new before now
 TellsAll (Err faults.NoMemory) node aim answers failed ending old new before now = Unit {0}
+TellsAll (Err faults.Internal) node aim answers failed ending old new before now = Unit {0}
 
 -- ---- what a call leads to
 
@@ -178,3 +179,4 @@ Does knows go (Ok x) old new before now = DoesBy knows go None old new before no
 Does knows go (Err faults.NotThere) old new before now = DoesBy knows go (Some NotThere) old new before now
 Does knows go (Err faults.TooMany) old new before now = DoesBy knows go (Some TooMany) old new before now
 Does knows go (Err faults.NoMemory) old new before now = Unit {0}
+Does knows go (Err faults.Internal) old new before now = Unit {0}

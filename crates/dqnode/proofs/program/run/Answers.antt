@@ -89,7 +89,7 @@ returns-clause-serves_well g c = λ is. elim c.match-asked.branch [
   | in-Some-Generate-default-default-true w ↦ let bad : Some (asks.Generate _ _ _) ≡ Some (asks.Serve is.0) = sym (w.in-Some-Generate-default-default-true.is ∙ ap Some w.in-Some-Generate-default-default-true.field-0-is) ∙ is.1 in absurd cc
   | in-Some-Serve w ↦ moved _ _ _ _ _ _ _ w.disk-is w.network-is w.status-is c.code.ensures
       (λ disk network code. GoesWell (g.D.Disk.states c.args.disk.now) (g.D.Disk.faults c.args.disk.now) (g.D.Disk.faults disk)
-      (g.H.Inbox.faults c.args.network.now.host) (g.H.Inbox.faults network.host) → (code ≡ 10) ⊎ (code ≡ 7))
+      (g.H.Inbox.faults c.args.network.now.host) (g.H.Inbox.faults network.host) → (code ≡ 10) ⊎ (code ≡ 7) ⊎ (code ≡ 15))
       w.serve_node-status.ensures.ends_well
   | in-None w ↦ let bad : None ≡ Some (asks.Serve is.0) = sym w.in-None.is ∙ is.1 in absurd cc
 ]
