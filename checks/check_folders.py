@@ -19,6 +19,8 @@ import zlib
 TOP = pathlib.Path(__file__).resolve().parent.parent
 COMMAND, BARRIER, SERVERS = 1, 2, 3
 PAGE = 4096
+FORMATS = 1, 2, 3
+FACTOR = 0x9E3779B185EBCA87
 
 
 def word(number):
@@ -36,11 +38,21 @@ def text(name):
 # ---- writing
 
 
+def word_sum(data):
+    """The sum over words of format 3."""
+    state = 0xC2B2AE3D27D4EB4F
+    words = [number for number, in struct.iter_unpack("<Q", padded(data))]
+    for number in words + [len(data), FACTOR, FACTOR]:
+        state = (state ^ number) * FACTOR % 2**64
+        state = (state << 31 | state >> 33) % 2**64
+    return state
+
+
 def total(form, data):
     """The sum of a format, as a word."""
     if form == 1:
         return word(zlib.crc32(data))
-    return hashlib.sha256(data).digest()[:8]
+    return hashlib.sha256(data).digest()[:8] if form == 2 else word(word_sum(data))
 
 
 def short_total(form, data):
@@ -97,7 +109,7 @@ def read_metadata(files):
         if len(data) != 40:
             continue
         form, version, term, vote = struct.unpack_from("<QQQQ", data)
-        if form in (1, 2) and total(form, data[:32]) == data[32:] and version % 2 == parity:
+        if form in FORMATS and total(form, data[:32]) == data[32:] and version % 2 == parity:
             best = max(best, (version, term, vote))
     return best
 
@@ -128,7 +140,7 @@ def read_batch(form, data, at):
 
 def read_segment(data):
     """The batches of a segment, and the place from which nothing reads, where that isn't its end."""
-    if len(data) < 8 or struct.unpack_from("<Q", data)[0] not in (1, 2):
+    if len(data) < 8 or struct.unpack_from("<Q", data)[0] not in FORMATS:
         return [], 0
     form, at, batches = struct.unpack_from("<Q", data)[0], 8, []
     while at < len(data):
@@ -145,7 +157,7 @@ def read_snapshot(number, data):
         return None
     form, index, term, size = struct.unpack_from("<QQQQ", data)
     body = data[40:40 + size]
-    if form not in (1, 2) or index != number or index == 0 or len(body) != size or data[40:] != padded(body):
+    if form not in FORMATS or index != number or index == 0 or len(body) != size or data[40:] != padded(body):
         return None
     return (index, term, body) if total(form, data[8:32] + body) == data[32:40] else None
 
@@ -227,8 +239,8 @@ def wanted(files):
         return 8, found
     term, vote, index, of_term, state, first, log = found
     databases = {}
-    # The snapshots that are written here have a configuration without servers, and no database.
-    if state is not None and state != word(0) + word(1) + word(0):
+    # The snapshots that are written here have a configuration without servers, and no database, with a format word or without.
+    if state is not None and state.removeprefix(word(258)) != word(0) + word(1) + word(0):
         return 8, "bad snapshot %d\n" % index
     lines = "term %d vote %d\n" % (term, vote)
     lines += "snapshot %d %d\n" % (index, of_term) if index else "snapshot none\n"
@@ -254,12 +266,13 @@ def write_all(form):
 
 
 def folders():
-    for form in (1, 2):
+    for form in FORMATS:
         both = {"metadata1": metadata(form, 1, 1, 1), "metadata2": metadata(form, 2, 3, 2)}
         yield "log of format %d" % form, both | write_all(form)
         empty = word(0) + word(1) + word(0)
         tail = {"segment-%016d" % 7: word(form) + batch(form, 4, [(2, BARRIER, b""), (2, COMMAND, open_db("d"))])}
-        yield "snapshot of format %d" % form, both | tail | {"snapshot-%016d" % 4: snapshot(form, 4, 2, empty)}
+        yield "snapshot of format %d" % form, both | tail | {"snapshot-%016d" % 4: snapshot(form, 4, 2, word(258) + empty)}
+        yield "older snapshot of format %d" % form, both | tail | {"snapshot-%016d" % 4: snapshot(form, 4, 2, empty)}
         yield "gap of format %d" % form, both | tail
         yield "bad snapshot of format %d" % form, both | {"snapshot-%016d" % 4: snapshot(form, 4, 2, b"state")}
     yield "empty", {}

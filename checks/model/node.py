@@ -63,7 +63,7 @@ class Snapshot:
         self.index, self.term, self.servers, self.machine = index, term, servers, machine
 
     def size(self):
-        size = servers_size(self.servers) + 16
+        size = 8 + servers_size(self.servers) + 16
         for name, database in self.machine.items():
             size += len(wire.text(name)) + 8 + 32 + 4120 * database.image.page_count() + 8
             if database.pending:
@@ -82,6 +82,7 @@ class Session:
         self.conn, self.waiting, self.gone = conn, [], False
         self.name, self.barriers, self.prepared = None, False, {}
         self.transaction, self.flight = None, None
+        self.lost = False
 
 
 class Transaction:
@@ -458,6 +459,8 @@ class Node:
             if not session.gone:
                 self.reply(session, wire.failure(10506, "leadership lost"))
         for session in self.sessions.values():
+            if session.transaction and not (session.flight and session.flight.kind == "pages"):
+                session.lost = True
             session.transaction = None
         for session in waiting:
             self.free(session)
@@ -494,7 +497,31 @@ class Node:
 
     LEADS = ("OPEN", "PREPARE", "EXEC", "QUERY", "EXEC_SQL", "QUERY_SQL", "TRANSFER", "ADD", "ASSIGN", "REMOVE")
 
+    STATEMENTS = ("PREPARE", "EXEC", "QUERY", "EXEC_SQL", "QUERY_SQL")
+
+    def ends_lost(self, session, name, fields):
+        """COMMIT or ROLLBACK, if the request is just that."""
+        number = fields[0][0] if isinstance(fields[0], tuple) else fields[0]
+        if name not in ("EXEC", "EXEC_SQL") or session.name is None or number != 0:
+            return None
+        try:
+            found = self.prepared(session, fields[0]) if name == "EXEC" else scan.statements(fields[1])
+        except Refused:
+            return None
+        alone = len(found) == 1 and len(fields[-1]) == found[0].count
+        return found[0].kind if alone and found[0].kind in ("Commit", "Rollback") else None
+
+    def answer_lost(self, session, name, fields):
+        """The transaction was lost with leadership: only COMMIT, which is refused, and ROLLBACK end it."""
+        kind = self.ends_lost(session, name, fields)
+        session.lost = kind is None
+        if kind == "Rollback":
+            return wire.result(0)
+        raise Refused(10250, "not leader")
+
     def handle(self, session, name, fields, wide):
+        if session.lost and name in self.STATEMENTS:
+            return self.answer_lost(session, name, fields)
         if name in self.LEADS and not (self.role == "leader" and self.serving):
             raise Refused(10250, "not leader")
         if name in ("PREPARE", "FINALIZE", "EXEC", "QUERY", "EXEC_SQL", "QUERY_SQL", "INTERRUPT"):

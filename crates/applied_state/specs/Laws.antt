@@ -1,6 +1,8 @@
 -- What holds of a leader's office in each life, and of snapshots.
-use Rattle.std.specs.Prelude.{◌≡◌, ℕ, List, take, Some}
+use Rattle.std.specs.Prelude.{◌≡◌, ℕ, List, ◌++◌, take, Some}
 use Rattle.wire_words.specs.Items.{AreBytes}
+use Rattle.raft_messages.specs.Servers.{servers_bytes, WritesServers}
+use Rattle.database_state.specs.Snapshot.{snapshot_text, IsSnapshot}
 use Rattle.sql_engine.specs.declared.kind.EngineKind.{EngineKind}
 use Rattle.sql_engine.specs.Meanings.{Meaning}
 use Rattle.raft_spec.specs.Log as raft
@@ -16,7 +18,7 @@ use Rattle.applied_state.specs.declared.leadership.Leadership.{Leadership}
 use Rattle.applied_state.specs.declared.applied.Applied.{Applied}
 use Rattle.applied_state.specs.Applied.{ShowsFiles, HasApplied}
 use Rattle.applied_state.specs.Office.{InOffice, office_after, duties}
-use Rattle.applied_state.specs.Snapshot.{NodeSnapshot, SpellsSnapshot, snapshot_in}
+use Rattle.applied_state.specs.Snapshot.{NodeSnapshot, SpellsSnapshot, snapshot_bytes, snapshot_in}
 
 -- ---- lives
 
@@ -64,3 +66,11 @@ SnapshotsRead = (s : NodeSnapshot) (bytes : List ℕ) → SpellsSnapshot s bytes
 
 abbrev pub SnapshotsAreSpelled : Type 0
 SnapshotsAreSpelled = (s : NodeSnapshot) (bytes : List ℕ) → AreBytes bytes → snapshot_in bytes ≡ Some s → SpellsSnapshot s bytes
+
+-- What is written is a node's snapshot, and so are the bytes of before, which have no format word.
+pub record BothForms (s : NodeSnapshot) : Type 0 where
+  pub written : SpellsSnapshot s (snapshot_bytes s.servers s.contents)
+  pub before : SpellsSnapshot s (servers_bytes s.servers ++ snapshot_text s.contents)
+
+abbrev pub BothFormsAreSpelled : Type 0
+BothFormsAreSpelled = (s : NodeSnapshot) → WritesServers s.servers (servers_bytes s.servers) → IsSnapshot s.contents (snapshot_text s.contents) → BothForms s

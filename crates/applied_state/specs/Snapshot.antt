@@ -1,6 +1,8 @@
--- A node's snapshot: a configuration, and a machine's snapshot behind it.
-use Rattle.std.specs.Prelude.{◌≡◌, ℕ, List, ◌++◌, drop, map, cond, Option, Some, None}
+-- A node's snapshot: a format word, a configuration, and the snapshot of the databases.
+use Rattle.std.specs.Prelude.{◌≡◌, ℕ, Bool, ◌&&◌, ◌==◌, nat_le, List, ◌++◌, length, drop, map, cond, Option, Some, None}
 use Rattle.std.specs.Option.{option_map}
+use Rattle.byteorder.specs.Endian.{little_number}
+use Rattle.wire_words.specs.Items.{word}
 use Rattle.raft_spec.specs.Log as raft
 use Rattle.raft_spec.specs.Node.{Server}
 use Rattle.raft_messages.specs.Servers.{servers_of, servers_bytes, WritesServers}
@@ -26,11 +28,26 @@ pub record NodeSnapshot : Type 0 where
 abbrev pub snapshot_value : Applied → NodeSnapshot
 snapshot_value a = record { servers = a.servers; contents = contents_of a.machine }
 
--- The bytes are a node's snapshot, of these servers and databases.
+-- The format word. A snapshot without one begins with the number of its servers, which is at most 9.
+abbrev pub snapshot_format : ℕ
+snapshot_format = 258
+
+abbrev pub has_format : List ℕ → Bool
+has_format bytes = nat_le 8 (length bytes) && (little_number 8 bytes == snapshot_format)
+
+-- what follows the format word if there is one: the configuration and the snapshot of the databases
+unfoldable pub snapshot_body : List ℕ → List ℕ
+snapshot_body bytes = cond (has_format bytes) (drop 8 bytes) bytes
+
+-- a snapshot as it is written
+abbrev pub snapshot_bytes : List Server → List Content → List ℕ
+snapshot_bytes servers contents = word snapshot_format ++ (servers_bytes servers ++ snapshot_text contents)
+
+-- The bytes are a node's snapshot, of these servers and databases, with a format word or without one.
 pub record SpellsSnapshot (s : NodeSnapshot) (bytes : List ℕ) : Type 0 where
   pub servers : WritesServers s.servers (servers_bytes s.servers)
   pub databases : IsSnapshot s.contents (snapshot_text s.contents)
-  pub parts : bytes ≡ servers_bytes s.servers ++ snapshot_text s.contents
+  pub parts : snapshot_body bytes ≡ servers_bytes s.servers ++ snapshot_text s.contents
 
 -- ---- reading
 
@@ -43,7 +60,7 @@ of_parts bytes None = None
 
 -- the node's snapshot that the bytes are, and None where they are none
 unfoldable pub snapshot_in : List ℕ → Option NodeSnapshot
-snapshot_in bytes = of_parts bytes (servers_read (servers_of bytes))
+snapshot_in bytes = of_parts (snapshot_body bytes) (servers_read (servers_of (snapshot_body bytes)))
 
 -- What was read has the servers and databases of the snapshot, its index, no commits and no live marks.
 pub record IsRestored (index : ℕ) (bytes : List ℕ) (a : Applied) : Type 0 where

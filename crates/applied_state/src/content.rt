@@ -12,7 +12,7 @@ use raft_messages::{Entry, EntryKind, Servers};
 use std::alloc::{AllocError, Global};
 
 /// What an entry is for.
-#[derive(Debug, Drop)]
+#[derive(Drop)]
 pub enum Content {
     /// A command to the databases.
     Does(Command),

@@ -7,7 +7,7 @@ use dq_base::Name;
 use log_commands::Command;
 
 /// What is told of an entry that was applied.
-#[derive(Debug, Drop)]
+#[derive(Drop)]
 pub enum AppliedEffect {
     /// It was the last command of a transaction, in the database of this name.
     Committed(Name),

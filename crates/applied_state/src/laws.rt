@@ -1,6 +1,6 @@
 //! What holds of offices in every life, and of snapshots.
 
-ghost use Rattle.applied_state.specs.Laws.{LivesAreShown, OfficesGoOn, OfficesStay, SnapshotsRead, SnapshotsAreSpelled};
+ghost use Rattle.applied_state.specs.Laws.{LivesAreShown, OfficesGoOn, OfficesStay, SnapshotsRead, SnapshotsAreSpelled, BothFormsAreSpelled};
 
 use sql_engine::Engine;
 
@@ -23,8 +23,9 @@ pub fn offices_stay()
     ensures { OfficesStay }
 {}
 
-/// Bytes are read as a node's snapshot exactly where they are spelled so.
+/// Bytes are read as a node's snapshot exactly if they are one, with a format word or without.
 pub fn snapshots_read_back()
     ensures read { SnapshotsRead }
     ensures spelled { SnapshotsAreSpelled }
+    ensures forms { BothFormsAreSpelled }
 {}

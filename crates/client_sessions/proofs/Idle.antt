@@ -9,7 +9,7 @@ use Rattle.sql_engine.specs.declared.kind.EngineKind.{EngineKind}
 use Rattle.sql_engine.specs.Meanings.{Meaning, Told}
 use Rattle.sql_engine.specs.Replies.{Statement}
 use Rattle.session_spec.specs.Allowed.{IsAllowed}
-use Rattle.session_spec.specs.Asking.{Asked, Never, Tells, Sets, Opens, Creates, Prepares, Drops, Begins, Commits, RollsBack, Changes, Runs, Reads, asked}
+use Rattle.session_spec.specs.Asking.{Asked, Never, Tells, Sets, Opens, Creates, Prepares, Drops, Forgets, Begins, Commits, RollsBack, Changes, Runs, Reads, asked}
 use Rattle.session_spec.specs.Causes.{NotLeader}
 use Rattle.session_spec.specs.Engines.{Answer}
 use Rattle.session_spec.specs.Events.{tidy, landed, settled_by, on_applied, left, on_hangup, connected}
@@ -56,6 +56,7 @@ module _ (v : View) (m : Machine) (g : Gateway) (conn : â„•) (idle : v.serving â
   does_closed s request (Creates name barriers) answers none a = serves_not a.0
   does_closed s request (Prepares p tail) answers none a = serves_not a.serves
   does_closed s request (Drops id) answers none a = none
+  does_closed s request (Forgets response) answers none a = none
   does_closed s request (Begins at_once) answers none a = serves_not a.0.serves
   does_closed s request Commits answers none a = serves_not a.0.serves
   does_closed s request RollsBack answers none a = serves_not a.0.serves

@@ -8,7 +8,7 @@ use Rattle.database_state.specs.Files.{empty_image}
 use Rattle.wire_msgs.specs.declared.request.Request.{Request}
 use Rattle.sql_engine.specs.Replies.{Statement}
 use Rattle.session_spec.specs.Allowed.{IsAllowed}
-use Rattle.session_spec.specs.Asking.{Asked, Never, Tells, Sets, Opens, Creates, Prepares, Drops, Begins, Commits, RollsBack, Changes, Runs, Reads, has_database, asked}
+use Rattle.session_spec.specs.Asking.{Asked, Never, Tells, Sets, Opens, Creates, Prepares, Drops, Forgets, Begins, Commits, RollsBack, Changes, Runs, Reads, has_database, asked}
 use Rattle.session_spec.specs.Causes.{Cause}
 use Rattle.session_spec.specs.Engines.{Answer, no_pages, Ending, Lacking, TooLarge, Stopped, Ended, runs, no_answer}
 use Rattle.session_spec.specs.Entries.{Content, Configures, Other}
@@ -137,6 +137,7 @@ module _ (v : View) (m : Machine) (g : Gateway) (conn : ℕ) (s : Session) (free
   does_kept request (Creates name barriers) answers t a = cond_both (pages_full m g name empty_image) _ _ (Keeps s) (λ e. tt) (λ e. flies s _ _ refl refl refl rest tt tt)
   does_kept request (Prepares p tail) answers t a = (rests s _ refl refl free rest, ((tt, (tt, optional_spelled tail)), tt))
   does_kept request (Drops id) answers t a = (rests s _ refl refl free rest, ((tt, tt), tt))
+  does_kept request (Forgets response) answers t a = (rests s _ refl refl free rest, (t, tt))
   does_kept request (Begins at_once) answers t a = cond_both (at_once && other_holds g conn s.database) _ _ (Keeps s) (λ e. tt) (λ e. (rests s _ refl refl free rest, result_sent 0))
   does_kept request Commits answers t a = commit_kept s.tx
   does_kept request RollsBack answers t a = (rests s _ refl refl free rest, result_sent 0)

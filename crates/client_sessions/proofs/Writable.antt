@@ -1,5 +1,5 @@
 -- That what is told can be written: the texts of refusals, the rows of answers, and what a request is told at once.
-use Rattle.std.proofs.Common.{rules, ◌≡◌, ℕ, Bool, true, false, cond, ◌||◌, ◌==◌, List, [], ◌∷◌, ◌++◌, map, codes, Option, Some, None, Result, Ok, Err, refl}
+use Rattle.std.proofs.Common.{rules, ⊎_elim, sym, subst, ◌≡◌, ℕ, Bool, true, false, cond, ◌||◌, ◌==◌, List, [], ◌∷◌, ◌++◌, map, codes, Option, Some, None, Result, Ok, Err, refl}
 use Rattle.std.specs.List.{AllByRecursion, flat_map}
 use Rattle.dq_base.specs.declared.images.Image.{Image}
 use Rattle.dq_base.specs.Names.{has_nul}
@@ -7,6 +7,7 @@ use Rattle.wire_words.specs.declared.value.Value.{Value}
 use Rattle.wire_rows.specs.Cut.{cut}
 use Rattle.wire_msgs.specs.declared.request.Request.{Request}
 use Rattle.wire_msgs.specs.declared.request.Request.TheVariants as requests
+use Rattle.wire_msgs.specs.declared.response.Response.{Response}
 use Rattle.wire_msgs.specs.declared.response.Response.TheVariants as responses
 use Rattle.wire_msgs.specs.declared.fault.MsgFault.{MsgFault}
 use Rattle.wire_msgs.specs.Fields.{Field, HaveSpellings}
@@ -26,7 +27,9 @@ use Rattle.session_spec.specs.Servers.{server_of}
 use Rattle.session_spec.specs.Sessions.{Reply, Refusal, Single, Rows, Prepared, Session, Gateway, View}
 use Rattle.session_spec.specs.Statements.{prepared_from}
 use Rattle.session_spec.specs.Requests.{reply_of}
-use Rattle.session_spec.specs.Asking.{Asked, Never, Tells, Sets, Opens, Creates, Prepares, Drops, Begins, Commits, RollsBack, Changes, Runs, Reads, asked_by, never_or, told_leader, leader_known, info_of, asks_cluster, files_of, asks_dump, asks_new, asks_open, asks_kind, asks_one, asks_several, asks_statements, asks_text, asks_query, not_one, asks_sole, asks_rows, asks_exec, asks_prepared_query, asks_finalize, with_room, asks_prepare_pieces, asks_prepare, at_leader, in_database, if_settled, of_other, asks_add, asks_role, asks_assign, asks_remove, asks_transfer}
+use Rattle.session_spec.proofs.Losing.{asked_both}
+use Rattle.session_spec.specs.Allowed.{EndsLost}
+use Rattle.session_spec.specs.Asking.{Asked, Never, Tells, Sets, Opens, Creates, Prepares, Drops, Forgets, Begins, Commits, RollsBack, Changes, Runs, Reads, asked_unless_lost, asked_by, never_or, told_leader, leader_known, info_of, asks_cluster, files_of, asks_dump, asks_new, asks_open, asks_kind, asks_one, asks_several, asks_statements, asks_text, asks_query, not_one, asks_sole, asks_rows, asks_exec, asks_prepared_query, asks_finalize, with_room, asks_prepare_pieces, asks_prepare, at_leader, in_database, if_settled, of_other, asks_add, asks_role, asks_assign, asks_remove, asks_transfer}
 use Rattle.session_gateway.specs.Calls.{HasNoNul, IsConfigured}
 use Rattle.session_table.specs.Named.{cause_named}
 use Rattle.session_outcomes.specs.declared.job.Read.{Read}
@@ -123,6 +126,7 @@ TellsWell (Opens name barriers) = Unit {0}
 TellsWell (Creates name barriers) = Unit {0}
 TellsWell (Prepares prepared tail) = Unit {0}
 TellsWell (Drops id) = Unit {0}
+TellsWell (Forgets response) = IsWritable response
 TellsWell (Begins at_once) = Unit {0}
 TellsWell Commits = Unit {0}
 TellsWell RollsBack = Unit {0}
@@ -279,24 +283,35 @@ remove_tells v id = search (rules, either, other_tells)
 transfer_tells : (v : View) (id : ℕ) → TellsWell (asks_transfer v id)
 transfer_tells v id = search (rules, either)
 
+-- what a lost transaction ends with can be written
+ended_tells : (s : Session) (response : Response) → EndsLost s response → IsWritable response
+ended_tells s response ends = ⊎_elim
+    (λ (e : response ≡ failure causes.NotLeader). subst IsWritable (sym e) (refusal_sent causes.NotLeader).0)
+    (λ (e : response ≡ responses.Result 0 0). subst IsWritable (sym e) (result_sent 0).0)
+    ends.told
+
+unlost_tells : (v : View) (m : Machine) (g : Gateway) (conn : ℕ) (s : Session) (request : Request) → IsConfigured v → HasNoNul request → TellsWell (asked_unless_lost v m g conn s request)
+unfolding asked_unless_lost
+unlost_tells v m g conn s requests.Leader configured text = leader_tells v.servers v.leader configured.each
+unlost_tells v m g conn s (requests.Client id) configured text = (tt, tt)
+unlost_tells v m g conn s (requests.Open name flags vfs) configured text = search (rules, at_leader_tells, open_tells)
+unlost_tells v m g conn s (requests.Prepare db sql wide) configured text = search (rules, at_leader_tells, in_database_tells, prepare_tells)
+unlost_tells v m g conn s (requests.Exec db id params wide) configured text = search (rules, at_leader_tells, in_database_tells, exec_tells)
+unlost_tells v m g conn s (requests.Query db id params wide) configured text = search (rules, at_leader_tells, in_database_tells, prepared_tells)
+unlost_tells v m g conn s (requests.Finalize db id) configured text = search (rules, in_database_tells, finalize_tells)
+unlost_tells v m g conn s (requests.ExecSql db sql params wide) configured text = search (rules, at_leader_tells, in_database_tells, text_tells)
+unlost_tells v m g conn s (requests.QuerySql db sql params wide) configured text = search (rules, at_leader_tells, in_database_tells, rows_tell)
+unlost_tells v m g conn s (requests.Interrupt db) configured text = search (rules, in_database_tells)
+unlost_tells v m g conn s (requests.Connect id address) configured text = search (rules, either)
+unlost_tells v m g conn s (requests.Add id address) configured text = search (rules, at_leader_tells, settled_tells, add_tells)
+unlost_tells v m g conn s (requests.Assign id role) configured text = search (rules, at_leader_tells, settled_tells, assign_tells)
+unlost_tells v m g conn s (requests.Remove id) configured text = search (rules, at_leader_tells, settled_tells, remove_tells)
+unlost_tells v m g conn s (requests.Dump name) configured text = dump_tells m name text
+unlost_tells v m g conn s (requests.Cluster format) configured text = cluster_tells v format configured
+unlost_tells v m g conn s (requests.Transfer id) configured text = search (rules, at_leader_tells, transfer_tells)
+unlost_tells v m g conn s (requests.Describe format) configured text = search (rules, either)
+unlost_tells v m g conn s (requests.Weight weight) configured text = tt
+
 pub asked_tells : (v : View) (m : Machine) (g : Gateway) (conn : ℕ) (s : Session) (request : Request) → IsConfigured v → HasNoNul request → TellsWell (asked_by v m g conn s request)
-unfolding asked_by
-asked_tells v m g conn s requests.Leader configured text = leader_tells v.servers v.leader configured.each
-asked_tells v m g conn s (requests.Client id) configured text = (tt, tt)
-asked_tells v m g conn s (requests.Open name flags vfs) configured text = search (rules, at_leader_tells, open_tells)
-asked_tells v m g conn s (requests.Prepare db sql wide) configured text = search (rules, at_leader_tells, in_database_tells, prepare_tells)
-asked_tells v m g conn s (requests.Exec db id params wide) configured text = search (rules, at_leader_tells, in_database_tells, exec_tells)
-asked_tells v m g conn s (requests.Query db id params wide) configured text = search (rules, at_leader_tells, in_database_tells, prepared_tells)
-asked_tells v m g conn s (requests.Finalize db id) configured text = search (rules, in_database_tells, finalize_tells)
-asked_tells v m g conn s (requests.ExecSql db sql params wide) configured text = search (rules, at_leader_tells, in_database_tells, text_tells)
-asked_tells v m g conn s (requests.QuerySql db sql params wide) configured text = search (rules, at_leader_tells, in_database_tells, rows_tell)
-asked_tells v m g conn s (requests.Interrupt db) configured text = search (rules, in_database_tells)
-asked_tells v m g conn s (requests.Connect id address) configured text = search (rules, either)
-asked_tells v m g conn s (requests.Add id address) configured text = search (rules, at_leader_tells, settled_tells, add_tells)
-asked_tells v m g conn s (requests.Assign id role) configured text = search (rules, at_leader_tells, settled_tells, assign_tells)
-asked_tells v m g conn s (requests.Remove id) configured text = search (rules, at_leader_tells, settled_tells, remove_tells)
-asked_tells v m g conn s (requests.Dump name) configured text = dump_tells m name text
-asked_tells v m g conn s (requests.Cluster format) configured text = cluster_tells v format configured
-asked_tells v m g conn s (requests.Transfer id) configured text = search (rules, at_leader_tells, transfer_tells)
-asked_tells v m g conn s (requests.Describe format) configured text = search (rules, either)
-asked_tells v m g conn s (requests.Weight weight) configured text = tt
+asked_tells v m g conn s request configured text =
+    asked_both TellsWell v m g conn s request tt (λ response ends. ended_tells s response ends) (unlost_tells v m g conn s request configured text)

@@ -4,7 +4,7 @@ use session_gateway::ReadJob;
 use wire_words::WireBytes;
 
 /// What a node has to do for a connection.
-#[derive(Debug, Drop)]
+#[derive(Drop)]
 pub enum Act {
     /// Send these messages to its client, in order.
     Reply {

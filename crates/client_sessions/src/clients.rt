@@ -1,6 +1,6 @@
 //! The clients of a node, and their calls.
 
-ghost use Rattle.std.specs.Prelude.{◌≡◌, ◌+◌, ◌<◌, ◌^◌, [], true, false, not, is_none, None, List, ℕ, ◌++◌, IfOk, IfSome, OnOk, OnErr, MatchOption, if◌then◌else◌};
+ghost use Rattle.std.specs.Prelude.{◌≡◌, ◌+◌, ◌<◌, ◌^◌, [], true, false, not, is_none, None, List, ℕ, ◌++◌, IfOk, IfSome, OnOk, OnErr, MatchOption, length, if◌then◌else◌};
 ghost use Rattle.sql_engine.specs.Meanings.{Stays};
 ghost use Rattle.std.specs.Ordering.{nat_cmp};
 ghost use Rattle.std.specs.BTreeMap.{get, values};
@@ -125,6 +125,14 @@ impl Clients {
             Some(stream) => stream.footprint(),
             None => 0,
         }
+    }
+
+    /// The number of sessions, with those of clients that have gone while a proposal of theirs is pending.
+    #[tactic(auto, unfolding(crate::specs::Seen::clients_of))]
+    pub fn session_count(&self) -> u64
+        ensures { (databases : List Database) → result ≡ length (clients_of self.now databases).sessions.conns }
+    {
+        self.gateway.session_count()
     }
 
     /// A client connects: it gets a session, unless its number is taken or 64 sessions are there, hung-up ones counted. `Err`

@@ -24,7 +24,7 @@ use Rattle.dq_base.specs.Applying.{stated_main, stated_side, replaced, put_pages
 use Rattle.dq_base.specs.Changes.{changed_from, changed}
 use Rattle.database_state.specs.ByName.{at_name, change_first}
 use Rattle.log_commands.specs.Splitting.{split_from, split}
-use Rattle.session_spec.specs.Asking.{asked_by}
+use Rattle.session_spec.specs.Asking.{asked_unless_lost, asked_by}
 use Rattle.session_spec.specs.Engines.{takes, runs}
 use Rattle.session_spec.specs.Entries.{Content, Does, Other, Entry, entries_of, written, tx_of}
 use Rattle.session_spec.specs.Seen.{log_seen, HasSpelling}
@@ -63,11 +63,11 @@ use Rattle.cluster_model.proofs.Lines.{seen_append}
 use Rattle.cluster_model.specs.Examples.{opening, writing, three, elects, opens, writes, moves_on, turns, after, RunSays, SecondLeads, RunFits, RunIsSafe}
 
 pub run_says_holds : RunSays
-unfolding is_space is_digit is_letter is_word_start is_word_part is_sigil is_quote is_in_line has_end kind_of quoted starred decimal in_range parameter solid extended finished statements_from scan_of sigil_token dash_token slash_token sign_token token_of tokens_past is_write is_left_out keyword_of followed_by kind_so_far parts_of first_count cut first_nul zeros resized page_from sizes_page page_at stated_main stated_side replaced put_pages applied is_sizes order_fault length_fault fault_before changed_from changed at_name change_first split_from asked_by takes runs tx_of tidy on_applied told_applied on_lost told_lost on_hangup connects connected holds other_holds change_in_flight all_names one_too_many pending_pages pages_with too_full change_refusal with_commit framed act files row_cause outside_write outside inside committed does on_request handed with_session may_ask goes_on cell_page with_page with_cell wiped outcome_of change_at configuration voters_after may_change member_step log_end matches merged conflict_place accept first_replaced accept_above first_replaced_above is_up_to_date term_at voters others peers majority on_grants may_start_election start_election on_ask_vote grants_with on_vote agrees take_entries replaces_committed on_append on_install on_snapped on_ack message_in_range on_message on_propose on_beat on_transfer on_servers majority_stores commit_below commit_index needs_snapshot message_to finish serve raft_step step_acts put run is_stored_by_majority commit_up_to may_grant writing elects opens writes moves_on turns after acted cluster
+unfolding is_space is_digit is_letter is_word_start is_word_part is_sigil is_quote is_in_line has_end kind_of quoted starred decimal in_range parameter solid extended finished statements_from scan_of sigil_token dash_token slash_token sign_token token_of tokens_past is_write is_left_out keyword_of followed_by kind_so_far parts_of first_count cut first_nul zeros resized page_from sizes_page page_at stated_main stated_side replaced put_pages applied is_sizes order_fault length_fault fault_before changed_from changed at_name change_first split_from asked_by asked_unless_lost takes runs tx_of tidy on_applied told_applied on_lost told_lost on_hangup connects connected holds other_holds change_in_flight all_names one_too_many pending_pages pages_with too_full change_refusal with_commit framed act files row_cause outside_write outside inside committed does on_request handed with_session may_ask goes_on cell_page with_page with_cell wiped outcome_of change_at configuration voters_after may_change member_step log_end matches merged conflict_place accept first_replaced accept_above first_replaced_above is_up_to_date term_at voters others peers majority on_grants may_start_election start_election on_ask_vote grants_with on_vote agrees take_entries replaces_committed on_append on_install on_snapped on_ack message_in_range on_message on_propose on_beat on_transfer on_servers majority_stores commit_below commit_index needs_snapshot message_to finish serve raft_step step_acts put run is_stored_by_majority commit_up_to may_grant writing elects opens writes moves_on turns after acted cluster
 run_says_holds = refl
 
 pub second_leads_holds : SecondLeads
-unfolding is_space is_digit is_letter is_word_start is_word_part is_sigil is_quote is_in_line has_end kind_of quoted starred decimal in_range parameter solid extended finished statements_from scan_of sigil_token dash_token slash_token sign_token token_of tokens_past is_write is_left_out keyword_of followed_by kind_so_far parts_of first_count cut first_nul zeros resized page_from sizes_page page_at stated_main stated_side replaced put_pages applied is_sizes order_fault length_fault fault_before changed_from changed at_name change_first split_from asked_by takes runs tx_of tidy on_applied told_applied on_lost told_lost on_hangup connects connected holds other_holds change_in_flight all_names one_too_many pending_pages pages_with too_full change_refusal with_commit framed act files row_cause outside_write outside inside committed does on_request handed with_session may_ask goes_on cell_page with_page with_cell wiped outcome_of change_at configuration voters_after may_change member_step log_end matches merged conflict_place accept first_replaced accept_above first_replaced_above is_up_to_date term_at voters others peers majority on_grants may_start_election start_election on_ask_vote grants_with on_vote agrees take_entries replaces_committed on_append on_install on_snapped on_ack message_in_range on_message on_propose on_beat on_transfer on_servers majority_stores commit_below commit_index needs_snapshot message_to finish serve raft_step step_acts put run is_stored_by_majority commit_up_to may_grant writing elects opens writes moves_on turns after acted cluster
+unfolding is_space is_digit is_letter is_word_start is_word_part is_sigil is_quote is_in_line has_end kind_of quoted starred decimal in_range parameter solid extended finished statements_from scan_of sigil_token dash_token slash_token sign_token token_of tokens_past is_write is_left_out keyword_of followed_by kind_so_far parts_of first_count cut first_nul zeros resized page_from sizes_page page_at stated_main stated_side replaced put_pages applied is_sizes order_fault length_fault fault_before changed_from changed at_name change_first split_from asked_by asked_unless_lost takes runs tx_of tidy on_applied told_applied on_lost told_lost on_hangup connects connected holds other_holds change_in_flight all_names one_too_many pending_pages pages_with too_full change_refusal with_commit framed act files row_cause outside_write outside inside committed does on_request handed with_session may_ask goes_on cell_page with_page with_cell wiped outcome_of change_at configuration voters_after may_change member_step log_end matches merged conflict_place accept first_replaced accept_above first_replaced_above is_up_to_date term_at voters others peers majority on_grants may_start_election start_election on_ask_vote grants_with on_vote agrees take_entries replaces_committed on_append on_install on_snapped on_ack message_in_range on_message on_propose on_beat on_transfer on_servers majority_stores commit_below commit_index needs_snapshot message_to finish serve raft_step step_acts put run is_stored_by_majority commit_up_to may_grant writing elects opens writes moves_on turns after acted cluster
 second_leads_holds = refl
 
 -- ---- what is written reads back
@@ -83,15 +83,15 @@ pub opening_spelled : HasSpelling opening
 opening_spelled = record { in_range = named; fits = refl; parts = refl }
 
 pages_numbered : HaveNumbers (changed empty_image (lives.one 7))
-unfolding is_space is_digit is_letter is_word_start is_word_part is_sigil is_quote is_in_line has_end kind_of quoted starred decimal in_range parameter solid extended finished statements_from scan_of sigil_token dash_token slash_token sign_token token_of tokens_past is_write is_left_out keyword_of followed_by kind_so_far parts_of first_count cut first_nul zeros resized page_from sizes_page page_at stated_main stated_side replaced put_pages applied is_sizes order_fault length_fault fault_before changed_from changed at_name change_first split_from asked_by takes runs tx_of tidy on_applied told_applied on_lost told_lost on_hangup connects connected holds other_holds change_in_flight all_names one_too_many pending_pages pages_with too_full change_refusal with_commit framed act files row_cause outside_write outside inside committed does on_request handed with_session may_ask goes_on cell_page with_page with_cell wiped outcome_of change_at configuration voters_after may_change member_step log_end matches merged conflict_place accept first_replaced accept_above first_replaced_above is_up_to_date term_at voters others peers majority on_grants may_start_election start_election on_ask_vote grants_with on_vote agrees take_entries replaces_committed on_append on_install on_snapped on_ack message_in_range on_message on_propose on_beat on_transfer on_servers majority_stores commit_below commit_index needs_snapshot message_to finish serve raft_step step_acts put run is_stored_by_majority commit_up_to may_grant writing elects opens writes moves_on turns after acted cluster
+unfolding is_space is_digit is_letter is_word_start is_word_part is_sigil is_quote is_in_line has_end kind_of quoted starred decimal in_range parameter solid extended finished statements_from scan_of sigil_token dash_token slash_token sign_token token_of tokens_past is_write is_left_out keyword_of followed_by kind_so_far parts_of first_count cut first_nul zeros resized page_from sizes_page page_at stated_main stated_side replaced put_pages applied is_sizes order_fault length_fault fault_before changed_from changed at_name change_first split_from asked_by asked_unless_lost takes runs tx_of tidy on_applied told_applied on_lost told_lost on_hangup connects connected holds other_holds change_in_flight all_names one_too_many pending_pages pages_with too_full change_refusal with_commit framed act files row_cause outside_write outside inside committed does on_request handed with_session may_ask goes_on cell_page with_page with_cell wiped outcome_of change_at configuration voters_after may_change member_step log_end matches merged conflict_place accept first_replaced accept_above first_replaced_above is_up_to_date term_at voters others peers majority on_grants may_start_election start_election on_ask_vote grants_with on_vote agrees take_entries replaces_committed on_append on_install on_snapped on_ack message_in_range on_message on_propose on_beat on_transfer on_servers majority_stores commit_below commit_index needs_snapshot message_to finish serve raft_step step_acts put run is_stored_by_majority commit_up_to may_grant writing elects opens writes moves_on turns after acted cluster
 pages_numbered = (omega arith, (omega arith, (omega arith, tt)))
 
 pages_sized : HaveSizes (changed empty_image (lives.one 7))
-unfolding is_space is_digit is_letter is_word_start is_word_part is_sigil is_quote is_in_line has_end kind_of quoted starred decimal in_range parameter solid extended finished statements_from scan_of sigil_token dash_token slash_token sign_token token_of tokens_past is_write is_left_out keyword_of followed_by kind_so_far parts_of first_count cut first_nul zeros resized page_from sizes_page page_at stated_main stated_side replaced put_pages applied is_sizes order_fault length_fault fault_before changed_from changed at_name change_first split_from asked_by takes runs tx_of tidy on_applied told_applied on_lost told_lost on_hangup connects connected holds other_holds change_in_flight all_names one_too_many pending_pages pages_with too_full change_refusal with_commit framed act files row_cause outside_write outside inside committed does on_request handed with_session may_ask goes_on cell_page with_page with_cell wiped outcome_of change_at configuration voters_after may_change member_step log_end matches merged conflict_place accept first_replaced accept_above first_replaced_above is_up_to_date term_at voters others peers majority on_grants may_start_election start_election on_ask_vote grants_with on_vote agrees take_entries replaces_committed on_append on_install on_snapped on_ack message_in_range on_message on_propose on_beat on_transfer on_servers majority_stores commit_below commit_index needs_snapshot message_to finish serve raft_step step_acts put run is_stored_by_majority commit_up_to may_grant writing elects opens writes moves_on turns after acted cluster
+unfolding is_space is_digit is_letter is_word_start is_word_part is_sigil is_quote is_in_line has_end kind_of quoted starred decimal in_range parameter solid extended finished statements_from scan_of sigil_token dash_token slash_token sign_token token_of tokens_past is_write is_left_out keyword_of followed_by kind_so_far parts_of first_count cut first_nul zeros resized page_from sizes_page page_at stated_main stated_side replaced put_pages applied is_sizes order_fault length_fault fault_before changed_from changed at_name change_first split_from asked_by asked_unless_lost takes runs tx_of tidy on_applied told_applied on_lost told_lost on_hangup connects connected holds other_holds change_in_flight all_names one_too_many pending_pages pages_with too_full change_refusal with_commit framed act files row_cause outside_write outside inside committed does on_request handed with_session may_ask goes_on cell_page with_page with_cell wiped outcome_of change_at configuration voters_after may_change member_step log_end matches merged conflict_place accept first_replaced accept_above first_replaced_above is_up_to_date term_at voters others peers majority on_grants may_start_election start_election on_ask_vote grants_with on_vote agrees take_entries replaces_committed on_append on_install on_snapped on_ack message_in_range on_message on_propose on_beat on_transfer on_servers majority_stores commit_below commit_index needs_snapshot message_to finish serve raft_step step_acts put run is_stored_by_majority commit_up_to may_grant writing elects opens writes moves_on turns after acted cluster
 pages_sized = (refl, (refl, (refl, tt)))
 
 pub writing_spelled : HasSpelling writing
-unfolding is_space is_digit is_letter is_word_start is_word_part is_sigil is_quote is_in_line has_end kind_of quoted starred decimal in_range parameter solid extended finished statements_from scan_of sigil_token dash_token slash_token sign_token token_of tokens_past is_write is_left_out keyword_of followed_by kind_so_far parts_of first_count cut first_nul zeros resized page_from sizes_page page_at stated_main stated_side replaced put_pages applied is_sizes order_fault length_fault fault_before changed_from changed at_name change_first split_from asked_by takes runs tx_of tidy on_applied told_applied on_lost told_lost on_hangup connects connected holds other_holds change_in_flight all_names one_too_many pending_pages pages_with too_full change_refusal with_commit framed act files row_cause outside_write outside inside committed does on_request handed with_session may_ask goes_on cell_page with_page with_cell wiped outcome_of change_at configuration voters_after may_change member_step log_end matches merged conflict_place accept first_replaced accept_above first_replaced_above is_up_to_date term_at voters others peers majority on_grants may_start_election start_election on_ask_vote grants_with on_vote agrees take_entries replaces_committed on_append on_install on_snapped on_ack message_in_range on_message on_propose on_beat on_transfer on_servers majority_stores commit_below commit_index needs_snapshot message_to finish serve raft_step step_acts put run is_stored_by_majority commit_up_to may_grant writing elects opens writes moves_on turns after acted cluster frames_fit ends_with numbers_ascend
+unfolding is_space is_digit is_letter is_word_start is_word_part is_sigil is_quote is_in_line has_end kind_of quoted starred decimal in_range parameter solid extended finished statements_from scan_of sigil_token dash_token slash_token sign_token token_of tokens_past is_write is_left_out keyword_of followed_by kind_so_far parts_of first_count cut first_nul zeros resized page_from sizes_page page_at stated_main stated_side replaced put_pages applied is_sizes order_fault length_fault fault_before changed_from changed at_name change_first split_from asked_by asked_unless_lost takes runs tx_of tidy on_applied told_applied on_lost told_lost on_hangup connects connected holds other_holds change_in_flight all_names one_too_many pending_pages pages_with too_full change_refusal with_commit framed act files row_cause outside_write outside inside committed does on_request handed with_session may_ask goes_on cell_page with_page with_cell wiped outcome_of change_at configuration voters_after may_change member_step log_end matches merged conflict_place accept first_replaced accept_above first_replaced_above is_up_to_date term_at voters others peers majority on_grants may_start_election start_election on_ask_vote grants_with on_vote agrees take_entries replaces_committed on_append on_install on_snapped on_ack message_in_range on_message on_propose on_beat on_transfer on_servers majority_stores commit_below commit_index needs_snapshot message_to finish serve raft_step step_acts put run is_stored_by_majority commit_up_to may_grant writing elects opens writes moves_on turns after acted cluster frames_fit ends_with numbers_ascend
 writing_spelled = record { in_range = (named, omega arith, omega arith, pages_numbered, pages_sized); fits = refl; parts = refl }
 
 -- the log with these, in terms 1 and 2, as sessions see it
@@ -120,7 +120,7 @@ pub plain_weaves : (term : ℕ) (log : List raft.Entry) (contents : List Content
 plain_weaves term log contents h plain w = subst Woven (sym (proposals_seen_hold log 0 term contents h)) (woven_plain true term (log_seen log) contents plain w)
 
 pub writing_is : map Does (split (codes "d") (record { tx = tx_of 1 3; pages = changed empty_image (lives.one 7) })) ≡ writing ∷ []
-unfolding is_space is_digit is_letter is_word_start is_word_part is_sigil is_quote is_in_line has_end kind_of quoted starred decimal in_range parameter solid extended finished statements_from scan_of sigil_token dash_token slash_token sign_token token_of tokens_past is_write is_left_out keyword_of followed_by kind_so_far parts_of first_count cut first_nul zeros resized page_from sizes_page page_at stated_main stated_side replaced put_pages applied is_sizes order_fault length_fault fault_before changed_from changed at_name change_first split_from asked_by takes runs tx_of tidy on_applied told_applied on_lost told_lost on_hangup connects connected holds other_holds change_in_flight all_names one_too_many pending_pages pages_with too_full change_refusal with_commit framed act files row_cause outside_write outside inside committed does on_request handed with_session may_ask goes_on cell_page with_page with_cell wiped outcome_of change_at configuration voters_after may_change member_step log_end matches merged conflict_place accept first_replaced accept_above first_replaced_above is_up_to_date term_at voters others peers majority on_grants may_start_election start_election on_ask_vote grants_with on_vote agrees take_entries replaces_committed on_append on_install on_snapped on_ack message_in_range on_message on_propose on_beat on_transfer on_servers majority_stores commit_below commit_index needs_snapshot message_to finish serve raft_step step_acts put run is_stored_by_majority commit_up_to may_grant writing elects opens writes moves_on turns after acted cluster
+unfolding is_space is_digit is_letter is_word_start is_word_part is_sigil is_quote is_in_line has_end kind_of quoted starred decimal in_range parameter solid extended finished statements_from scan_of sigil_token dash_token slash_token sign_token token_of tokens_past is_write is_left_out keyword_of followed_by kind_so_far parts_of first_count cut first_nul zeros resized page_from sizes_page page_at stated_main stated_side replaced put_pages applied is_sizes order_fault length_fault fault_before changed_from changed at_name change_first split_from asked_by asked_unless_lost takes runs tx_of tidy on_applied told_applied on_lost told_lost on_hangup connects connected holds other_holds change_in_flight all_names one_too_many pending_pages pages_with too_full change_refusal with_commit framed act files row_cause outside_write outside inside committed does on_request handed with_session may_ask goes_on cell_page with_page with_cell wiped outcome_of change_at configuration voters_after may_change member_step log_end matches merged conflict_place accept first_replaced accept_above first_replaced_above is_up_to_date term_at voters others peers majority on_grants may_start_election start_election on_ask_vote grants_with on_vote agrees take_entries replaces_committed on_append on_install on_snapped on_ack message_in_range on_message on_propose on_beat on_transfer on_servers majority_stores commit_below commit_index needs_snapshot message_to finish serve raft_step step_acts put run is_stored_by_majority commit_up_to may_grant writing elects opens writes moves_on turns after acted cluster
 writing_is = refl
 
 pub writing_weaves : IsWoven (written 1 (Other ∷ opening ∷ [])) → IsWoven (written 1 (Other ∷ opening ∷ []) ++ with_term 1 (written 0 (writing ∷ [])))
@@ -130,7 +130,7 @@ writing_weaves w =
     (subst (λ (cs : List Content). Woven (log_seen log ++ entries_of 1 cs)) writing_is (woven_split 1 (codes "d") (log_seen log) (changed empty_image (lives.one 7)) (omega arith) w))
 
 elects_fit : ActsFit cells Cells (fixed three) first_cluster elects
-unfolding is_space is_digit is_letter is_word_start is_word_part is_sigil is_quote is_in_line has_end kind_of quoted starred decimal in_range parameter solid extended finished statements_from scan_of sigil_token dash_token slash_token sign_token token_of tokens_past is_write is_left_out keyword_of followed_by kind_so_far parts_of first_count cut first_nul zeros resized page_from sizes_page page_at stated_main stated_side replaced put_pages applied is_sizes order_fault length_fault fault_before changed_from changed at_name change_first split_from asked_by takes runs tx_of tidy on_applied told_applied on_lost told_lost on_hangup connects connected holds other_holds change_in_flight all_names one_too_many pending_pages pages_with too_full change_refusal with_commit framed act files row_cause outside_write outside inside committed does on_request handed with_session may_ask goes_on cell_page with_page with_cell wiped outcome_of change_at configuration voters_after may_change member_step log_end matches merged conflict_place accept first_replaced accept_above first_replaced_above is_up_to_date term_at voters others peers majority on_grants may_start_election start_election on_ask_vote grants_with on_vote agrees take_entries replaces_committed on_append on_install on_snapped on_ack message_in_range on_message on_propose on_beat on_transfer on_servers majority_stores commit_below commit_index needs_snapshot message_to finish serve raft_step step_acts put run is_stored_by_majority commit_up_to may_grant writing elects opens writes moves_on turns after acted cluster
+unfolding is_space is_digit is_letter is_word_start is_word_part is_sigil is_quote is_in_line has_end kind_of quoted starred decimal in_range parameter solid extended finished statements_from scan_of sigil_token dash_token slash_token sign_token token_of tokens_past is_write is_left_out keyword_of followed_by kind_so_far parts_of first_count cut first_nul zeros resized page_from sizes_page page_at stated_main stated_side replaced put_pages applied is_sizes order_fault length_fault fault_before changed_from changed at_name change_first split_from asked_by asked_unless_lost takes runs tx_of tidy on_applied told_applied on_lost told_lost on_hangup connects connected holds other_holds change_in_flight all_names one_too_many pending_pages pages_with too_full change_refusal with_commit framed act files row_cause outside_write outside inside committed does on_request handed with_session may_ask goes_on cell_page with_page with_cell wiped outcome_of change_at configuration voters_after may_change member_step log_end matches merged conflict_place accept first_replaced accept_above first_replaced_above is_up_to_date term_at voters others peers majority on_grants may_start_election start_election on_ask_vote grants_with on_vote agrees take_entries replaces_committed on_append on_install on_snapped on_ack message_in_range on_message on_propose on_beat on_transfer on_servers majority_stores commit_below commit_index needs_snapshot message_to finish serve raft_step step_acts put run is_stored_by_majority commit_up_to may_grant writing elects opens writes moves_on turns after acted cluster
 elects_fit = (
   (refl, record { weaves = (tt, tt); fits = (omega arith, tt); terms = tt; coherent = record { log = refl; applied = refl; term = refl; leads = refl } }),
   (
@@ -146,7 +146,7 @@ elects_fit = (
 )
 
 opens_fit : ActsFit cells Cells (fixed three) (cluster_from (fixed three) first_cluster elects) opens
-unfolding is_space is_digit is_letter is_word_start is_word_part is_sigil is_quote is_in_line has_end kind_of quoted starred decimal in_range parameter solid extended finished statements_from scan_of sigil_token dash_token slash_token sign_token token_of tokens_past is_write is_left_out keyword_of followed_by kind_so_far parts_of first_count cut first_nul zeros resized page_from sizes_page page_at stated_main stated_side replaced put_pages applied is_sizes order_fault length_fault fault_before changed_from changed at_name change_first split_from asked_by takes runs tx_of tidy on_applied told_applied on_lost told_lost on_hangup connects connected holds other_holds change_in_flight all_names one_too_many pending_pages pages_with too_full change_refusal with_commit framed act files row_cause outside_write outside inside committed does on_request handed with_session may_ask goes_on cell_page with_page with_cell wiped outcome_of change_at configuration voters_after may_change member_step log_end matches merged conflict_place accept first_replaced accept_above first_replaced_above is_up_to_date term_at voters others peers majority on_grants may_start_election start_election on_ask_vote grants_with on_vote agrees take_entries replaces_committed on_append on_install on_snapped on_ack message_in_range on_message on_propose on_beat on_transfer on_servers majority_stores commit_below commit_index needs_snapshot message_to finish serve raft_step step_acts put run is_stored_by_majority commit_up_to may_grant writing elects opens writes moves_on turns after acted cluster
+unfolding is_space is_digit is_letter is_word_start is_word_part is_sigil is_quote is_in_line has_end kind_of quoted starred decimal in_range parameter solid extended finished statements_from scan_of sigil_token dash_token slash_token sign_token token_of tokens_past is_write is_left_out keyword_of followed_by kind_so_far parts_of first_count cut first_nul zeros resized page_from sizes_page page_at stated_main stated_side replaced put_pages applied is_sizes order_fault length_fault fault_before changed_from changed at_name change_first split_from asked_by asked_unless_lost takes runs tx_of tidy on_applied told_applied on_lost told_lost on_hangup connects connected holds other_holds change_in_flight all_names one_too_many pending_pages pages_with too_full change_refusal with_commit framed act files row_cause outside_write outside inside committed does on_request handed with_session may_ask goes_on cell_page with_page with_cell wiped outcome_of change_at configuration voters_after may_change member_step log_end matches merged conflict_place accept first_replaced accept_above first_replaced_above is_up_to_date term_at voters others peers majority on_grants may_start_election start_election on_ask_vote grants_with on_vote agrees take_entries replaces_committed on_append on_install on_snapped on_ack message_in_range on_message on_propose on_beat on_transfer on_servers majority_stores commit_below commit_index needs_snapshot message_to finish serve raft_step step_acts put run is_stored_by_majority commit_up_to may_grant writing elects opens writes moves_on turns after acted cluster
 opens_fit = (
   (refl, record { weaves = (tt, tt); fits = (omega arith, ((refl, refl, λ n. refl), (tt, tt))); terms = tt; coherent = record { log = same_log (entries_of 1 (Other ∷ [])) (written 1 (Other ∷ [])) refl refl first_seen; applied = refl; term = refl; leads = refl } }),
   (
@@ -162,7 +162,7 @@ opens_fit = (
 )
 
 writes_fit : ActsFit cells Cells (fixed three) (cluster_from (fixed three) first_cluster (elects ++ opens)) writes
-unfolding is_space is_digit is_letter is_word_start is_word_part is_sigil is_quote is_in_line has_end kind_of quoted starred decimal in_range parameter solid extended finished statements_from scan_of sigil_token dash_token slash_token sign_token token_of tokens_past is_write is_left_out keyword_of followed_by kind_so_far parts_of first_count cut first_nul zeros resized page_from sizes_page page_at stated_main stated_side replaced put_pages applied is_sizes order_fault length_fault fault_before changed_from changed at_name change_first split_from asked_by takes runs tx_of tidy on_applied told_applied on_lost told_lost on_hangup connects connected holds other_holds change_in_flight all_names one_too_many pending_pages pages_with too_full change_refusal with_commit framed act files row_cause outside_write outside inside committed does on_request handed with_session may_ask goes_on cell_page with_page with_cell wiped outcome_of change_at configuration voters_after may_change member_step log_end matches merged conflict_place accept first_replaced accept_above first_replaced_above is_up_to_date term_at voters others peers majority on_grants may_start_election start_election on_ask_vote grants_with on_vote agrees take_entries replaces_committed on_append on_install on_snapped on_ack message_in_range on_message on_propose on_beat on_transfer on_servers majority_stores commit_below commit_index needs_snapshot message_to finish serve raft_step step_acts put run is_stored_by_majority commit_up_to may_grant writing elects opens writes moves_on turns after acted cluster
+unfolding is_space is_digit is_letter is_word_start is_word_part is_sigil is_quote is_in_line has_end kind_of quoted starred decimal in_range parameter solid extended finished statements_from scan_of sigil_token dash_token slash_token sign_token token_of tokens_past is_write is_left_out keyword_of followed_by kind_so_far parts_of first_count cut first_nul zeros resized page_from sizes_page page_at stated_main stated_side replaced put_pages applied is_sizes order_fault length_fault fault_before changed_from changed at_name change_first split_from asked_by asked_unless_lost takes runs tx_of tidy on_applied told_applied on_lost told_lost on_hangup connects connected holds other_holds change_in_flight all_names one_too_many pending_pages pages_with too_full change_refusal with_commit framed act files row_cause outside_write outside inside committed does on_request handed with_session may_ask goes_on cell_page with_page with_cell wiped outcome_of change_at configuration voters_after may_change member_step log_end matches merged conflict_place accept first_replaced accept_above first_replaced_above is_up_to_date term_at voters others peers majority on_grants may_start_election start_election on_ask_vote grants_with on_vote agrees take_entries replaces_committed on_append on_install on_snapped on_ack message_in_range on_message on_propose on_beat on_transfer on_servers majority_stores commit_below commit_index needs_snapshot message_to finish serve raft_step step_acts put run is_stored_by_majority commit_up_to may_grant writing elects opens writes moves_on turns after acted cluster
 writes_fit = (
   (refl, record { weaves = ((λ r w. writing_weaves w), tt); fits = ((λ h. ((0, may_set), tt)), tt); terms = tt; coherent = record { log = same_log (entries_of 1 (Other ∷ opening ∷ writing ∷ [])) (written 1 (Other ∷ opening ∷ writing ∷ [])) refl refl three_seen; applied = refl; term = refl; leads = refl } }),
   (
@@ -186,7 +186,7 @@ unfolding files act framed writing
 nothing_pending n = cond_both (bytes_eq n (codes "d")) (framed 4294967299 true (changed empty_image (lives.one 7)) blank) blank (λ (b : Base). b.pending ≡ None) (λ e. refl) (λ e. refl)
 
 moves_fit : ActsFit cells Cells (fixed three) (cluster_from (fixed three) first_cluster (elects ++ (opens ++ writes))) moves_on
-unfolding is_space is_digit is_letter is_word_start is_word_part is_sigil is_quote is_in_line has_end kind_of quoted starred decimal in_range parameter solid extended finished statements_from scan_of sigil_token dash_token slash_token sign_token token_of tokens_past is_write is_left_out keyword_of followed_by kind_so_far parts_of first_count cut first_nul zeros resized page_from sizes_page page_at stated_main stated_side replaced put_pages applied is_sizes order_fault length_fault fault_before changed_from changed at_name change_first split_from asked_by takes runs tx_of tidy on_applied told_applied on_lost told_lost on_hangup connects connected holds other_holds change_in_flight all_names one_too_many pending_pages pages_with too_full change_refusal with_commit framed act files row_cause outside_write outside inside committed does on_request handed with_session may_ask goes_on cell_page with_page with_cell wiped outcome_of change_at configuration voters_after may_change member_step log_end matches merged conflict_place accept first_replaced accept_above first_replaced_above is_up_to_date term_at voters others peers majority on_grants may_start_election start_election on_ask_vote grants_with on_vote agrees take_entries replaces_committed on_append on_install on_snapped on_ack message_in_range on_message on_propose on_beat on_transfer on_servers majority_stores commit_below commit_index needs_snapshot message_to finish serve raft_step step_acts put run is_stored_by_majority commit_up_to may_grant writing elects opens writes moves_on turns after acted cluster
+unfolding is_space is_digit is_letter is_word_start is_word_part is_sigil is_quote is_in_line has_end kind_of quoted starred decimal in_range parameter solid extended finished statements_from scan_of sigil_token dash_token slash_token sign_token token_of tokens_past is_write is_left_out keyword_of followed_by kind_so_far parts_of first_count cut first_nul zeros resized page_from sizes_page page_at stated_main stated_side replaced put_pages applied is_sizes order_fault length_fault fault_before changed_from changed at_name change_first split_from asked_by asked_unless_lost takes runs tx_of tidy on_applied told_applied on_lost told_lost on_hangup connects connected holds other_holds change_in_flight all_names one_too_many pending_pages pages_with too_full change_refusal with_commit framed act files row_cause outside_write outside inside committed does on_request handed with_session may_ask goes_on cell_page with_page with_cell wiped outcome_of change_at configuration voters_after may_change member_step log_end matches merged conflict_place accept first_replaced accept_above first_replaced_above is_up_to_date term_at voters others peers majority on_grants may_start_election start_election on_ask_vote grants_with on_vote agrees take_entries replaces_committed on_append on_install on_snapped on_ack message_in_range on_message on_propose on_beat on_transfer on_servers majority_stores commit_below commit_index needs_snapshot message_to finish serve raft_step step_acts put run is_stored_by_majority commit_up_to may_grant writing elects opens writes moves_on turns after acted cluster
 moves_fit = (
   tt,
   (

@@ -13,7 +13,7 @@ use Rattle.sql_engine.specs.Meanings.{Meaning}
 use Rattle.sql_engine.specs.Replies.{Statement}
 use Rattle.wire_msgs.specs.declared.request.Request.{Request}
 use Rattle.raft_spec.specs.Node.{among}
-use Rattle.session_spec.specs.Asking.{Asked, Never, Tells, Sets, Opens, Creates, Prepares, Drops, Begins, Commits, RollsBack, Changes, Runs, Reads, asked}
+use Rattle.session_spec.specs.Asking.{Asked, Never, Tells, Sets, Opens, Creates, Prepares, Drops, Forgets, Begins, Commits, RollsBack, Changes, Runs, Reads, asked}
 use Rattle.session_spec.specs.Causes.{Cause}
 use Rattle.session_spec.specs.Engines.{Answer, no_pages, Ending, Lacking, TooLarge, Stopped, Ended}
 use Rattle.session_spec.specs.Entries.{entries_of}
@@ -199,6 +199,7 @@ module _ (k applied : ℕ) (v : View) (m : Machine) (g : Gateway) (c : ℕ) (s :
       cond_both (pages_full m g name empty_image) _ _ (TurnedNew k v.last applied) (λ e. tt) (λ e. (_, refl, omega arith, rest, out, tt))
   does_new first (Prepares p tail) answers = tt
   does_new first (Drops id) answers = tt
+  does_new first (Forgets response) answers = tt
   does_new first (Begins at_once) answers = cond_both (at_once && other_holds g c s.database) _ _ (TurnedNew k v.last applied) (λ e. tt) (λ e. tt)
   does_new first Commits answers = commit_new s.tx out
   does_new first RollsBack answers = tt

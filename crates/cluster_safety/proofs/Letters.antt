@@ -2,7 +2,7 @@
 use Rattle.std.proofs.Common.{◌≡◌, ◌⊎◌, ℕ, zero, suc, ◌+◌, ◌<◌, Bool, true, false, List, [], ◌∷◌, ◌++◌, length, map, take, refl, sym, ap, ◌∙◌, subst, ⊎_elim, arith, append_assoc, length-append}
 use Rattle.std.specs.Prelude.{cond, ◌==◌, Option, Some, None, slice_get}
 use Rattle.raft_spec.specs.Log.{Entry, LogEnd}
-use Rattle.raft_spec.specs.Node.{What, AskVote, Vote, Append, Ack, Install, TimeoutNow, Message, LocalEvent, Timeout, Beat, Input, Local, Receive}
+use Rattle.raft_spec.specs.Node.{What, AskVote, Vote, Append, Ack, Install, TimeoutNow, Message, LocalEvent, Timeout, Beat, Yield, Input, Local, Receive}
 use Rattle.raft_safety.specs.Members.{Setup}
 use Rattle.raft_safety.specs.World.{Cause, Does, Takes, taken, inputs, one_of, picked}
 use Rattle.raft_safety.specs.Cuts.{AlikeWhat, AlikeMessage, AlikeAll, AlikeInputs}
@@ -10,7 +10,8 @@ use Rattle.raft_safety.specs.Sources.{WhatFront}
 use Rattle.store_laws.specs.Store.{Kept}
 use Rattle.node_spec.specs.Nodes.{SnapshotOf}
 use Rattle.node_spec.specs.Steps.{Letter, FrontIs, BytesAre, HasBytes, WhatSent, AllSent}
-use Rattle.cluster_safety.specs.Runs.{Comes, Timeout as Late, Beat as Beats, Connect, Asks, Hangup, Gets, Reads, taken_letter, comes_in, bytes_of, bytes_in}
+use Rattle.cluster_safety.specs.Runs.{Comes, Timeout as Late, Beat as Beats, Yield as Yields, Connect, Asks, Hangup, Gets, Reads, taken_letter, comes_in}
+use Rattle.cluster_safety.specs.Runs.{bytes_of, bytes_in}
 use Rattle.cluster_safety.specs.Acts.{LetterIs, LettersAre}
 
 pub letters_join : (vs : Setup) (ms ns : List Message) (ls ks : List Letter) → LettersAre vs ms ls → LettersAre vs ns ks → LettersAre vs (ms ++ ns) (ls ++ ks)
@@ -70,6 +71,7 @@ came_found vs n (Some m) p f = subst (λ (q : Option Letter). Came vs (bytes_of 
 abbrev pub causes : Comes → List LocalEvent → List Cause
 causes Late added = Does Timeout ∷ map Does added
 causes Beats added = Does Beat ∷ map Does added
+causes Yields added = Does Yield ∷ map Does added
 causes (Connect conn) added = map Does added
 causes (Asks conn requests) added = map Does added
 causes (Hangup conn) added = map Does added
@@ -79,6 +81,8 @@ causes (Reads conn reply) added = map Does added
 pub came_in : (vs : Setup) (n : ℕ) (ms : List Message) (ls : List Letter) (came : Comes) (added : List LocalEvent) → LettersAre vs ms ls → Came vs (bytes_in ls came) (inputs n ms (causes came added)) (comes_in n ls came ++ map Local added)
 came_in vs n ms ls Late added a = let r = came_added vs [] n ms added in record { alike = (Local Timeout, map Local added, refl, refl, r.alike); front = r.front }
 came_in vs n ms ls Beats added a = let r = came_added vs [] n ms added in record { alike = (Local Beat, map Local added, refl, refl, r.alike); front = r.front }
+came_in vs n ms ls Yields added a =
+    let r = came_added vs [] n ms added in record { alike = (Local Yield, map Local added, refl, refl, r.alike); front = r.front }
 came_in vs n ms ls (Connect conn) added a = came_added vs [] n ms added
 came_in vs n ms ls (Asks conn requests) added a = came_added vs [] n ms added
 came_in vs n ms ls (Hangup conn) added a = came_added vs [] n ms added
@@ -100,7 +104,7 @@ sent_bytes vs c k bytes last front f g b = λ pos.
     subst (λ (y : List ℕ). SnapshotOf vs front y) (sym b.1) (subst (λ (x : List Entry). SnapshotOf vs x k.snap.bytes) (sym (g.1 ∙ ap (λ (i : ℕ). take i c) b.0)) (f low))
 
 what_sent : (vs : Setup) (c : List Entry) (old new : Kept) (bytes : List ℕ) (w v : What) → KeepsFront vs c old → KeepsFront vs c new → WhatFront c w → AlikeWhat w v → WhatSent old new bytes v → FrontIs vs bytes w
-what_sent vs c old new bytes (AskVote last) v f g h a b = tt
+what_sent vs c old new bytes (AskVote last transfer) v f g h a b = tt
 what_sent vs c old new bytes (Vote granted) v f g h a b = tt
 what_sent vs c old new bytes (Append prev commit es) v f g h a b = tt
 what_sent vs c old new bytes (Ack good index) v f g h a b = tt

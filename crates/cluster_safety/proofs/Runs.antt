@@ -31,7 +31,7 @@ use Rattle.cluster_model.proofs.Clusters.{cluster_ok, fit_parts, move_fit, raft_
 use Rattle.node_spec.specs.Nodes.{Node, SnapshotOf, KeptIs}
 use Rattle.node_spec.specs.Steps.{Letter, ReadIsAnswered, ReadsIn, JoinsOnly, Handles, Completes, calls, ArePartOf, StepHolds, CompletesStart, StopsInStart, told}
 use Rattle.node_spec.proofs.Acts.{with_act, stopped_node, started_node, fit_more, steps_fit_hold, stops_fit_hold, starts_fit_hold}
-use Rattle.cluster_safety.specs.Runs.{Place, Up, Down, Spoken, Run, Comes, Timeout, Beat, Connect, Asks, Hangup, Gets, Reads, Goes, Fails, Crashes, Starts, StartFails, Event as Happening, taken, joins_in, read_in, asks_in, TellsOf, ReadsJob, with_place, kept_at, spoken, happens, run_from, first_run, run, Holds}
+use Rattle.cluster_safety.specs.Runs.{Place, Up, Down, Spoken, Run, Comes, Timeout, Beat, Yield, Connect, Asks, Hangup, Gets, Reads, Goes, Fails, Crashes, Starts, StartFails, Event as Happening, taken, joins_in, read_in, asks_in, TellsOf, ReadsJob, with_place, kept_at, spoken, happens, run_from, first_run, run, Holds}
 use Rattle.cluster_safety.specs.Acts.{LettersAre, PlaceIs, spoken_to, RunIs, RunsMakeActs, NotStarted, NotJoined, asked, waits, GoesOn, RunsGoOn}
 use Rattle.wire_msgs.specs.declared.request.Request.{Request}
 use Rattle.cluster_safety.proofs.Parts.{part_same, part_join, calls_join}
@@ -252,6 +252,7 @@ module _ (mean : Meaning) (kind : EngineKind) where
       by (Some s) e = subst (λ (j : Option Job). TellsOf mean kind j reply) (jobs conn s e) h
   reads_in r n Timeout w jobs h = tt
   reads_in r n Beat w jobs h = tt
+  reads_in r n Yield w jobs h = tt
   reads_in r n (Connect conn) w jobs h = tt
   reads_in r n (Asks conn requests) w jobs h = tt
   reads_in r n (Hangup conn) w jobs h = tt

@@ -80,7 +80,7 @@ has_front s v ch i t le same =
 
 -- a snapshot in a message is of a front
 what_keeps : (vs : Setup) (ch : List Entry) (bytes : List ℕ) (w v : raft.What) (last : LogEnd) (front : List Entry) → AlikeWhat w v → v ≡ raft.Install last front → FrontIs vs bytes w → WhatFront ch w → 0 < last.index → KeepsOf vs (log_seen ch) last.index bytes
-what_keeps vs ch bytes (raft.AskVote end) v last front a e f g pos = absurd cc
+what_keeps vs ch bytes (raft.AskVote end transfer) v last front a e f g pos = absurd cc
 what_keeps vs ch bytes (raft.Vote granted) v last front a e f g pos = absurd cc
 what_keeps vs ch bytes (raft.Append prev commit es) v last front a e f g pos = absurd cc
 what_keeps vs ch bytes (raft.Ack good index) v last front a e f g pos = absurd cc

@@ -58,7 +58,7 @@ use Rattle.dq_base.specs.Applying.{stated_main, stated_side, replaced, put_pages
 use Rattle.dq_base.specs.Changes.{changed_from, changed}
 use Rattle.database_state.specs.ByName.{at_name, change_first}
 use Rattle.log_commands.specs.Splitting.{split_from}
-use Rattle.session_spec.specs.Asking.{asked_by}
+use Rattle.session_spec.specs.Asking.{asked_unless_lost, asked_by}
 use Rattle.session_spec.specs.Engines.{Answer, takes, runs, used}
 use Rattle.session_spec.specs.Events.{tidy, landed, settled_by, on_applied, told_applied, on_lost, told_lost, on_hangup, connects, connected}
 use Rattle.session_spec.specs.Limits.{holds, other_holds, change_in_flight, all_names, one_too_many, pending_pages, pages_with, too_full, change_refusal}
@@ -91,7 +91,7 @@ abbrev NoneOpen : Gateway → Type 0
 NoneOpen g = (conn : ℕ) → (g.session conn).tx ≡ None
 
 still_session : (lacks : List ℕ → ℕ) (s : Session) → s.tx ≡ None → shifted_session lacks s ≡ s
-still_session lacks s e = λ i. record { there = s.there; hung = s.hung; database = s.database; barriers = s.barriers; later = s.later; statements = s.statements; tx = (ap (option_map (shifted_tx lacks)) e ∙ sym e) i; flight = s.flight }
+still_session lacks s e = λ i. record { there = s.there; hung = s.hung; database = s.database; barriers = s.barriers; later = s.later; statements = s.statements; tx = (ap (option_map (shifted_tx lacks)) e ∙ sym e) i; lost = s.lost; flight = s.flight }
 
 still_gate : (lacks : List ℕ → ℕ) (g : Gateway) → NoneOpen g → shifted lacks g ≡ g
 still_gate lacks g none = λ i. record { conns = g.conns; session = λ conn. still_session lacks (g.session conn) (none conn) i; weight = g.weight }
@@ -106,11 +106,11 @@ none_in : NoneOpen no_sessions
 none_in conn = refl
 
 none_at : (name : List ℕ) → NoneOpen (client name)
-none_at name conn = cond_both (conn == 5) (record { there = true; hung = false; database = name; barriers = false; later = None; statements = []; tx = None; flight = None }) absent (λ (s : Session). s.tx ≡ None) (λ e. refl) (λ e. refl)
+none_at name conn = cond_both (conn == 5) (record { there = true; hung = false; database = name; barriers = false; later = None; statements = []; tx = None; lost = false; flight = None }) absent (λ (s : Session). s.tx ≡ None) (λ e. refl) (λ e. refl)
 
 -- no query of a client is due
 client_runs : (name : List ℕ) (conn : ℕ) → is_due ((client name).session conn).later ≡ false
-client_runs name conn = cond_both (conn == 5) (record { there = true; hung = false; database = name; barriers = false; later = None; statements = []; tx = None; flight = None }) absent (λ (s : Session). is_due s.later ≡ false) (λ e. refl) (λ e. refl)
+client_runs name conn = cond_both (conn == 5) (record { there = true; hung = false; database = name; barriers = false; later = None; statements = []; tx = None; lost = false; flight = None }) absent (λ (s : Session). is_due s.later ≡ false) (λ e. refl) (λ e. refl)
 
 -- the life of a leader of term 1 that has applied these contents
 abbrev life_of : List Content → Gateway → (ℕ → Trail) → List Said → Life
@@ -209,7 +209,7 @@ files_wrote : act (act nothing opens_it) writes_it ≡ machine_of wrote
 files_wrote = ap (λ m. act m writes_it) files_opened ∙ sym (machines_follow_hold opened writes_it machine_opened)
 
 low_numbers : AreLow (changed empty_image (lives.one 7))
-unfolding is_space is_digit is_letter is_word_start is_word_part is_sigil is_quote is_in_line has_end kind_of quoted starred decimal in_range parameter solid extended finished statements_from scan_of sigil_token dash_token slash_token sign_token token_of tokens_past is_write is_left_out keyword_of followed_by kind_so_far parts_of first_count cut first_nul zeros resized page_from sizes_page page_at stated_main stated_side replaced put_pages applied is_sizes order_fault length_fault fault_before changed_from changed at_name change_first split_from asked_by takes runs tx_of tidy on_applied told_applied on_lost told_lost on_hangup connects connected holds other_holds change_in_flight all_names one_too_many pending_pages pages_with too_full change_refusal with_commit framed act files row_cause outside_write outside inside committed does on_request handed with_session may_ask goes_on cell_page with_page with_cell wiped outcome_of change_at configuration voters_after may_change member_step log_end matches merged conflict_place accept first_replaced accept_above first_replaced_above is_up_to_date term_at voters others peers majority on_grants may_start_election start_election on_ask_vote grants_with on_vote agrees take_entries replaces_committed on_append on_install on_snapped on_ack message_in_range on_message on_propose on_beat on_transfer on_servers majority_stores commit_below commit_index needs_snapshot message_to finish serve raft_step step_acts put run is_stored_by_majority commit_up_to may_grant compacted_step writes_it writing
+unfolding is_space is_digit is_letter is_word_start is_word_part is_sigil is_quote is_in_line has_end kind_of quoted starred decimal in_range parameter solid extended finished statements_from scan_of sigil_token dash_token slash_token sign_token token_of tokens_past is_write is_left_out keyword_of followed_by kind_so_far parts_of first_count cut first_nul zeros resized page_from sizes_page page_at stated_main stated_side replaced put_pages applied is_sizes order_fault length_fault fault_before changed_from changed at_name change_first split_from asked_by asked_unless_lost takes runs tx_of tidy on_applied told_applied on_lost told_lost on_hangup connects connected holds other_holds change_in_flight all_names one_too_many pending_pages pages_with too_full change_refusal with_commit framed act files row_cause outside_write outside inside committed does on_request handed with_session may_ask goes_on cell_page with_page with_cell wiped outcome_of change_at configuration voters_after may_change member_step log_end matches merged conflict_place accept first_replaced accept_above first_replaced_above is_up_to_date term_at voters others peers majority on_grants may_start_election start_election on_ask_vote grants_with on_vote agrees take_entries replaces_committed on_append on_install on_snapped on_ack message_in_range on_message on_propose on_beat on_transfer on_servers majority_stores commit_below commit_index needs_snapshot message_to finish serve raft_step step_acts put run is_stored_by_majority commit_up_to may_grant compacted_step writes_it writing
 low_numbers = (omega arith, (omega arith, (omega arith, tt)))
 
 machine_wrote : IsMachine wrote
@@ -260,7 +260,7 @@ nothing_said : (before : List Said) → drop (length before) ((before ++ []) ++ 
 nothing_said before = ap (drop (length before)) (append-nil (before ++ []) ∙ append-nil before) ∙ drop_all (length before) before (omega arith)
 
 elects_so : (trail : ℕ → Trail) (before : List Said) → Shows (lone only only) (leading (Other ∷ []) no_sessions []) (taken first_run 1 Timeout []) [] [] [] (node_of (lone only only).raft) (blank_life trail before) (raft.Local raft.Timeout ∷ [])
-unfolding is_space is_digit is_letter is_word_start is_word_part is_sigil is_quote is_in_line has_end kind_of quoted starred decimal in_range parameter solid extended finished statements_from scan_of sigil_token dash_token slash_token sign_token token_of tokens_past is_write is_left_out keyword_of followed_by kind_so_far parts_of first_count cut first_nul zeros resized page_from sizes_page page_at stated_main stated_side replaced put_pages applied is_sizes order_fault length_fault fault_before changed_from changed at_name change_first split_from asked_by takes runs tx_of tidy on_applied told_applied on_lost told_lost on_hangup connects connected holds other_holds change_in_flight all_names one_too_many pending_pages pages_with too_full change_refusal with_commit framed act files row_cause outside_write outside inside committed does on_request handed with_session may_ask goes_on cell_page with_page with_cell wiped outcome_of change_at configuration voters_after may_change member_step log_end matches merged conflict_place accept first_replaced accept_above first_replaced_above is_up_to_date term_at voters others peers majority on_grants may_start_election start_election on_ask_vote grants_with on_vote agrees take_entries replaces_committed on_append on_install on_snapped on_ack message_in_range on_message on_propose on_beat on_transfer on_servers majority_stores commit_below commit_index needs_snapshot message_to finish serve raft_step step_acts put run is_stored_by_majority commit_up_to may_grant compacted_step writes_it writing
+unfolding is_space is_digit is_letter is_word_start is_word_part is_sigil is_quote is_in_line has_end kind_of quoted starred decimal in_range parameter solid extended finished statements_from scan_of sigil_token dash_token slash_token sign_token token_of tokens_past is_write is_left_out keyword_of followed_by kind_so_far parts_of first_count cut first_nul zeros resized page_from sizes_page page_at stated_main stated_side replaced put_pages applied is_sizes order_fault length_fault fault_before changed_from changed at_name change_first split_from asked_by asked_unless_lost takes runs tx_of tidy on_applied told_applied on_lost told_lost on_hangup connects connected holds other_holds change_in_flight all_names one_too_many pending_pages pages_with too_full change_refusal with_commit framed act files row_cause outside_write outside inside committed does on_request handed with_session may_ask goes_on cell_page with_page with_cell wiped outcome_of change_at configuration voters_after may_change member_step log_end matches merged conflict_place accept first_replaced accept_above first_replaced_above is_up_to_date term_at voters others peers majority on_grants may_start_election start_election on_ask_vote grants_with on_vote agrees take_entries replaces_committed on_append on_install on_snapped on_ack message_in_range on_message on_propose on_beat on_transfer on_servers majority_stores commit_below commit_index needs_snapshot message_to finish serve raft_step step_acts put run is_stored_by_majority commit_up_to may_grant compacted_step writes_it writing
 elects_so trail before =
     let v = lives_on (blank_life trail before) elects in
     let quiet : said_in (blank_life trail before) elects ≡ [] = nothing_said before in (
@@ -298,7 +298,7 @@ same_number : (n k : ℕ) → Comes_in n ≡ Comes_in k → n ≡ k
 same_number n k e = cc
 
 comes_so : (trail : ℕ → Trail) (before : List Said) → Shows (leading (Other ∷ []) no_sessions []) (leading (Other ∷ []) (client []) []) (taken first_run 1 (Connect 5) []) [] [] [] (node_of (leading (Other ∷ []) no_sessions []).raft) (life_of (Other ∷ []) no_sessions trail before) []
-unfolding is_space is_digit is_letter is_word_start is_word_part is_sigil is_quote is_in_line has_end kind_of quoted starred decimal in_range parameter solid extended finished statements_from scan_of sigil_token dash_token slash_token sign_token token_of tokens_past is_write is_left_out keyword_of followed_by kind_so_far parts_of first_count cut first_nul zeros resized page_from sizes_page page_at stated_main stated_side replaced put_pages applied is_sizes order_fault length_fault fault_before changed_from changed at_name change_first split_from asked_by takes runs tx_of tidy on_applied told_applied on_lost told_lost on_hangup connects connected holds other_holds change_in_flight all_names one_too_many pending_pages pages_with too_full change_refusal with_commit framed act files row_cause outside_write outside inside committed does on_request handed with_session may_ask goes_on cell_page with_page with_cell wiped outcome_of change_at configuration voters_after may_change member_step log_end matches merged conflict_place accept first_replaced accept_above first_replaced_above is_up_to_date term_at voters others peers majority on_grants may_start_election start_election on_ask_vote grants_with on_vote agrees take_entries replaces_committed on_append on_install on_snapped on_ack message_in_range on_message on_propose on_beat on_transfer on_servers majority_stores commit_below commit_index needs_snapshot message_to finish serve raft_step step_acts put run is_stored_by_majority commit_up_to may_grant compacted_step writes_it writing
+unfolding is_space is_digit is_letter is_word_start is_word_part is_sigil is_quote is_in_line has_end kind_of quoted starred decimal in_range parameter solid extended finished statements_from scan_of sigil_token dash_token slash_token sign_token token_of tokens_past is_write is_left_out keyword_of followed_by kind_so_far parts_of first_count cut first_nul zeros resized page_from sizes_page page_at stated_main stated_side replaced put_pages applied is_sizes order_fault length_fault fault_before changed_from changed at_name change_first split_from asked_by asked_unless_lost takes runs tx_of tidy on_applied told_applied on_lost told_lost on_hangup connects connected holds other_holds change_in_flight all_names one_too_many pending_pages pages_with too_full change_refusal with_commit framed act files row_cause outside_write outside inside committed does on_request handed with_session may_ask goes_on cell_page with_page with_cell wiped outcome_of change_at configuration voters_after may_change member_step log_end matches merged conflict_place accept first_replaced accept_above first_replaced_above is_up_to_date term_at voters others peers majority on_grants may_start_election start_election on_ask_vote grants_with on_vote agrees take_entries replaces_committed on_append on_install on_snapped on_ack message_in_range on_message on_propose on_beat on_transfer on_servers majority_stores commit_below commit_index needs_snapshot message_to finish serve raft_step step_acts put run is_stored_by_majority commit_up_to may_grant compacted_step writes_it writing
 comes_so trail before =
     let w = life_of (Other ∷ []) no_sessions trail before in
     let life = Comes_in 5 ∷ [] in
@@ -336,7 +336,7 @@ part_asked false r = tt
 
 -- the session of a client whose proposal is in flight, and then applied
 abbrev session_at : List ℕ → Option Flight → Session
-session_at name flight = record { there = true; hung = false; database = name; barriers = false; later = None; statements = []; tx = None; flight = flight }
+session_at name flight = record { there = true; hung = false; database = name; barriers = false; later = None; statements = []; tx = None; lost = false; flight = flight }
 
 abbrev flying_at : ℕ → ℕ → Kind → Flight
 flying_at index pages kind = record { name = codes "d"; first = index; last = index; term = 1; pages = pages; kind = kind }
@@ -350,7 +350,7 @@ abbrev opens_life : List Doing
 opens_life = lives.opens 5 ∷ Apply ∷ []
 
 opens_so : (trail : ℕ → Trail) (before : List Said) → Shows (leading (Other ∷ []) (client []) []) (leading (Other ∷ opening ∷ []) (client (codes "d")) opened) (taken first_run 1 (Asks 5 (asks_open ∷ [])) (raft.Propose (written 0 (opening ∷ [])) ∷ [])) [] ((5, db) ∷ []) [] (node_of (leading (Other ∷ []) (client []) []).raft) (life_of (Other ∷ []) (client []) trail before) (raft.Local (raft.Propose (written 0 (opening ∷ []))) ∷ [])
-unfolding is_space is_digit is_letter is_word_start is_word_part is_sigil is_quote is_in_line has_end kind_of quoted starred decimal in_range parameter solid extended finished statements_from scan_of sigil_token dash_token slash_token sign_token token_of tokens_past is_write is_left_out keyword_of followed_by kind_so_far parts_of first_count cut first_nul zeros resized page_from sizes_page page_at stated_main stated_side replaced put_pages applied is_sizes order_fault length_fault fault_before changed_from changed at_name change_first split_from asked_by takes runs tx_of tidy on_applied told_applied on_lost told_lost on_hangup connects connected holds other_holds change_in_flight all_names one_too_many pending_pages pages_with too_full change_refusal with_commit framed act files row_cause outside_write outside inside committed does on_request handed with_session may_ask goes_on cell_page with_page with_cell wiped outcome_of change_at configuration voters_after may_change member_step log_end matches merged conflict_place accept first_replaced accept_above first_replaced_above is_up_to_date term_at voters others peers majority on_grants may_start_election start_election on_ask_vote grants_with on_vote agrees take_entries replaces_committed on_append on_install on_snapped on_ack message_in_range on_message on_propose on_beat on_transfer on_servers majority_stores commit_below commit_index needs_snapshot message_to finish serve raft_step step_acts put run is_stored_by_majority commit_up_to may_grant compacted_step writes_it writing
+unfolding is_space is_digit is_letter is_word_start is_word_part is_sigil is_quote is_in_line has_end kind_of quoted starred decimal in_range parameter solid extended finished statements_from scan_of sigil_token dash_token slash_token sign_token token_of tokens_past is_write is_left_out keyword_of followed_by kind_so_far parts_of first_count cut first_nul zeros resized page_from sizes_page page_at stated_main stated_side replaced put_pages applied is_sizes order_fault length_fault fault_before changed_from changed at_name change_first split_from asked_by asked_unless_lost takes runs tx_of tidy on_applied told_applied on_lost told_lost on_hangup connects connected holds other_holds change_in_flight all_names one_too_many pending_pages pages_with too_full change_refusal with_commit framed act files row_cause outside_write outside inside committed does on_request handed with_session may_ask goes_on cell_page with_page with_cell wiped outcome_of change_at configuration voters_after may_change member_step log_end matches merged conflict_place accept first_replaced accept_above first_replaced_above is_up_to_date term_at voters others peers majority on_grants may_start_election start_election on_ask_vote grants_with on_vote agrees take_entries replaces_committed on_append on_install on_snapped on_ack message_in_range on_message on_propose on_beat on_transfer on_servers majority_stores commit_below commit_index needs_snapshot message_to finish serve raft_step step_acts put run is_stored_by_majority commit_up_to may_grant compacted_step writes_it writing
 opens_so trail before =
     let w = life_of (Other ∷ []) (client []) trail before in
     let v = lives_on w opens_life in
@@ -383,7 +383,7 @@ abbrev set_answers : List Answer
 set_answers = Ok (lives.set_on empty_image 7) ∷ []
 
 writes_so : (trail : ℕ → Trail) (before : List Said) → Shows (leading (Other ∷ opening ∷ []) (client (codes "d")) opened) (leading (Other ∷ opening ∷ writing ∷ []) (client (codes "d")) wrote) (taken first_run 1 (Asks 5 (asks_set ∷ [])) (raft.Propose (written 0 (writing ∷ [])) ∷ [])) [] ((5, result 1) ∷ []) set_answers (node_of (leading (Other ∷ opening ∷ []) (client (codes "d")) opened).raft) (life_of (Other ∷ opening ∷ []) (client (codes "d")) trail before) (raft.Local (raft.Propose (written 0 (writing ∷ []))) ∷ [])
-unfolding used is_space is_digit is_letter is_word_start is_word_part is_sigil is_quote is_in_line has_end kind_of quoted starred decimal in_range parameter solid extended finished statements_from scan_of sigil_token dash_token slash_token sign_token token_of tokens_past is_write is_left_out keyword_of followed_by kind_so_far parts_of first_count cut first_nul zeros resized page_from sizes_page page_at stated_main stated_side replaced put_pages applied is_sizes order_fault length_fault fault_before changed_from changed at_name change_first split_from asked_by takes runs tx_of tidy on_applied told_applied on_lost told_lost on_hangup connects connected holds other_holds change_in_flight all_names one_too_many pending_pages pages_with too_full change_refusal with_commit framed act files row_cause outside_write outside inside committed does on_request handed with_session may_ask goes_on cell_page with_page with_cell wiped outcome_of change_at configuration voters_after may_change member_step log_end matches merged conflict_place accept first_replaced accept_above first_replaced_above is_up_to_date term_at voters others peers majority on_grants may_start_election start_election on_ask_vote grants_with on_vote agrees take_entries replaces_committed on_append on_install on_snapped on_ack message_in_range on_message on_propose on_beat on_transfer on_servers majority_stores commit_below commit_index needs_snapshot message_to finish serve raft_step step_acts put run is_stored_by_majority commit_up_to may_grant compacted_step writes_it writing
+unfolding used is_space is_digit is_letter is_word_start is_word_part is_sigil is_quote is_in_line has_end kind_of quoted starred decimal in_range parameter solid extended finished statements_from scan_of sigil_token dash_token slash_token sign_token token_of tokens_past is_write is_left_out keyword_of followed_by kind_so_far parts_of first_count cut first_nul zeros resized page_from sizes_page page_at stated_main stated_side replaced put_pages applied is_sizes order_fault length_fault fault_before changed_from changed at_name change_first split_from asked_by asked_unless_lost takes runs tx_of tidy on_applied told_applied on_lost told_lost on_hangup connects connected holds other_holds change_in_flight all_names one_too_many pending_pages pages_with too_full change_refusal with_commit framed act files row_cause outside_write outside inside committed does on_request handed with_session may_ask goes_on cell_page with_page with_cell wiped outcome_of change_at configuration voters_after may_change member_step log_end matches merged conflict_place accept first_replaced accept_above first_replaced_above is_up_to_date term_at voters others peers majority on_grants may_start_election start_election on_ask_vote grants_with on_vote agrees take_entries replaces_committed on_append on_install on_snapped on_ack message_in_range on_message on_propose on_beat on_transfer on_servers majority_stores commit_below commit_index needs_snapshot message_to finish serve raft_step step_acts put run is_stored_by_majority commit_up_to may_grant compacted_step writes_it writing
 writes_so trail before =
     let w = life_of (Other ∷ opening ∷ []) (client (codes "d")) trail before in
     let v = lives_on w writes_life in

@@ -48,7 +48,7 @@ only = record { id = 1; address = []; role = 0 } ∷ []
 
 -- the session of connection 5, with this database
 abbrev pub client : List ℕ → Gateway
-client name = record { conns = 5 ∷ []; session = λ conn. if conn == 5 then record { there = true; hung = false; database = name; barriers = false; later = None; statements = []; tx = None; flight = None } else absent; weight = 0 }
+client name = record { conns = 5 ∷ []; session = λ conn. if conn == 5 then record { there = true; hung = false; database = name; barriers = false; later = None; statements = []; tx = None; lost = false; flight = None } else absent; weight = 0 }
 
 -- what is applied: a database, and a digit in its first cell
 abbrev pub opens_it : Command

@@ -37,6 +37,7 @@ pub record Run : Type 0 where
 pub data Comes : Type 0 where
   Timeout : Comes
   Beat : Comes
+  Yield : Comes
   Connect : (conn : ℕ) → Comes
   Asks : (conn : ℕ) (requests : List Request) → Comes
   Hangup : (conn : ℕ) → Comes
@@ -66,6 +67,7 @@ taken_letter n (Some l) = cond (l.message.to == n) (raft.Receive l.message ∷ [
 abbrev pub comes_in : ℕ → List Letter → Comes → List raft.Input
 comes_in n letters Timeout = raft.Local raft.Timeout ∷ []
 comes_in n letters Beat = raft.Local raft.Beat ∷ []
+comes_in n letters Yield = raft.Local raft.Yield ∷ []
 comes_in n letters (Connect conn) = []
 comes_in n letters (Asks conn requests) = []
 comes_in n letters (Hangup conn) = []
@@ -80,6 +82,7 @@ bytes_of (Some l) = l.bytes
 abbrev pub bytes_in : List Letter → Comes → List ℕ
 bytes_in letters Timeout = []
 bytes_in letters Beat = []
+bytes_in letters Yield = []
 bytes_in letters (Connect conn) = []
 bytes_in letters (Asks conn requests) = []
 bytes_in letters (Hangup conn) = []
@@ -90,6 +93,7 @@ bytes_in letters (Reads conn reply) = []
 abbrev pub joins_in : Comes → Option ℕ
 joins_in Timeout = None
 joins_in Beat = None
+joins_in Yield = None
 joins_in (Connect conn) = Some conn
 joins_in (Asks conn requests) = None
 joins_in (Hangup conn) = None
@@ -101,6 +105,7 @@ abbrev pub read_in : Comes → Option (ℕ × Reply)
 read_in (Reads conn reply) = Some (conn, reply)
 read_in Timeout = None
 read_in Beat = None
+read_in Yield = None
 read_in (Connect conn) = None
 read_in (Asks conn requests) = None
 read_in (Hangup conn) = None
@@ -110,6 +115,7 @@ read_in (Gets k) = None
 abbrev pub asks_in : Comes → ℕ → List Request
 asks_in Timeout conn = []
 asks_in Beat conn = []
+asks_in Yield conn = []
 asks_in (Connect k) conn = []
 asks_in (Asks k requests) conn = cond (k == conn) requests []
 asks_in (Hangup k) conn = []
@@ -169,6 +175,7 @@ abbrev pub ReadsJob : Meaning → EngineKind → Run → ℕ → Comes → Type 
 ReadsJob m kind r n (Reads conn reply) = TellsOf m kind (r.jobs n conn) reply
 ReadsJob m kind r n Timeout = Unit {0}
 ReadsJob m kind r n Beat = Unit {0}
+ReadsJob m kind r n Yield = Unit {0}
 ReadsJob m kind r n (Connect conn) = Unit {0}
 ReadsJob m kind r n (Asks conn requests) = Unit {0}
 ReadsJob m kind r n (Hangup conn) = Unit {0}

@@ -30,6 +30,13 @@ pub record Ran {T : Type 0} (calls : List (Call Text)) (old new : Disk Text → 
 pub record Looks {T : Type 0} (old new : Disk Text → Type 0) (result : Result T DiskFault) (Shows : Disk Text → T → Type 0) : Type 0 where
   pub each : (d : Disk Text) → old d → new d × IfOk result (Shows d)
 
+-- a hint: the disk may be said to be in each state in which it might be before, and its counts are as they were
+pub record KeepsDisk (before after : Disk Text → Type 0) (faults faults_after wants wants_after made made_after : ℕ) : Type 0 where
+  pub states : (d : Disk Text) → before d → after d
+  pub same_faults : faults_after ≡ faults
+  pub same_wants : wants_after ≡ wants
+  pub same_made : made_after ≡ made
+
 -- a crash: from each state the disk has come to rest with files that it may leave
 pub record Crashes (old new : Disk Text → Type 0) : Type 0 where
   pub each : (d : Disk Text) → old d → (e : Disk Text) × (new e × AfterCrash d e)

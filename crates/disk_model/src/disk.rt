@@ -25,7 +25,7 @@ pub trait Disk {
     ghost use Rattle.dq_base.specs.Names.{IsName};
     ghost use Rattle.disk_model.specs.Disk.{Disk};
     ghost use Rattle.disk_model.specs.Calls.{WriteAt, CutTo, Sync, Remove, SyncNames, MayWrite};
-    ghost use Rattle.disk_model.specs.Trait.{Text, Known, Steps, Looks, Lists, Reads, HasCause, HasWant};
+    ghost use Rattle.disk_model.specs.Trait.{Text, Known, Steps, Looks, Lists, Reads, HasCause, HasWant, KeepsDisk};
 
     /// Whether disks of this kind tell what is on them.
     ghost tells: { Bool };
@@ -100,6 +100,18 @@ pub trait Disk {
         ensures cause { HasCause (faults self.old) (faults self.new) result }
         ensures want { HasWant (wants self.old) (wants self.new) result }
         ensures count { made self.new ≡ one_more (made self.old) };
+
+    /// Hints that `sync` of this file comes next, with no other call before it, so that the disk may begin the work while its
+    /// caller does something else. Answers whether it has begun. Nothing is sure before that `sync` has answered, and the disk
+    /// is for its caller as it was without the hint. The default does nothing.
+    fn begin_sync(&mut self, name: &str) -> bool
+        requires { IsName name.now }
+        ensures hint { KeepsDisk (states self.old) (states self.new) (faults self.old) (faults self.new) (wants self.old)
+            (wants self.new) (made self.old) (made self.new) }
+    {
+        let _name = name;
+        false
+    }
 
     /// Removes a file.
     fn remove(&mut self, name: &str) -> Result<(), DiskFault>

@@ -6,3 +6,5 @@ pub mod Made
 pub mod Generated
 pub mod ServeEnds
 mod Deciding
+pub mod Shown
+pub mod Unread

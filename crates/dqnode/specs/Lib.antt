@@ -6,3 +6,4 @@ pub mod Checks
 pub mod Generating
 pub mod Serving
 pub mod Decided
+pub mod Runs

@@ -21,7 +21,8 @@ ghost use Rattle.dqnode.specs.Statements.{StatementEnds, IsAnswered, IsOfStateme
 ghost use Rattle.dqnode.specs.Checks.{CheckEnds};
 ghost use Rattle.dqnode.specs.Decided.{BrokenScriptsDecide, ScriptsDecide};
 ghost use Rattle.dqnode.specs.Generating.{GenerateEnds, RunEnds};
-ghost use Rattle.dqnode.specs.Serving.{WasServed, NotServed};
+ghost use Rattle.dqnode.specs.Runs.{ScriptRun, RefusesArguments, StatementRun, CheckRun, GenerateRun, ServeRun, Untouched, StatusTells};
+ghost use Rattle.dqnode.specs.Serving.{WasServed};
 
 use crate::checks::tell;
 use crate::generating::{make_script, run_made};
@@ -63,7 +64,7 @@ fn give_up(alloc: Global, journal: &mut ClusterJournal) -> Status
     Status::NoMemory
 }
 
-/// Does what is asked for.
+/// Does what is asked for. Each clause is a field of one of the records that `dqnode` says.
 #[tactic(auto, using(crate::proofs::Asked::ends_for, crate::proofs::Asked::unled_for, crate::proofs::Asked::statement_linked, crate::proofs::Asked::statement_code, crate::proofs::Idle::no_call, crate::proofs::Generated::generated_for, crate::proofs::Generated::generated_code, crate::proofs::Generated::made_for, crate::proofs::Generated::made_code, crate::proofs::ServeEnds::served_for, crate::proofs::ServeEnds::spent_for))]
 fn run<S: Source, K: Sink, D: Disk, N: Dialer, H: Host<Read>, W: Notes>(
     alloc: Global,
@@ -192,7 +193,6 @@ fn run<S: Source, K: Sink, D: Disk, N: Dialer, H: Host<Read>, W: Notes>(
 ///
 /// After words that ask for no script the input is as it was; so is the dialer where no statement is asked for, the disk where neither a
 /// check nor a node is, and the host where no node is.
-#[tactic(auto, using(crate::proofs::Endings::unread_breaks, crate::proofs::Endings::unread_safely, crate::proofs::Idle::unasked, crate::proofs::Idle::unchecked, crate::proofs::Idle::no_call, crate::proofs::Idle::nothing_written, crate::proofs::Generated::ungenerated, crate::proofs::Made::unrun, crate::proofs::ServeEnds::unserved))]
 pub fn dqnode<S: Source, K: Sink, D: Disk, N: Dialer, H: Host<Read>, W: Notes>(
     alloc: Global,
     words: &[String],
@@ -202,30 +202,32 @@ pub fn dqnode<S: Source, K: Sink, D: Disk, N: Dialer, H: Host<Read>, W: Notes>(
     disk: &mut D,
     network: &mut Network<N, H, W>,
 ) -> u8
-    // The script was read to its end, it has no fault, and all that its run prints was written; the journal is what the run notes.
-    ensures done { IsScript (asks_for words.now) → result ≡ 0 → RunsWith (asks_for words.now) (λ kind. Completes kind journal.new
-        (S.left input.old) (S.left input.new) (K.written output.old) (K.written output.new)) }
-    // The words are refused exactly where they ask for nothing that the program does, unless their line can't be written or there is
-    // not enough memory to read them.
-    ensures words { result ≡ 1 → IsNothing (asks_for words.now) × Appends (K.written output.old) (K.written output.new) words_error }
-    ensures only_words { IsNothing (asks_for words.now) → (result ≡ 1) ⊎ IsBroken result }
-    // Where they ask for no script the input is not touched.
-    ensures words_input { ¬ (IsScript (asks_for words.now)) → Keeps (S.left input.old) (S.left input.new) × (S.faults input.old ≡ S.faults input.new) }
-    // Where none is run the journal is as it was, or it has nothing in it, where there is not enough memory.
-    ensures words_journal { ¬ (IsScript (asks_for words.now)) → ¬ (IsRun (asks_for words.now))
-        → (journal.new ≡ journal.old) ⊎ ((result ≡ 7) × (journal.new ≡ [])) }
-    // The script's first fault is a line that isn't in the grammar there; the bytes read show it, and it is named.
-    ensures script { IsScript (asks_for words.now) → result ≡ 2 → RunsWith (asks_for words.now) (λ kind. (line : ℕ) × Gives kind (Some (Line line))
-        journal.new (S.left input.old) (S.left input.new) (K.written output.old) (K.written output.new)) }
-    // The script's first fault is that it has too much; the bytes read show it, and it is said.
-    ensures large { IsScript (asks_for words.now) → result ≡ 9 → RunsWith (asks_for words.now) (λ kind. Gives kind (Some Large) journal.new
-        (S.left input.old) (S.left input.new) (K.written output.old) (K.written output.new)) }
-    ensures faulty { (result ≡ 2) ⊎ (result ≡ 9) → IsScript (asks_for words.now) ⊎ IsRun (asks_for words.now) }
-    // However the script ended, all that its run prints was written, or a front of it: what came of that run's events is what whole nodes do, and
-    // it is safe, at each moment and at a later one.
-    ensures safe { IsScript (asks_for words.now) → RunsWith (asks_for words.now) (λ kind. RunsSafely kind journal.new (S.left input.old)
-        (S.left input.new) (K.written output.old) (K.written output.new)) }
-    // So is the run of every script where what came of its events is what whole nodes do.
+    // A script that was asked for was run.
+    ensures script { ScriptRun (asks_for words.now) journal.new (S.left input.old) (S.left input.new) (K.written output.old) (K.written output.new) result }
+    // Words that ask for nothing are refused.
+    ensures arguments { RefusesArguments (asks_for words.now) (K.written output.old) (K.written output.new) result }
+    // A statement that was asked for was run by the leader of a cluster.
+    ensures statement { StatementRun (asks_for words.now) (N.net network.old.dialer) (N.net network.new.dialer) (K.written output.old) (K.written output.new) result }
+    // A check: what the files stand for was printed, or their fault.
+    ensures check { CheckRun (asks_for words.now) (D.states disk.old) (D.states disk.new) K.written output.old output.new result }
+    // The script of a number and a count of writes was made, or run.
+    ensures generate { GenerateRun (asks_for words.now) journal.new (K.written output.old) (K.written output.new) result }
+    // A node was served.
+    ensures serve { ServeRun D.states (record {
+      tells = D.tells;
+      disk_faults = D.faults;
+      done = H.done;
+      taken = λ h. record { left = H.left h; count = H.taken h };
+      host_faults = H.faults;
+    }) (asks_for words.now) network.old.host network.new.host disk.old disk.new result }
+    // What is not asked for is left alone.
+    ensures untouched { Untouched (asks_for words.now) (S.left input.old) (S.left input.new) (S.faults input.old) (S.faults input.new) journal.old journal.new
+        network.old.dialer network.new.dialer disk.old disk.new network.old.host network.new.host result }
+    // Each status has its cause.
+    ensures status { StatusTells (asks_for words.now)
+        (record { input = S.faults input.old; output = K.faults output.old; disk = D.faults disk.old; host = H.faults network.old.host })
+        (record { input = S.faults input.new; output = K.faults output.new; disk = D.faults disk.new; host = H.faults network.new.host }) result }
+    // The run of every script is safe where what came of its events is what whole nodes do.
     ensures always_safe { RunsAreSafe }
     // With an engine of cells a script alone decides what comes of its events, what is written and how it ends: in two calls that ran one script
     // the same happened at nodes and was noted, except for the numbers of transactions, the same was written behind what was there, and the
@@ -238,64 +240,6 @@ pub fn dqnode<S: Source, K: Sink, D: Disk, N: Dialer, H: Host<Read>, W: Notes>(
     // A run has one list of commands: at every moment machines that have applied as many of them hold the same files and
     // pending pages, and are shown so. The files of each are together at most 67,108,864 bytes long.
     ensures alike { (script : List ℕ) (outcomes : List Outcome) → KeepsAlike script outcomes }
-    // The input, the output failed in this call.
-    ensures read_fault { result ≡ 3 → IsScript (asks_for words.now) × Rose (S.faults input.old) (S.faults input.new) }
-    ensures write_fault { result ≡ 4 → Rose (K.faults output.old) (K.faults output.new) }
-    // After a fault of the input a front was written of what the script gives, whatever bytes follow those read.
-    ensures cut { result ≡ 3 → RunsWith (asks_for words.now) (λ kind. BreaksOff kind Anything (S.left input.old)
-        (S.left input.new) (K.written output.old) (K.written output.new)) }
-    // So it is after a fault of the output and out of memory; but where the input is at its end nothing follows.
-    ensures broken { IsScript (asks_for words.now) → IsBroken result → RunsWith (asks_for words.now) (λ kind. BreaksOff kind
-        (MayFollow (S.left input.new)) (S.left input.old) (S.left input.new) (K.written output.old) (K.written output.new)) }
-    ensures words_broken { IsNothing (asks_for words.now) → IsBroken result → AppendsFront (K.written output.old) (K.written output.new) words_error }
-    // A statement: the client that finds the leader and has it run that came to an end, which the status tells and which was printed,
-    // unless the output failed or memory ran out.
-    ensures statement { (statement : Statement) → ForStatement statement (asks_for words.now) → StatementEnds statement (N.net network.old.dialer) (N.net network.new.dialer)
-        (K.written output.old) (K.written output.new) result }
-    // An answer comes only where an address was dialled; that there is no leader, only where three dials were made for each address.
-    ensures linked { IsStatement (asks_for words.now) → IsAnswered result → HasLinked (N.net network.old.dialer) (N.net network.new.dialer) }
-    ensures no_leader { (statement : Statement) → ForStatement statement (asks_for words.now) → result ≡ 12 → HaveDialled (N.net network.old.dialer)
-        (N.net network.new.dialer) (3 * length statement.addresses) }
-    ensures of_statement { IsOfStatement result → IsStatement (asks_for words.now) }
-    // Each dial and each call of the dialer that failed is counted; and it makes none where no statement is asked for.
-    ensures dial_faults { HaveFailed (N.net network.old.dialer) (N.net network.new.dialer) }
-    ensures dialer { ¬ (IsStatement (asks_for words.now)) → network.new.dialer ≡ network.old.dialer }
-    // A check: every file stays as it is, and the lines of what they stand for were printed, or the line of their fault.
-    ensures check { IsCheck (asks_for words.now) → CheckEnds (D.states disk.old) (D.states disk.new) (K.written output.old) (K.written output.new) result }
-    ensures of_check { result ≡ 8 → IsCheck (asks_for words.now) ⊎ IsServed (asks_for words.now) }
-    // The disk failed in this call; then, and where there is not enough memory, nothing was printed.
-    ensures disk_fault { result ≡ 5 → (IsCheck (asks_for words.now) ⊎ IsServed (asks_for words.now)) × Rose (D.faults disk.old) (D.faults disk.new) }
-    ensures unprinted { IsCheck (asks_for words.now) → (result ≡ 5) ⊎ (result ≡ 7) → output.new ≡ output.old }
-    // Nothing else looks at the disk.
-    ensures disk { ¬ (IsCheck (asks_for words.now)) → ¬ (IsServed (asks_for words.now)) → disk.new ≡ disk.old }
-    // A node that is served: there is no status but 5 to 8 and 10; 6 only where the host's count of faults rose, 10 only after as many
-    // events as the words say. Nothing else touches the host.
-    ensures serve_codes { IsServed (asks_for words.now) → IsServeCode result }
-    ensures host_fault { result ≡ 6 → IsServed (asks_for words.now) × Rose (H.faults network.old.host) (H.faults network.new.host) }
-    ensures of_spent { result ≡ 10 → IsServed (asks_for words.now) }
-    // With an engine of the kind that is named, which knew no image, the node that the words name was started over the disk, behind that the
-    // host listened and took all workers, and the node made a step for each event that the host gave; where there is not enough memory to
-    // read the words, nothing was done.
-    ensures serves { (served : Serve) → ForServed served (asks_for words.now) → WasServed D.tells D.states D.faults H.done served network.old.host disk.old disk.new
-        (record { left = H.left network.old.host; count = H.taken network.old.host }) (record { left = H.left network.new.host; count = H.taken network.new.host }) result
-        ⊎ NotServed disk.old disk.new network.old.host network.new.host result }
-    ensures spent { (served : Serve) → ForServed served (asks_for words.now) → result ≡ 10 → H.taken network.new.host ≡ H.taken network.old.host + served.events }
-    // Over the files of a node, where neither the disk nor the host failed, all events were taken, or memory ran out.
-    ensures serves_well { IsServed (asks_for words.now) → GoesWell (D.states disk.old) (D.faults disk.old) (D.faults disk.new) (H.faults network.old.host)
-        (H.faults network.new.host) → (result ≡ 10) ⊎ (result ≡ 7) }
-    ensures host { ¬ (IsServed (asks_for words.now)) → network.new.host ≡ network.old.host }
-    // The script of a number and a count of writes: with 0 it was written whole and nothing else; with 4 and 7, and there is no other
-    // status, a front of it.
-    ensures generated { (number writes : ℕ) → ForGenerated number writes (asks_for words.now) → GenerateEnds number writes (K.written output.old)
-        (K.written output.new) result }
-    // That script was run: with 0 it was written how its nodes stand at its end, with 2 and 9 its fault too, and with 4 and 7 a front of it.
-    ensures made { (number writes : ℕ) → ForRun number writes (asks_for words.now) → RunEnds number writes journal.new (K.written output.old)
-        (K.written output.new) result }
-    // There is no other status.
-    ensures known { IsStatus result }
-    ensures input_count { S.faults input.old ≤ S.faults input.new }
-    ensures output_count { K.faults output.old ≤ K.faults output.new }
-    ensures disk_count { D.faults disk.old ≤ D.faults disk.new }
 {
     match read_words(alloc, words) {
         Ok(asked) => run(alloc, asked, input, output, journal, disk, network),

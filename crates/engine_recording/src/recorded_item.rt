@@ -1,7 +1,7 @@
 use sql_engine::{EngineFault, StatementResult};
 
 /// An item of a journal.
-#[derive(Debug, Drop)]
+#[derive(Drop)]
 pub enum RecordedItem {
     /// An engine answered a statement so.
     Ran(StatementResult),

@@ -298,6 +298,7 @@ taken_asks m kind setup x late a b begin stood comes s beside end id conn = s.as
 brings_same : (a b : Running) (event : Event) (asks : ℕ → List Request) → (clients_in a).streams ≡ (clients_in b).streams → Brings a (Happens event) asks → Brings b (Happens event) asks
 brings_same a b events.Timeout asks same h = h
 brings_same a b events.Beat asks same h = h
+brings_same a b events.Yield asks same h = h
 brings_same a b (events.Connect conn) asks same h = h
 brings_same a b (events.Hangup conn) asks same h = h
 brings_same a b (events.Peer message) asks same h = h

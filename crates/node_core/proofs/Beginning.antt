@@ -63,6 +63,9 @@ with_timeout old = record { inputs = refl; bytes = refl; joins = refl; read = re
 pub with_beat : (old : Running) → BeginsWith old (Happens happens.Beat) raft_events.Beat
 with_beat old = record { inputs = refl; bytes = refl; joins = refl; read = refl; asks = λ conn. refl; lost = λ h. h }
 
+pub with_yield : (old : Running) → BeginsWith old (Happens happens.Yield) raft_events.Yield
+with_yield old = record { inputs = refl; bytes = refl; joins = refl; read = refl; asks = λ conn. refl; lost = λ h. h }
+
 pub with_peer : (old : Running) (message : RaftMessage) → BeginsWith old (Happens (happens.Peer message)) (raft_events.Message message)
 with_peer old message = record { inputs = refl; bytes = refl; joins = refl; read = refl; asks = λ conn. refl; lost = λ h. h }
 

@@ -86,6 +86,7 @@ module _ (setup : Setup) (bytes : List ℕ) where
 pub outside_plain : (event : RaftEvent) → IsOutside event → IsPlain (input_of event)
 outside_plain events.Timeout o = tt
 outside_plain events.Beat o = tt
+outside_plain events.Yield o = tt
 outside_plain (events.Message m) o = tt
 outside_plain (events.Propose es) o = absurd o
 outside_plain (events.Transfer to) o = absurd o

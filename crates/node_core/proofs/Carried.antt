@@ -253,6 +253,9 @@ timeout_lines old new k = record { is = kept_lines old new k; closed = k.closed 
 pub beat_lines : (old new : Running) → KeepsConns old new → BeginsLines events.Beat old new
 beat_lines old new k = record { is = kept_lines old new k; closed = k.closed ∙ sym (append-nil old.outs.closed.items) }
 
+pub yield_lines : (old new : Running) → KeepsConns old new → BeginsLines events.Yield old new
+yield_lines old new k = record { is = kept_lines old new k; closed = k.closed ∙ sym (append-nil old.outs.closed.items) }
+
 pub peer_lines : (message : RaftMessage) (old new : Running) → KeepsConns old new → BeginsLines (events.Peer message) old new
 peer_lines message old new k = record { is = kept_lines old new k; closed = k.closed ∙ sym (append-nil old.outs.closed.items) }
 

@@ -30,7 +30,7 @@ use Rattle.client_sessions.proofs.Offers.{next_is_first}
 use Rattle.raft_on_disk.specs.Replicas.{ReplicaValue}
 use Rattle.node_core.specs.Values.{clients_in}
 use Rattle.node_core.specs.Whole.{IsQuiet}
-use Rattle.node_core.proofs.Carried.{timeout_lines, beat_lines, peer_lines, read_lines, comes_lines, carried_lines, hears_lines, link_hears_lines, hangs_lines, client_gone, link_stays, link_gone}
+use Rattle.node_core.proofs.Carried.{timeout_lines, beat_lines, yield_lines, peer_lines, read_lines, comes_lines, carried_lines, hears_lines, link_hears_lines, hangs_lines, client_gone, link_stays, link_gone}
 use Rattle.node_core.proofs.PeerActs.{IfPeer, IsConnect, IsNoPeer, took_peer, resumed_none}
 
 -- ---- one stream
@@ -106,6 +106,9 @@ timeout_begins old new k = begins_on events.Timeout old new (λ conn. refl) refl
 
 pub beat_begins : (old new : Running) → KeepsConns old new → ConnsBegin events.Beat old new
 beat_begins old new k = begins_on events.Beat old new (λ conn. refl) refl (beat_lines old new k) (kept_on old new k)
+
+pub yield_begins : (old new : Running) → KeepsConns old new → ConnsBegin events.Yield old new
+yield_begins old new k = begins_on events.Yield old new (λ conn. refl) refl (yield_lines old new k) (kept_on old new k)
 
 pub peer_begins : (message : _) (old new : Running) → KeepsConns old new → ConnsBegin (events.Peer message) old new
 peer_begins message old new k = begins_on (events.Peer message) old new (λ conn. refl) refl (peer_lines message old new k) (kept_on old new k)

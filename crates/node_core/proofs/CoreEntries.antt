@@ -8,7 +8,6 @@ use Rattle.dq_base.specs.declared.pages.PageSet.{PageSet}
 use Rattle.database_state.specs.declared.database.Database.{Database}
 use Rattle.database_state.specs.Databases.{named, tx_pending}
 use Rattle.database_state.specs.Machines.{IsMachine, names_of}
-use Rattle.database_state.specs.Snapshot.{snapshot_text}
 use Rattle.session_spec.specs.Entries.{Content, Does, Configures, Other, written}
 use Rattle.session_spec.specs.Machine.{base_of, machine_of, done}
 use Rattle.session_spec.specs.Seen.{entry_seen, log_seen}
@@ -28,7 +27,6 @@ use Rattle.raft_core.specs.declared.event.RaftEvent.TheVariants.{Propose}
 use Rattle.raft_membership.specs.Members.{settled}
 use Rattle.raft_log.specs.Compacting.{is_due}
 use Rattle.raft_messages.specs.declared.message.RaftMessage.{RaftMessage}
-use Rattle.raft_messages.specs.Servers.{servers_bytes}
 use Rattle.store_laws.specs.Store.{Snap}
 use Rattle.raft_on_disk.specs.Letters.{Tells}
 use Rattle.raft_on_disk.specs.Mails.{MailValue, all_posted}
@@ -40,7 +38,7 @@ use Rattle.applied_state.specs.declared.leadership.Leadership.{Leadership}
 use Rattle.applied_state.specs.Applied.{databases_after, with_entry}
 use Rattle.applied_state.specs.Content.{effect_of, effect_of_command}
 use Rattle.applied_state.specs.Office.{owed, office_after, serves}
-use Rattle.applied_state.specs.Snapshot.{contents_in}
+use Rattle.applied_state.specs.Snapshot.{snapshot_bytes, contents_in}
 use Rattle.log_commands.specs.declared.command.Command.{Command}
 use Rattle.log_commands.specs.declared.command.Command.TheVariants.{OpenDb, Frames, Undo, Checkpoint}
 use Rattle.node_core.specs.declared.running.Running.{Running}
@@ -377,7 +375,7 @@ own_said : (n : Running) → n.replica.raft.id ≡ n.replica.id → (whole_turns
 unfolding core_of
 own_said n me = ap (λ (id : ℕ). (whole_turns.step_of (record (core_of n) { me = id }) (whole_turns.own_event (core_of n))).out) (sym me)
 
-own_kept : (n : Running) (bytes : List ℕ) → bytes ≡ servers_bytes n.applied.servers ++ snapshot_text (contents_in (machine_of n.applied.machine)) → own_snap n.replica n.applied.index bytes ≡ whole_turns.own_snap (core_of n)
+own_kept : (n : Running) (bytes : List ℕ) → bytes ≡ snapshot_bytes n.applied.servers (contents_in (machine_of n.applied.machine)) → own_snap n.replica n.applied.index bytes ≡ whole_turns.own_snap (core_of n)
 unfolding core_of
 own_kept n bytes is = ap (own_snap n.replica n.applied.index) is
 
@@ -391,7 +389,7 @@ unfolding core_of
 mail_core n = refl
 
 pub compacts_exact : (old new : Running) (r : ReplicaValue) (mail : MailValue) (bytes : List ℕ) (messages : List RaftMessage) (due : Bool) → IsWhole old.replica → due ≡ is_due old.replica.raft.snapshot old.applied.index → due ≡ true
-    → old.members.servers ≡ old.applied.servers → bytes ≡ servers_bytes old.applied.servers ++ snapshot_text (contents_in (machine_of old.applied.machine)) → node_of r.raft ≡ stepped old.replica (snapped old.replica old.applied.index)
+    → old.members.servers ≡ old.applied.servers → bytes ≡ snapshot_bytes old.applied.servers (contents_in (machine_of old.applied.machine)) → node_of r.raft ≡ stepped old.replica (snapped old.replica old.applied.index)
     → r.id ≡ old.replica.id → r.snap ≡ own_snap old.replica old.applied.index bytes → Tells (said old.replica (snapped old.replica old.applied.index)) r.snap messages → mail ≡ all_posted old.mail messages
     → core_of new ≡ looked (core_of (record old { replica = r; mail = mail })) → ExactCompactionIfDue (core_of old) (core_of new) true
 compacts_exact old new r mail bytes messages due whole is_due_now is same text made id snap tells posted sees =

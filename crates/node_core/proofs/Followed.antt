@@ -166,6 +166,7 @@ own_puts r (events.Propose es) own = tt
 own_puts r (events.Transfer to) own = tt
 own_puts r events.Timeout own = absurd own
 own_puts r events.Beat own = absurd own
+own_puts r events.Yield own = absurd own
 own_puts r (events.Message m) own = absurd own
 own_puts r (events.Snapped at) own = absurd own
 own_puts r (events.Servers servers) own = absurd own
@@ -192,6 +193,7 @@ module _ (law : TwinsFollow) (popped told made followed : Running) where
       with_same (ap (λ (n : Running). n.replica.raft) is) (stays ∙ ap (λ (n : Running). n.members) m.is ∙ ap (λ (n : Running). n.members) t.is) refl
   own_last events.Timeout batch own takes e t m p is by = absurd own
   own_last events.Beat batch own takes e t m p is by = absurd own
+  own_last events.Yield batch own takes e t m p is by = absurd own
   own_last (events.Message x) batch own takes e t m p is by = absurd own
   own_last (events.Snapped at) batch own takes e t m p is by = absurd own
   own_last (events.Servers servers) batch own takes e t m p is by = absurd own

@@ -45,6 +45,7 @@ configured n g = subst IsConfiguration (sym g.seen) g.holds.servers
 pub due_fits : (h : NodeValue) (event : RaftEvent) → IsDue event → EventFits h event
 due_fits h events.Timeout d = tt
 due_fits h events.Beat d = tt
+due_fits h events.Yield d = tt
 due_fits h (events.Message m) d = tt
 due_fits h (events.Propose es) d = tt
 due_fits h (events.Transfer to) d = tt
@@ -54,6 +55,7 @@ due_fits h (events.Servers s) d = absurd d
 pub due_intake : (event : RaftEvent) → IsDue event → IsIntake event
 due_intake events.Timeout d = tt
 due_intake events.Beat d = tt
+due_intake events.Yield d = tt
 due_intake (events.Message m) d = tt
 due_intake (events.Propose es) d = tt
 due_intake (events.Transfer to) d = tt
@@ -63,6 +65,7 @@ due_intake (events.Servers s) d = tt
 pub own_is_due : (event : RaftEvent) → IsOwnDue event → IsDue event
 own_is_due events.Timeout d = absurd d
 own_is_due events.Beat d = absurd d
+own_is_due events.Yield d = absurd d
 own_is_due (events.Message m) d = absurd d
 own_is_due (events.Propose es) d = tt
 own_is_due (events.Transfer to) d = tt
@@ -72,6 +75,7 @@ own_is_due (events.Servers s) d = absurd d
 pub outside_is_due : (event : RaftEvent) → IsOutside event → IsDue event
 outside_is_due events.Timeout d = tt
 outside_is_due events.Beat d = tt
+outside_is_due events.Yield d = tt
 outside_is_due (events.Message m) d = tt
 outside_is_due (events.Propose es) d = absurd d
 outside_is_due (events.Transfer to) d = absurd d

@@ -136,6 +136,8 @@ heard_on_holds events.Timeout old new conn outs connection bytes asked asks h by
     stays_at old new conn connection bytes asked (asks conn) ((clients_in old).streams conn) h h.opens (by.streams conn) (brings conn) opens
 heard_on_holds events.Beat old new conn outs connection bytes asked asks h by brings opens =
     stays_at old new conn connection bytes asked (asks conn) ((clients_in old).streams conn) h h.opens (by.streams conn) (brings conn) opens
+heard_on_holds events.Yield old new conn outs connection bytes asked asks h by brings opens =
+    stays_at old new conn connection bytes asked (asks conn) ((clients_in old).streams conn) h h.opens (by.streams conn) (brings conn) opens
 heard_on_holds (events.Hangup other) old new conn outs connection bytes asked asks h by brings opens =
     stays_at old new conn connection bytes asked (asks conn) ((clients_in old).streams conn) h h.opens (by.streams conn) (brings conn) opens
 heard_on_holds (events.Peer message) old new conn outs connection bytes asked asks h by brings opens =

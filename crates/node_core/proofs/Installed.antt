@@ -32,7 +32,7 @@ use Rattle.store_laws.specs.Store.{Snap}
 use Rattle.applied_state.specs.declared.applied.Applied.{Applied}
 use Rattle.applied_state.specs.declared.leadership.Leadership.{Leadership as Held}
 use Rattle.applied_state.specs.Applied.{ShowsFiles}
-use Rattle.applied_state.specs.Snapshot.{snapshot_in, offered_to, SpellsSnapshot, made_by, commits_of}
+use Rattle.applied_state.specs.Snapshot.{snapshot_body, snapshot_in, offered_to, SpellsSnapshot, made_by, commits_of}
 use Rattle.raft_on_disk.specs.Replicas as replicas
 use Rattle.raft_on_disk.specs.Replicas.{ReplicaValue, IsIntake, stepped}
 use Rattle.node_spec.specs.RaftTurns.{HasEnded, LeadershipFollows, in_office, loses, has_none}
@@ -76,12 +76,12 @@ unserved_by (Some o) serving h office down = absurd (true≢false (sym office.0 
 
 -- a message that brings none of the snapshots that can be read counts as lost
 none_in : snapshot_in [] ≡ None
-unfolding snapshot_in servers.servers_at reading.word_at
+unfolding snapshot_in snapshot_body servers.servers_at reading.word_at
 none_in = refl
 
 none_of : (w : MessageBody) → ((s : Snapshot) → w ≢ whats.Install s) → account.bytes_in w ≡ []
 none_of (whats.Install s) other = absurd (other s refl)
-none_of (whats.AskVote last) other = refl
+none_of (whats.AskVote last transfer) other = refl
 none_of (whats.Vote granted) other = refl
 none_of (whats.Append prev commit entries) other = refl
 none_of (whats.Ack good index) other = refl

@@ -1,5 +1,6 @@
 -- What holds of the office between two turns, turn by turn.
 use Rattle.std.proofs.Common.{◌≡◌, inl, inr, ⊎_elim, ℕ, Bool, true, false, true≢false, List, [], ◌++◌, Option, Some, None, Result, Ok, Err, refl, sym, ap, subst, ◌∙◌}
+use Rattle.std.specs.Prelude.{◌&&◌, not, is_none}
 use Rattle.std.proofs.lemmas.Bool.{cond_both, cond-true, cond-false}
 use Rattle.wire_msgs.specs.declared.fault.MsgFault.{MsgFault}
 use Rattle.wire_msgs.specs.declared.request.Request.{Request}
@@ -8,13 +9,13 @@ use Rattle.sql_engine.specs.declared.kind.EngineKind.{EngineKind}
 use Rattle.sql_engine.specs.Meanings.{Meaning, Told}
 use Rattle.sql_engine.specs.Replies.{Statement}
 use Rattle.database_state.specs.Machines.{IsMachine}
-use Rattle.session_spec.specs.Asking.{Asked, Never, Tells, Sets, Opens, Creates, Prepares, Drops, Begins, Commits, RollsBack, Changes, Runs, Reads as ReadsRows, asked}
+use Rattle.session_spec.specs.Asking.{Asked, Never, Tells, Sets, Opens, Creates, Prepares, Drops, Forgets, Begins, Commits, RollsBack, Changes, Runs, Reads as ReadsRows, asked}
 use Rattle.session_spec.specs.Engines.{Answer}
-use Rattle.session_spec.specs.Events.{tidy, still_lent, lost, on_lost, connects, connected}
+use Rattle.session_spec.specs.Events.{tidy, is_committing, still_lent, loses, lost, on_lost, connects, connected}
 use Rattle.session_spec.specs.Machine.{Machine, machine_of}
-use Rattle.session_spec.specs.Requests.{with_tx, with_flight, with_later, with_statements, with_session, without_later, affected_by, does, on_request, on_later, run_in}
+use Rattle.session_spec.specs.Requests.{with_tx, with_flight, with_later, with_lost, with_statements, with_session, without_later, affected_by, does, on_request, on_later, run_in}
 use Rattle.session_spec.specs.Causes.{NotLeader}
-use Rattle.session_spec.specs.Sessions.{Prepared, Session, Gateway, View, absent, Effect, HandsOver, JoinsPeer, Weighs, Turned, Refused, later_query}
+use Rattle.session_spec.specs.Sessions.{Prepared, Transaction, Session, Gateway, View, absent, Effect, HandsOver, JoinsPeer, Weighs, Turned, Refused, later_query}
 use Rattle.session_safety.proofs.Asks.{IsIdle, request_idle}
 use Rattle.raft_spec.specs.Log.{Entry}
 use Rattle.raft_spec.specs.Node.{is_leader}
@@ -50,7 +51,7 @@ unfolding on_lost tidy
 weighed g weight e = ap (λ (z : Gateway). record { conns = z.conns; session = z.session; weight = weight }) e
 
 abbrev over : Session → Session
-over s = with_later (with_flight (with_tx s None) None) (still_lent s.later)
+over s = with_lost (with_later (with_flight (with_tx s None) None) (still_lent s.later)) (loses s)
 
 -- what of a session may be others where nothing is open
 settled_with : (s : Session) (f : Session → Session) → ((z : Session) → (f z).hung ≡ z.hung) → ((z : Session) → over (f z) ≡ f (over z)) → lost s ≡ s → lost (f s) ≡ f s
@@ -62,6 +63,18 @@ settled_with s f hung same e = by s.hung refl
 
 statements_settled : (s : Session) (statements : List (Option Prepared)) → lost s ≡ s → lost (with_statements s statements) ≡ with_statements s statements
 statements_settled s statements e = settled_with s (λ z. with_statements z statements) (λ z. refl) (λ z. refl) e
+
+forgets_settled : (s : Session) → lost s ≡ s → lost (with_lost s false) ≡ with_lost s false
+forgets_settled s e = by s.hung refl
+  where
+    by : (b : Bool) → s.hung ≡ b → lost (with_lost s false) ≡ with_lost s false
+    by true h = absurd (true≢false (sym h ∙ ap (λ (z : Session). z.hung) (sym e ∙ cond-true s.hung absent (over s) h)))
+    by false h =
+        let stays : over s ≡ s = sym (cond-false s.hung absent (over s) h) ∙ e in
+        let none : s.tx ≡ None = sym (ap (λ (z : Session). z.tx) stays) in
+        cond-false s.hung absent (over (with_lost s false)) h
+        ∙ ap (with_lost (with_later (with_flight (with_tx s None) None) (still_lent s.later))) (ap (λ (o : Option Transaction). not (is_none o) && not (is_committing s.flight)) none)
+        ∙ ap (λ (z : Session). with_lost z false) stays
 
 later_settled : (s : Session) → lost s ≡ s → lost (with_later s None) ≡ with_later s None
 later_settled s e = settled_with s (λ z. with_later z None) (λ z. refl) (λ z. refl) e
@@ -93,6 +106,7 @@ module _ (v : View) (m : Machine) (g : Gateway) (conn : ℕ) (term : ℕ) (h : H
   idle_ends (Creates name barriers) answers i = absurd i
   idle_ends (Prepares p tail) answers i = absurd i
   idle_ends (Drops id) answers i = (kept (with_statements (g.session conn) _) (statements_settled (g.session conn) _ own) refl, refl)
+  idle_ends (Forgets response) answers i = (kept (with_lost (g.session conn) false) (forgets_settled (g.session conn) own) refl, refl)
   idle_ends (Begins at_once) answers i = absurd i
   idle_ends Commits answers i = absurd i
   idle_ends RollsBack answers i = absurd i

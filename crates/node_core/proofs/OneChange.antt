@@ -245,6 +245,7 @@ other_plain (events.Propose es) own none = absurd (none es refl)
 other_plain (events.Transfer to) own none = tt
 other_plain events.Timeout own none = absurd own
 other_plain events.Beat own none = absurd own
+other_plain events.Yield own none = absurd own
 other_plain (events.Message m) own none = absurd own
 other_plain (events.Snapped at) own none = absurd own
 other_plain (events.Servers servers) own none = absurd own

@@ -5,7 +5,7 @@ use Rattle.std.proofs.lemmas.Bool.{cond_both}
 use Rattle.raft_spec.specs.Compaction.{compacted_step}
 use Rattle.raft_spec.specs.Log.{Entry}
 use Rattle.raft_spec.specs.Membership.{on_servers}
-use Rattle.raft_spec.specs.Node.{Node, Server, Outcome, Timeout, Beat, Propose, Transfer, Snapped, UseServers, Input, Local, Receive, is_leader, voters}
+use Rattle.raft_spec.specs.Node.{Node, Server, Outcome, Timeout, Beat, Yield, Propose, Transfer, Snapped, UseServers, Input, Local, Receive, is_leader, voters}
 use Rattle.raft_spec.specs.Replication.{on_propose, on_transfer}
 use Rattle.raft_spec.specs.Steps.{finish, serve, raft_step}
 use Rattle.node_core.specs.Account.{IsOwn}
@@ -41,4 +41,5 @@ own_office me s (Local (UseServers servers)) own = served me s (on_servers me s 
 own_office me s (Local (Snapped index)) own = absurd own
 own_office me s (Local Timeout) own = absurd own
 own_office me s (Local Beat) own = absurd own
+own_office me s (Local Yield) own = absurd own
 own_office me s (Receive m) own = absurd own

@@ -36,6 +36,7 @@ puts_none r (events.Propose es) own = tt
 puts_none r (events.Transfer to) own = tt
 puts_none r events.Timeout own = absurd own
 puts_none r events.Beat own = absurd own
+puts_none r events.Yield own = absurd own
 puts_none r (events.Message m) own = absurd own
 puts_none r (events.Snapped at) own = absurd own
 puts_none r (events.Servers servers) own = absurd own
@@ -51,6 +52,7 @@ made_same told made (events.Propose es) own p = same_term told made (raft.Local 
 made_same told made (events.Transfer to) own p = same_term told made (raft.Local (raft.Transfer to)) tt p
 made_same told made events.Timeout own p = absurd own
 made_same told made events.Beat own p = absurd own
+made_same told made events.Yield own p = absurd own
 made_same told made (events.Message m) own p = absurd own
 made_same told made (events.Snapped at) own p = absurd own
 made_same told made (events.Servers servers) own p = absurd own
@@ -260,6 +262,7 @@ owns_so before popped told made followed new (events.Transfer to) batch own take
     (ap proposals_in (ap (λ (n : Running). n.due.items) (m.is ∙ ap (λ (n : Running). record n { replica = made.replica; mail = made.mail }) t.is)) ∙ sym (ap proposals_in was.first))))
 owns_so before popped told made followed new events.Timeout batch own takes was g t tells m p f_is is same machine beside = absurd own
 owns_so before popped told made followed new events.Beat batch own takes was g t tells m p f_is is same machine beside = absurd own
+owns_so before popped told made followed new events.Yield batch own takes was g t tells m p f_is is same machine beside = absurd own
 owns_so before popped told made followed new (events.Message x) batch own takes was g t tells m p f_is is same machine beside = absurd own
 owns_so before popped told made followed new (events.Snapped at) batch own takes was g t tells m p f_is is same machine beside = absurd own
 owns_so before popped told made followed new (events.Servers servers) batch own takes was g t tells m p f_is is same machine beside = absurd own

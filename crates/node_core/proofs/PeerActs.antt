@@ -25,7 +25,8 @@ use Rattle.session_spec.specs.Sessions.{Prepared, Session, Gateway, Transaction,
 use Rattle.session_spec.specs.Sessions.{Turned, Refused, Lacks, Answers, Proposes, Lends, Affects}
 use Rattle.session_spec.specs.Statements.{prepared_from, prepared_at, prepared_count, is_left_out, is_write_word, any_barred, any_write, wrong_params, with_params, with_all}
 use Rattle.session_spec.specs.Asking as asking
-use Rattle.session_spec.specs.Asking.{Asked, Never, Tells, Sets, Opens, Creates, Prepares, Drops, Begins, Commits, RollsBack, Changes, Runs, Reads, asked_by}
+use Rattle.session_spec.proofs.Losing.{asked_both}
+use Rattle.session_spec.specs.Asking.{Asked, Never, Tells, Sets, Opens, Creates, Prepares, Drops, Forgets, Begins, Commits, RollsBack, Changes, Runs, Reads, asked_unless_lost, asked_by}
 use Rattle.session_outcomes.specs.Scenes.{scene}
 use Rattle.session_statements.specs.Calls.{EngineCall}
 use Rattle.session_gateway.specs.declared.act.Act.{Act as GatewayAct}
@@ -50,6 +51,7 @@ MayAsk P (Opens name barriers) = Unit {0}
 MayAsk P (Creates name barriers) = Unit {0}
 MayAsk P (Prepares prepared tail) = Unit {0}
 MayAsk P (Drops id) = Unit {0}
+MayAsk P (Forgets response) = Unit {0}
 MayAsk P (Begins at_once) = Unit {0}
 MayAsk P Commits = Unit {0}
 MayAsk P RollsBack = Unit {0}
@@ -190,27 +192,30 @@ module _ (v : View) (P : ℕ → Type 0) where
       by true false e = tt
       by false other e = tt
 
+  unlost_too : (m : Machine) (g : Gateway) (conn : ℕ) (s : Session) (request : Request) → ((id : ℕ) (address : List ℕ) → request ≡ requests.Connect id address → v.links ≡ true → P id) → MayAsk P (asked_unless_lost v m g conn s request)
+  unfolding asked_unless_lost
+  unlost_too m g conn s requests.Leader may = tt
+  unlost_too m g conn s (requests.Client id) may = tt
+  unlost_too m g conn s (requests.Open name flags vfs) may = leading (asking.asks_open v m g s name (asking.barriers_asked flags)) (opening m g s name (asking.barriers_asked flags))
+  unlost_too m g conn s (requests.Prepare db sql wide) may = served s db (asking.asks_prepare s sql wide (scan_of sql)) (prepare s sql wide (scan_of sql))
+  unlost_too m g conn s (requests.Exec db id params wide) may = served s db (asking.asks_exec (write_hindrance m g conn s) (in_tx s) (prepared_at s.statements id) params) (exec (write_hindrance m g conn s) (in_tx s) (prepared_at s.statements id) params)
+  unlost_too m g conn s (requests.Query db id params wide) may = served s db (asking.asks_prepared_query (write_hindrance m g conn s) (prepared_at s.statements id) params) (prepared_query (write_hindrance m g conn s) (prepared_at s.statements id) params)
+  unlost_too m g conn s (requests.Finalize db id) may = in_database s db (asking.asks_finalize (prepared_at s.statements id) id) (finalize (prepared_at s.statements id) id)
+  unlost_too m g conn s (requests.ExecSql db sql params wide) may = served s db (asking.asks_text (write_hindrance m g conn s) (in_tx s) sql (scan_of sql) params) (text (write_hindrance m g conn s) (in_tx s) sql (scan_of sql) params)
+  unlost_too m g conn s (requests.QuerySql db sql params wide) may = served s db (asking.asks_rows (write_hindrance m g conn s) sql (scan_of sql) params) (rows (write_hindrance m g conn s) sql (scan_of sql) params)
+  unlost_too m g conn s (requests.Interrupt db) may = in_database s db (Tells _) tt
+  unlost_too m g conn s (requests.Connect id address) may = connecting id (may id address refl)
+  unlost_too m g conn s (requests.Add id address) may = leading _ (settled g (asking.asks_add v.servers id address) (adding id address))
+  unlost_too m g conn s (requests.Assign id role) may = leading _ (settled g (asking.asks_assign v id role) (assigning id role))
+  unlost_too m g conn s (requests.Remove id) may = leading _ (settled g (asking.asks_remove v id) (removing id))
+  unlost_too m g conn s (requests.Dump name) may = either (is_named m.names name) _ _ (either (nat_lt 16777216 (asking.body_size (asking.files_of name (m.base name).image))) _ (Tells _) tt tt) tt
+  unlost_too m g conn s (requests.Cluster format) may = either (nat_le format 1) (Tells _) _ tt tt
+  unlost_too m g conn s (requests.Transfer id) may = leading (asking.asks_transfer v id) (transferring id)
+  unlost_too m g conn s (requests.Describe format) may = either (format == 0) (Tells _) _ tt tt
+  unlost_too m g conn s (requests.Weight weight) may = tt
+
   asked_too : (m : Machine) (g : Gateway) (conn : ℕ) (s : Session) (request : Request) → ((id : ℕ) (address : List ℕ) → request ≡ requests.Connect id address → v.links ≡ true → P id) → MayAsk P (asked_by v m g conn s request)
-  unfolding asked_by
-  asked_too m g conn s requests.Leader may = tt
-  asked_too m g conn s (requests.Client id) may = tt
-  asked_too m g conn s (requests.Open name flags vfs) may = leading (asking.asks_open v m g s name (asking.barriers_asked flags)) (opening m g s name (asking.barriers_asked flags))
-  asked_too m g conn s (requests.Prepare db sql wide) may = served s db (asking.asks_prepare s sql wide (scan_of sql)) (prepare s sql wide (scan_of sql))
-  asked_too m g conn s (requests.Exec db id params wide) may = served s db (asking.asks_exec (write_hindrance m g conn s) (in_tx s) (prepared_at s.statements id) params) (exec (write_hindrance m g conn s) (in_tx s) (prepared_at s.statements id) params)
-  asked_too m g conn s (requests.Query db id params wide) may = served s db (asking.asks_prepared_query (write_hindrance m g conn s) (prepared_at s.statements id) params) (prepared_query (write_hindrance m g conn s) (prepared_at s.statements id) params)
-  asked_too m g conn s (requests.Finalize db id) may = in_database s db (asking.asks_finalize (prepared_at s.statements id) id) (finalize (prepared_at s.statements id) id)
-  asked_too m g conn s (requests.ExecSql db sql params wide) may = served s db (asking.asks_text (write_hindrance m g conn s) (in_tx s) sql (scan_of sql) params) (text (write_hindrance m g conn s) (in_tx s) sql (scan_of sql) params)
-  asked_too m g conn s (requests.QuerySql db sql params wide) may = served s db (asking.asks_rows (write_hindrance m g conn s) sql (scan_of sql) params) (rows (write_hindrance m g conn s) sql (scan_of sql) params)
-  asked_too m g conn s (requests.Interrupt db) may = in_database s db (Tells _) tt
-  asked_too m g conn s (requests.Connect id address) may = connecting id (may id address refl)
-  asked_too m g conn s (requests.Add id address) may = leading _ (settled g (asking.asks_add v.servers id address) (adding id address))
-  asked_too m g conn s (requests.Assign id role) may = leading _ (settled g (asking.asks_assign v id role) (assigning id role))
-  asked_too m g conn s (requests.Remove id) may = leading _ (settled g (asking.asks_remove v id) (removing id))
-  asked_too m g conn s (requests.Dump name) may = either (is_named m.names name) _ _ (either (nat_lt 16777216 (asking.body_size (asking.files_of name (m.base name).image))) _ (Tells _) tt tt) tt
-  asked_too m g conn s (requests.Cluster format) may = either (nat_le format 1) (Tells _) _ tt tt
-  asked_too m g conn s (requests.Transfer id) may = leading (asking.asks_transfer v id) (transferring id)
-  asked_too m g conn s (requests.Describe format) may = either (format == 0) (Tells _) _ tt tt
-  asked_too m g conn s (requests.Weight weight) may = tt
+  asked_too m g conn s request may = asked_both (MayAsk P) v m g conn s request tt (λ response ends. tt) (unlost_too m g conn s request may)
 
   -- ---- what comes of it
 
@@ -259,6 +264,7 @@ module _ (v : View) (P : ℕ → Type 0) where
     does_too (Creates name barriers) answers h = search (turns)
     does_too (Prepares p tail) answers h = tt
     does_too (Drops id) answers h = tt
+    does_too (Forgets response) answers h = tt
     does_too (Begins at_once) answers h = search (turns)
     does_too Commits answers h = commit_too s.tx
     does_too RollsBack answers h = tt

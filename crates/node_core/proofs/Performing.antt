@@ -19,6 +19,7 @@ proposals_more [] e = refl
 proposals_more (raft_events.Propose entries ∷ es) e = ap (λ (l : List (List Entry)). entries ∷ l) (proposals_more es e)
 proposals_more (raft_events.Timeout ∷ es) e = proposals_more es e
 proposals_more (raft_events.Beat ∷ es) e = proposals_more es e
+proposals_more (raft_events.Yield ∷ es) e = proposals_more es e
 proposals_more (raft_events.Message m ∷ es) e = proposals_more es e
 proposals_more (raft_events.Transfer to ∷ es) e = proposals_more es e
 proposals_more (raft_events.Snapped at ∷ es) e = proposals_more es e

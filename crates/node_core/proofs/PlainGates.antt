@@ -4,10 +4,10 @@ use Rattle.std.specs.Prelude.{◌==◌, ◌||◌, ◌&&◌, not, is_none}
 use Rattle.std.specs.List.{filter, flat_map}
 use Rattle.std.specs.Option.{option_or}
 use Rattle.wire_msgs.specs.declared.response.Response.{Response}
-use Rattle.session_spec.specs.Sessions.{Reply, Refusal, Single, Rows, Kind, Opening, Configuring, Writing, Committing, Querying, Flight, Session, Gateway, absent, fresh, is_busy, is_due, responses_of}
+use Rattle.session_spec.specs.Sessions.{Reply, Refusal, Single, Rows, Kind, Opening, Configuring, Writing, Committing, Querying, Flight, Session, Gateway, absent, fresh, in_tx, is_busy, is_due, responses_of}
 use Rattle.session_spec.specs.Causes.{LeadershipLost}
-use Rattle.session_spec.specs.Events.{tidy, landed, settled_by, on_applied, landed_reply, told_to, told_by, told_applied, lost, on_lost, ordered, last_of, waits, told_lost, left, on_hangup, connects, connected}
-use Rattle.session_spec.specs.Requests.{with_later, with_session, without_later}
+use Rattle.session_spec.specs.Events.{tidy, landed, settled_by, on_applied, landed_reply, told_to, told_by, told_applied, still_lent, commits, is_committing, lost, on_lost, ordered, last_of, waits, told_lost, left, on_hangup, connects, connected}
+use Rattle.session_spec.specs.Requests.{with_tx, with_flight, with_later, with_lost, with_session, without_later}
 use Rattle.session_table.specs.Sweeping.{told_in, all_told}
 use Rattle.session_gateway.specs.Later.{first_due_in, first_due}
 use Rattle.client_sessions.specs.Clients.{Clients, joining, offered_on, offer_of, next_offer}
@@ -51,12 +51,27 @@ settled_plain index s (Some f) = at (f.last == index) s.hung
     at true false = landed_plain s f f.kind
     at false h = refl
 
+commits_plain : (k : Kind) → commits (plain_kind k) ≡ commits k
+commits_plain Opening = refl
+commits_plain Configuring = refl
+commits_plain (Writing reply) = refl
+commits_plain Committing = refl
+commits_plain (Querying statement) = refl
+
+committing_plain : (o : Option Flight) → is_committing (plain_flight o) ≡ is_committing o
+committing_plain None = refl
+committing_plain (Some f) = commits_plain f.kind
+
 lost_plain : (s : Session) → lost (plain_session s) ≡ plain_session (lost s)
 lost_plain s = at s.hung
   where
+    -- a session whose proposal and transaction end, the transaction lost or not
+    over : Bool → Session
+    over commits_now = with_lost (with_later (with_flight (with_tx (plain_session (record s { hung = false })) None) None) (still_lent s.later)) (s.lost || (in_tx s && not commits_now))
+
     at : (h : Bool) → lost (plain_session (record s { hung = h })) ≡ plain_session (lost (record s { hung = h }))
     at true = refl
-    at false = refl
+    at false = ap over (committing_plain s.flight)
 
 left_plain : (s : Session) (o : Option Flight) → left (plain_session s) (plain_flight o) ≡ plain_session (left s o)
 left_plain s None = refl

@@ -192,6 +192,7 @@ serves_so old mid new led is stays left = by (ends_office mid.office mid.replica
 outside_plain : (event : RaftEvent) → IsOutside event → IsNoProposal (input_of event)
 outside_plain events.Timeout o = tt
 outside_plain events.Beat o = tt
+outside_plain events.Yield o = tt
 outside_plain (events.Message m) o = tt
 outside_plain (events.Propose es) o = absurd o
 outside_plain (events.Transfer to) o = absurd o

@@ -71,7 +71,7 @@ sent_so a b q (m ∷ messages) y whole carries = (what m.what carries.0, sent_so
 
     what : (w : MessageBody) → Carries q.snap w → WhatSent a.node.kept b.node.kept (account.bytes_in w) (message_value (record m { what = w })).what
     what (whats.Install snapshot) c = inr (ap (λ (s : Snap). s.index) c ∙ sym index, ap (λ (s : Snap). s.bytes) c ∙ sym bytes)
-    what (whats.AskVote last) c = tt
+    what (whats.AskVote last transfer) c = tt
     what (whats.Vote granted) c = tt
     what (whats.Append prev commit entries) c = tt
     what (whats.Ack good index) c = tt
@@ -104,6 +104,7 @@ brings_so b r q event y past snap =
 intake_is : (event : RaftEvent) → IsIntake event → IsNoSnapped (input_of event)
 intake_is events.Timeout h = tt
 intake_is events.Beat h = tt
+intake_is events.Yield h = tt
 intake_is (events.Message m) h = tt
 intake_is (events.Propose es) h = tt
 intake_is (events.Transfer to) h = tt

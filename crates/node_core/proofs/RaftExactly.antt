@@ -281,6 +281,7 @@ pub puts_nothing : (event : RaftEvent) (w : Core) → ((m : RaftMessage) → eve
 puts_nothing (due.Message m) w none = absurd (none m refl)
 puts_nothing due.Timeout w none = refl
 puts_nothing due.Beat w none = refl
+puts_nothing due.Yield w none = refl
 puts_nothing (due.Propose entries) w none = refl
 puts_nothing (due.Transfer to) w none = refl
 puts_nothing (due.Snapped at) w none = refl
@@ -296,7 +297,7 @@ puts_is n event m b whole is told =
 
 none_brought : (what : MessageBody) → ((s : Snapshot) → what ≢ whats.Install s) → brought what ≡ None
 none_brought (whats.Install s) other = absurd (other s refl)
-none_brought (whats.AskVote last) other = refl
+none_brought (whats.AskVote last transfer) other = refl
 none_brought (whats.Vote granted) other = refl
 none_brought (whats.Append prev commit entries) other = refl
 none_brought (whats.Ack good index) other = refl
@@ -377,6 +378,7 @@ change_other (due.Propose es) role none = absurd (none es refl)
 change_other (due.Transfer to) role none = refl
 change_other due.Timeout role none = refl
 change_other due.Beat role none = refl
+change_other due.Yield role none = refl
 change_other (due.Message m) role none = refl
 change_other (due.Snapped at) role none = refl
 change_other (due.Servers servers) role none = refl

@@ -38,6 +38,7 @@ same_snap r q event false e w node snap none = snap
 same_snap r q (events.Message m) true e w node snap none = absurd cc
 same_snap r q events.Timeout true e w node snap none = absurd (none_comes r q events.Timeout w node snap e)
 same_snap r q events.Beat true e w node snap none = absurd (none_comes r q events.Beat w node snap e)
+same_snap r q events.Yield true e w node snap none = absurd (none_comes r q events.Yield w node snap e)
 same_snap r q (events.Propose es) true e w node snap none = absurd (none_comes r q (events.Propose es) w node snap e)
 same_snap r q (events.Transfer to) true e w node snap none = absurd (none_comes r q (events.Transfer to) w node snap e)
 same_snap r q (events.Snapped end) true e w node snap none = absurd (none_comes r q (events.Snapped end) w node snap e)

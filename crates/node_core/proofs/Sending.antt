@@ -235,6 +235,7 @@ events_stay_apart (events.Hangup conn) k l same a = record {
 }
 events_stay_apart events.Timeout k l same a = a
 events_stay_apart events.Beat k l same a = a
+events_stay_apart events.Yield k l same a = a
 events_stay_apart (events.Peer message) k l same a = a
 events_stay_apart (events.ReadDone conn read) k l same a = a
 

@@ -3,7 +3,7 @@ use Rattle.std.proofs.Common.{◌≡◌, ◌⊎◌, inl, inr, ⊎_elim, ℕ, ◌
 use Rattle.std.specs.Prelude.{◌&&◌, nat_lt, nat_le}
 use Rattle.std.proofs.lemmas.Bool.{cond_both, cond-true, cond-false, ltb-true, leb-false, lt-ltb, le-ltb}
 use Rattle.raft_spec.specs.Log.{Entry, LogEnd, matches}
-use Rattle.raft_spec.specs.Node.{Follower, What, AskVote, Vote, Append, Ack, Install, TimeoutNow, Message, Node, Outcome, voters, among, peers, majority, is_leader, is_candidate, Timeout, Beat, Propose, Transfer, Snapped, UseServers, Input, Local, Receive}
+use Rattle.raft_spec.specs.Node.{Follower, What, AskVote, Vote, Append, Ack, Install, TimeoutNow, Message, Node, Outcome, voters, among, peers, majority, is_leader, is_candidate, Timeout, Beat, Yield, Propose, Transfer, Snapped, UseServers, Input, Local, Receive}
 use Rattle.raft_spec.specs.Outcomes.{in_newer_term, with_grants}
 use Rattle.raft_spec.specs.Elections.{on_grants, grants_vote, on_ask_vote, grants_with, on_vote}
 use Rattle.raft_spec.specs.Replication.{agrees, replaces_committed, take_entries, on_append, on_ack}
@@ -49,15 +49,15 @@ installs me s from last front = cond_both (is_leader s.role) _ _ (Settles s.snap
     (λ a. let past : s.commit < last.index = leb-false _ _ a in cond_both (matches s.log last) _ _ (Settles s.snapshot s.commit) (λ b. inr (past, refl)) (λ b. inr (past, refl))))
 
 in_turn : (voters_of : List Entry → List ℕ) (me : ℕ) (s : Node) (from : ℕ) (w : What) → Settles s.snapshot s.commit (on_own_term voters_of me s from w)
-in_turn voters_of me s from (AskVote last) = asked me s from last
+in_turn voters_of me s from (AskVote last transfer) = asked me s from last
 in_turn voters_of me s from (Vote granted) = voted voters_of me s from granted
 in_turn voters_of me s from (Append prev commit es) = appended me s from prev commit es
 in_turn voters_of me s from (Ack good index) = acked me s from good index
 in_turn voters_of me s from (Install last front) = installs me s from last front
-in_turn voters_of me s from TimeoutNow = inl (stands_snapshot voters_of me s)
+in_turn voters_of me s from TimeoutNow = inl (stands_snapshot true voters_of me s)
 
 late : (me : ℕ) (s : Node) (from : ℕ) (w : What) → Settles s.snapshot s.commit (on_older_term me s from w)
-late me s from (AskVote last) = inl refl
+late me s from (AskVote last transfer) = inl refl
 late me s from (Vote granted) = inl refl
 late me s from (Append prev commit es) = inl refl
 late me s from (Ack good index) = inl refl
@@ -66,7 +66,7 @@ late me s from TimeoutNow = inl refl
 
 heard : (voters_of : List Entry → List ℕ) (me : ℕ) (s : Node) (m : Message) → Settles s.snapshot s.commit (on_message voters_of me s m)
 unfolding on_message
-heard voters_of me s m = cond_both (in_range m) _ _ (Settles s.snapshot s.commit)
+heard voters_of me s m = cond_both (in_range s.term m) _ _ (Settles s.snapshot s.commit)
     (λ e. cond_both (nat_lt m.term s.term) _ _ (Settles s.snapshot s.commit) (λ o. late me s m.from m.what)
     (λ o. cond_both (nat_lt s.term m.term) _ _ (Settles s.snapshot s.commit) (λ n. in_turn voters_of me (in_newer_term s m.term) m.from m.what) (λ n. in_turn voters_of me s m.from m.what)))
     (λ e. inl refl)
@@ -99,6 +99,7 @@ abbrev pub IsNoSnapped : Input → Type 0
 IsNoSnapped (Local (Snapped index)) = ⊥
 IsNoSnapped (Local Timeout) = Unit {0}
 IsNoSnapped (Local Beat) = Unit {0}
+IsNoSnapped (Local Yield) = Unit {0}
 IsNoSnapped (Local (Propose es)) = Unit {0}
 IsNoSnapped (Local (Transfer to)) = Unit {0}
 IsNoSnapped (Local (UseServers servers)) = Unit {0}
@@ -108,6 +109,7 @@ other_stays : (voters_of : List Entry → List ℕ) (me : ℕ) (s : Node) (i : I
 other_stays voters_of me s (Receive m) o none = absurd (none m refl)
 other_stays voters_of me s (Local Timeout) o none = ⊎_elim (λ e. e) (λ x. absurd x) (snapshots_come_holds voters_of me s (Local Timeout))
 other_stays voters_of me s (Local Beat) o none = ⊎_elim (λ e. e) (λ x. absurd x) (snapshots_come_holds voters_of me s (Local Beat))
+other_stays voters_of me s (Local Yield) o none = ⊎_elim (λ e. e) (λ x. absurd x) (snapshots_come_holds voters_of me s (Local Yield))
 other_stays voters_of me s (Local (Propose es)) o none = ⊎_elim (λ e. e) (λ x. absurd x) (snapshots_come_holds voters_of me s (Local (Propose es)))
 other_stays voters_of me s (Local (Transfer to)) o none = ⊎_elim (λ e. e) (λ x. absurd x) (snapshots_come_holds voters_of me s (Local (Transfer to)))
 other_stays voters_of me s (Local (Snapped index)) o none = absurd o
@@ -145,6 +147,7 @@ bytes_after_step setup me came a i bytes coherent other e = by i other e
     by (Receive m) o e = message m e
     by (Local Timeout) o e = stays_local (Local Timeout) o (λ m q. cc) e
     by (Local Beat) o e = stays_local (Local Beat) o (λ m q. cc) e
+    by (Local Yield) o e = stays_local (Local Yield) o (λ m q. cc) e
     by (Local (Propose es)) o e = stays_local (Local (Propose es)) o (λ m q. cc) e
     by (Local (Transfer to)) o e = stays_local (Local (Transfer to)) o (λ m q. cc) e
     by (Local (Snapped index)) o e = absurd o

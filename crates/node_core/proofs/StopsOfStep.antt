@@ -43,6 +43,7 @@ always_err (Err f) p = p
 outside_first : (a : Moment) (event : RaftEvent) → IsOutside event → IsFirst a (input_of event)
 outside_first a raft_events.Timeout o = tt
 outside_first a raft_events.Beat o = tt
+outside_first a raft_events.Yield o = tt
 outside_first a (raft_events.Message m) o = tt
 outside_first a (raft_events.Propose es) o = absurd o
 outside_first a (raft_events.Transfer to) o = absurd o
@@ -159,6 +160,7 @@ client_stopped m kind setup old (happens.ReadDone conn read) machine stood c =
     (record { inputs = inl refl; bytes = refl; joins = refl; read = refl; asks = λ other. refl }) refl
 client_stopped m kind setup old happens.Timeout machine stood c = absurd c
 client_stopped m kind setup old happens.Beat machine stood c = absurd c
+client_stopped m kind setup old happens.Yield machine stood c = absurd c
 client_stopped m kind setup old (happens.Peer message) machine stood c = absurd c
 
 -- the first act was stopped

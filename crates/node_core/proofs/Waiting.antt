@@ -17,7 +17,7 @@ use Rattle.sql_engine.specs.Meanings.{Meaning, Told}
 use Rattle.sql_engine.specs.Replies.{Statement}
 use Rattle.database_state.specs.declared.database.Database.{Database}
 use Rattle.session_spec.specs.Causes.{LeadershipLost}
-use Rattle.session_spec.specs.Events.{tidy, landed, settled_by, on_applied, landed_reply, told_to, told_by, told_applied, still_lent, lost, on_lost, placed, ordered, last_of, waits, told_lost, left, on_hangup, connected}
+use Rattle.session_spec.specs.Events.{tidy, landed, settled_by, on_applied, landed_reply, told_to, told_by, told_applied, still_lent, loses, lost, on_lost, placed, ordered, last_of, waits, told_lost, left, on_hangup, connected}
 use Rattle.session_spec.specs.Machine.{Machine}
 use Rattle.session_spec.specs.Requests.{with_session, without_later, affected_by}
 use Rattle.session_spec.specs.Sessions.{Reply, Refusal, Single, Rows as RowsOf, responses_of, result, empty, db, Kind, Opening, Configuring, Writing, Committing, Querying, Flight, Later, Due, Lent, Session, Gateway, View, absent, fresh, is_flying, is_due, is_busy, Effect, HandsOver, JoinsPeer, Weighs, Turned, Refused, Lacks, Answers, Proposes, Lends, Affects}
@@ -403,7 +403,7 @@ lost_busy other false (Some (Due statement)) x e h = absurd cc
 lost_busy other false (Some (Lent statement)) x e h = refl
 
 lost_where : (hung : Bool) (other : ℕ) (s : Session) (x : Option Conn) → hung ≡ false → (not hung && (is_flying s || is_due s.later)) ≡ false → offered_on other [] (is_busy s) x ≡ None
-    → offered_on other [] (is_busy (cond hung absent (record s { later = still_lent s.later; tx = None; flight = None }))) x ≡ None
+    → offered_on other [] (is_busy (cond hung absent (record s { later = still_lent s.later; tx = None; lost = loses s; flight = None }))) x ≡ None
 lost_where true other s x stays e h = absurd cc
 lost_where false other s x stays e h = lost_busy other (is_flying s) s.later x e h
 

@@ -47,6 +47,7 @@ proposals_in [] = []
 proposals_in (due.Propose es ∷ rest) = es ∷ proposals_in rest
 proposals_in (due.Timeout ∷ rest) = proposals_in rest
 proposals_in (due.Beat ∷ rest) = proposals_in rest
+proposals_in (due.Yield ∷ rest) = proposals_in rest
 proposals_in (due.Message m ∷ rest) = proposals_in rest
 proposals_in (due.Transfer to ∷ rest) = proposals_in rest
 proposals_in (due.Snapped at ∷ rest) = proposals_in rest
@@ -61,7 +62,7 @@ moment_of n = record { node = seen n; applied = n.applied.index; due = proposals
 -- the bytes of a snapshot that a message brings
 abbrev pub bytes_in : MessageBody → List ℕ
 bytes_in (whats.Install snapshot) = snapshot.bytes
-bytes_in (whats.AskVote last) = []
+bytes_in (whats.AskVote last transfer) = []
 bytes_in (whats.Vote granted) = []
 bytes_in (whats.Append prev commit entries) = []
 bytes_in (whats.Ack good index) = []
@@ -122,6 +123,7 @@ IsOwn (raft.Local (raft.UseServers servers)) = Unit {0}
 IsOwn (raft.Local (raft.Snapped index)) = ⊥
 IsOwn (raft.Local raft.Timeout) = ⊥
 IsOwn (raft.Local raft.Beat) = ⊥
+IsOwn (raft.Local raft.Yield) = ⊥
 IsOwn (raft.Receive m) = ⊥
 
 -- what is taken in is this, and then what the node adds
@@ -172,6 +174,7 @@ pub data Begin : Type 0 where
 abbrev pub inputs_of : Begin → List raft.Input
 inputs_of (Happens events.Timeout) = raft.Local raft.Timeout ∷ []
 inputs_of (Happens events.Beat) = raft.Local raft.Beat ∷ []
+inputs_of (Happens events.Yield) = raft.Local raft.Yield ∷ []
 inputs_of (Happens (events.Peer m)) = raft.Receive (message_value m) ∷ []
 inputs_of (Happens (events.Connect conn)) = []
 inputs_of (Happens (events.Bytes conn bytes)) = []
@@ -185,6 +188,7 @@ abbrev pub bytes_of : Begin → List ℕ
 bytes_of (Happens (events.Peer m)) = bytes_in m.what
 bytes_of (Happens events.Timeout) = []
 bytes_of (Happens events.Beat) = []
+bytes_of (Happens events.Yield) = []
 bytes_of (Happens (events.Connect conn)) = []
 bytes_of (Happens (events.Bytes conn bytes)) = []
 bytes_of (Happens (events.Hangup conn)) = []
@@ -198,6 +202,7 @@ joins_of (Happens (events.Connect conn)) = Some conn
 joins_of (Happens (events.Peer m)) = None
 joins_of (Happens events.Timeout) = None
 joins_of (Happens events.Beat) = None
+joins_of (Happens events.Yield) = None
 joins_of (Happens (events.Bytes conn bytes)) = None
 joins_of (Happens (events.Hangup conn)) = None
 joins_of (Happens (events.ReadDone conn read)) = None
@@ -215,6 +220,7 @@ read_of (Happens (events.Connect conn)) = None
 read_of (Happens (events.Peer m)) = None
 read_of (Happens events.Timeout) = None
 read_of (Happens events.Beat) = None
+read_of (Happens events.Yield) = None
 read_of (Happens (events.Bytes conn bytes)) = None
 read_of (Happens (events.Hangup conn)) = None
 read_of (Comes m) = None
@@ -230,6 +236,7 @@ IsLost old (Happens (events.Peer m)) = LosesMessage old m
 IsLost old (Comes m) = LosesMessage old m
 IsLost old (Happens events.Timeout) = ⊥
 IsLost old (Happens events.Beat) = ⊥
+IsLost old (Happens events.Yield) = ⊥
 IsLost old (Happens (events.Connect conn)) = ⊥
 IsLost old (Happens (events.Bytes conn bytes)) = ⊥
 IsLost old (Happens (events.Hangup conn)) = ⊥
@@ -254,6 +261,7 @@ Brings old (Happens (events.Bytes conn bytes)) asks = BytesAsk old conn bytes as
 Brings old (Happens (events.Peer m)) asks = NoneAsks asks
 Brings old (Happens events.Timeout) asks = NoneAsks asks
 Brings old (Happens events.Beat) asks = NoneAsks asks
+Brings old (Happens events.Yield) asks = NoneAsks asks
 Brings old (Happens (events.Connect conn)) asks = NoneAsks asks
 Brings old (Happens (events.Hangup conn)) asks = NoneAsks asks
 Brings old (Happens (events.ReadDone conn read)) asks = NoneAsks asks

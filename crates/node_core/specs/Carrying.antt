@@ -149,6 +149,7 @@ begun_by (events.Bytes conn bytes) k l = heard_by_line (l.streams conn) conn byt
 begun_by (events.Hangup conn) k l = record l { streams = (hung_up k conn).streams; links = without_link conn l.links }
 begun_by events.Timeout k l = l
 begun_by events.Beat k l = l
+begun_by events.Yield k l = l
 begun_by (events.Peer message) k l = l
 begun_by (events.ReadDone conn read) k l = l
 
@@ -158,6 +159,7 @@ closed_first (events.Bytes conn bytes) k l = []
 closed_first (events.Hangup conn) k l = []
 closed_first events.Timeout k l = []
 closed_first events.Beat k l = []
+closed_first events.Yield k l = []
 closed_first (events.Peer message) k l = []
 closed_first (events.ReadDone conn read) k l = []
 

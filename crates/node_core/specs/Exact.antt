@@ -25,17 +25,15 @@ use Rattle.raft_log.specs.Compacting.{is_due}
 use Rattle.raft_membership.specs.Members.{configuration_in, last_servers}
 use Rattle.raft_messages.specs.declared.message.RaftMessage.{RaftMessage}
 use Rattle.raft_messages.specs.declared.message.Snapshot.{Snapshot}
-use Rattle.raft_messages.specs.Servers.{servers_bytes}
 use Rattle.raft_core.specs.Events.{input_of, offered}
 use Rattle.raft_core.specs.declared.event.RaftEvent.{RaftEvent}
 use Rattle.raft_core.specs.declared.event.RaftEvent.TheVariants as due
-use Rattle.database_state.specs.Snapshot.{snapshot_text}
 use Rattle.store_format.specs.FilesRead.{snap_kept}
 use Rattle.store_laws.specs.Store.{Snap}
 use Rattle.raft_on_disk.specs.Letters.{Tells}
 use Rattle.raft_on_disk.specs.Mails.{all_posted, sent}
 use Rattle.applied_state.specs.Content.{effect_of}
-use Rattle.applied_state.specs.Snapshot.{NodeSnapshot, snapshot_in, offered_to, contents_in}
+use Rattle.applied_state.specs.Snapshot.{NodeSnapshot, snapshot_bytes, snapshot_in, offered_to, contents_in}
 use Rattle.node_core.specs.declared.event.Event.{Event}
 use Rattle.node_core.specs.declared.event.Event.TheVariants as events
 use Rattle.node_core.specs.declared.outs.StepOutputs.{StepOutputs}
@@ -103,6 +101,7 @@ abbrev pub puts : RaftEvent → Core → Bool
 puts (due.Message message) w = nat_lt w.raft.commit (step_of w (due.Message message)).node.snapshot.index
 puts due.Timeout w = false
 puts due.Beat w = false
+puts due.Yield w = false
 puts (due.Propose entries) w = false
 puts (due.Transfer to) w = false
 puts (due.Snapped at) w = false
@@ -140,6 +139,7 @@ abbrev pub change_for : RaftEvent → Role → Option (List Server)
 change_for (due.Propose entries) role = change_in role entries
 change_for due.Timeout role = None
 change_for due.Beat role = None
+change_for due.Yield role = None
 change_for (due.Message message) role = None
 change_for (due.Transfer to) role = None
 change_for (due.Snapped at) role = None
@@ -214,7 +214,7 @@ abbrev pub MayCompact : Core → Type 0
 MayCompact w = (is_due w.raft.snapshot w.applied ≡ true) × (w.members.servers ≡ w.servers)
 
 abbrev pub own_snap : Core → Snap
-own_snap w = record { index = w.applied; term = term_at w.raft.log w.applied; bytes = servers_bytes w.servers ++ snapshot_text (contents_in w.files) }
+own_snap w = record { index = w.applied; term = term_at w.raft.log w.applied; bytes = snapshot_bytes w.servers (contents_in w.files) }
 
 abbrev pub own_event : Core → RaftEvent
 own_event w = due.Snapped (record { index = w.applied; term = term_at w.raft.log w.applied })
@@ -289,6 +289,7 @@ pub record ExactTurns (m : Meaning) (kind : EngineKind) (w v : Core) (answers : 
 abbrev pub ExactBegin : Event → Core → Core → List Answer → Type 0
 ExactBegin events.Timeout w v answers = ExactRaft due.Timeout w v × (answers ≡ [])
 ExactBegin events.Beat w v answers = ExactRaft due.Beat w v × (answers ≡ [])
+ExactBegin events.Yield w v answers = ExactRaft due.Yield w v × (answers ≡ [])
 ExactBegin (events.Peer message) w v answers = ExactRaft (due.Message message) w v × (answers ≡ [])
 ExactBegin (events.Connect conn) w v answers = (w.links ≡ [] → v ≡ joined_by (joining w.sessions conn) conn w) × (answers ≡ [])
 ExactBegin (events.Bytes conn bytes) w v answers = (w.links ≡ [] → v ≡ hearing conn bytes w) × (answers ≡ [])

@@ -30,6 +30,7 @@ abbrev pub bytes_by : Event → ℕ → List ℕ
 bytes_by (events.Bytes other bytes) conn = cond (conn == other) bytes []
 bytes_by events.Timeout conn = []
 bytes_by events.Beat conn = []
+bytes_by events.Yield conn = []
 bytes_by (events.Connect other) conn = []
 bytes_by (events.Hangup other) conn = []
 bytes_by (events.Peer message) conn = []

@@ -31,6 +31,7 @@ plain_session s = record {
   later = s.later;
   statements = s.statements;
   tx = s.tx;
+  lost = s.lost;
   flight = plain_flight s.flight;
 }
 

@@ -11,8 +11,11 @@ use Rattle.raft_spec.specs.Node as raft
 use Rattle.raft_spec.specs.NodeValues as values
 use Rattle.store_laws.specs.Store.{Kept}
 use Rattle.database_state.specs.declared.database.Database.{Database}
+use Rattle.raft_membership.specs.Members.{last_servers}
+use Rattle.session_spec.specs.Sessions.{Gateway}
 use Rattle.raft_on_disk.specs.Replicas.{ReplicaValue, kept_of}
 use Rattle.node_spec.specs.Nodes as rules
+use Rattle.node_core.specs.declared.links.Link.{Link}
 use Rattle.node_core.specs.declared.node.Node.{Node}
 use Rattle.node_core.specs.declared.running.Running.{Running}
 
@@ -64,6 +67,18 @@ raft_of n = values.node_of (replica_of n).raft
 -- the servers that Raft was told last
 abbrev pub servers_told : Node → List raft.Server
 servers_told n = (replica_of n).raft.servers
+
+-- the servers of the last configuration of its whole log
+abbrev pub servers_of : Node → List raft.Server
+servers_of n = last_servers n.running.members
+
+-- its sessions
+abbrev pub sessions_of : Node → Gateway
+sessions_of n = (clients_in n.running).sessions
+
+-- its connections that carry a peer's messages
+abbrev pub peer_connections : Node → List Link
+peer_connections n = n.running.links.all.items
 
 -- what its disk has kept
 abbrev pub kept_by : Node → Kept

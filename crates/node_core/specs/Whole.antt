@@ -41,6 +41,7 @@ IsOwnDue event = ⊥
 abbrev pub IsOutside : RaftEvent → Type 0
 IsOutside events.Timeout = Unit {0}
 IsOutside events.Beat = Unit {0}
+IsOutside events.Yield = Unit {0}
 IsOutside (events.Message message) = Unit {0}
 IsOutside event = ⊥
 

@@ -6,7 +6,7 @@ use raft_messages::{RaftMessage, Servers};
 use session_gateway::{Read, StepLimits};
 
 /// Who a node is, and with which servers its cluster was opened.
-#[derive(Debug, Drop)]
+#[derive(Drop)]
 pub struct NodeSpec {
     /// Its id; 1 or more.
     pub id: u64,
@@ -22,12 +22,15 @@ pub struct NodeSpec {
 }
 
 /// What happens at a node.
-#[derive(Debug, Drop)]
+#[derive(Drop)]
 pub enum Event {
     /// It has heard of no leader for too long.
     Timeout,
     /// It is time for a leader's heartbeat.
     Beat,
+    /// A leader is to give up its leadership: it becomes a follower of the next term, and its pending proposals end as at any
+    /// loss of leadership. At a node that doesn't lead nothing happens.
+    Yield,
     /// A client connects by this number, which no client had before.
     Connect(u64),
     /// Bytes come on the connection of this number, the next ones of its stream.

@@ -1,6 +1,6 @@
 //! Connections that carry the messages of peers.
 
-ghost use Rattle.std.specs.Prelude.{◌≡◌, ◌≢◌, ◌++◌, ◌∷◌, false, [], None, IfOk, OnOk, MatchOption, is_some};
+ghost use Rattle.std.specs.Prelude.{◌≡◌, ◌≢◌, ◌++◌, ◌∷◌, false, [], None, IfOk, OnOk, MatchOption, is_some, length};
 ghost use Rattle.database_state.specs.ByName.{FirstAt};
 ghost use Rattle.raft_messages.specs.declared.fault.PeerFault.TheVariants as faults;
 ghost use Rattle.node_core.specs.Carrying.{first_waiting, heard_link, is_of, link_on, link_reason, peers_message, without_link, LinkTook, TookFirst};
@@ -127,6 +127,13 @@ impl Links {
         ensures { result ≡ is_some (link_on conn self.now.all.items) }
     {
         place_of(self.all.as_slice(), conn).is_some()
+    }
+
+    /// How many there are.
+    pub(crate) fn count(&self) -> u64
+        ensures { result ≡ length self.now.all.items }
+    {
+        self.all.len() as u64
     }
 
     /// A connection carries the messages of a peer from now on.

@@ -1,13 +1,13 @@
 //! A node, and its calls.
 
-ghost use Rattle.std.specs.Prelude.{◌≡◌, List, [], Err, IfOk, OnOk, OnErr};
+ghost use Rattle.std.specs.Prelude.{◌≡◌, List, [], length, Err, IfOk, OnOk, OnErr};
 ghost use Rattle.sql_engine.specs.Meanings.{Stays};
 ghost use Rattle.client_sessions.specs.Sizes.{all_held, held_for};
 ghost use Rattle.raft_messages.specs.Servers.{IsConfiguration};
 ghost use Rattle.raft_spec.specs.Node.{Server as ServerValue};
 ghost use Rattle.raft_core.specs.Roles.{role_value};
 ghost use Rattle.raft_spec.specs.Log.{log_end};
-ghost use Rattle.raft_core.specs.Queries.{leader_at};
+ghost use Rattle.raft_core.specs.Queries.{leader_at, matched_at};
 ghost use Rattle.node_core.specs.declared.fault.NodeFault.TheVariants as fault;
 ghost use Rattle.node_core.specs.Faults.{StartCause, StepCause};
 ghost use Rattle.raft_membership.specs.Members.{read_setup};
@@ -23,7 +23,7 @@ ghost use Rattle.node_core.specs.ExactStart.{StartsExactly};
 ghost use Rattle.node_core.specs.Finding.{LeavesBy};
 ghost use Rattle.node_core.specs.Starting.{StartsOver};
 ghost use Rattle.node_core.specs.Stepping.{IsDown, IsUp, StaysDown, StaysStored};
-ghost use Rattle.node_core.specs.Values.{applied_of, databases_of, has_links, keeps_of, kept_by, node_of, raft_of, replica_of, servers_told};
+ghost use Rattle.node_core.specs.Values.{applied_of, databases_of, has_links, keeps_of, kept_by, node_of, raft_of, peer_connections, replica_of, servers_of, servers_told, sessions_of};
 ghost use Rattle.node_core.specs.Whole.{Agrees, IsSound};
 
 use crate::event::{Event, NodeSpec, NodeState};
@@ -32,6 +32,7 @@ use crate::outs::StepOutputs;
 use crate::running::Running;
 use database_state::Machine;
 use disk_model::Disk;
+use raft_messages::Server;
 use segment_store::{Kept, Store};
 use sql_engine::Engine;
 use std::alloc::{AllocError, Global};
@@ -150,6 +151,49 @@ impl Node {
             last: view.last.index,
             applied: self.running.applied.index,
         }
+    }
+
+    /// The servers of the last configuration of its whole log, committed or not. A leader and a candidate send by these.
+    pub fn servers(&self) -> &[Server]
+        ensures { result.now ≡ servers_of self.now }
+    {
+        self.running.members.current()
+    }
+
+    /// Up to which index a server's log is known to agree with the one of this node, if this node leads. Its own log agrees
+    /// whole; a server to which it sends no entries has 0.
+    pub fn matched(&self, server: u64) -> Option<u64>
+        ensures { result ≡ matched_at (replica_of self.now).raft server }
+    {
+        self.running.replica.matched(server)
+    }
+
+    /// The index up to which its last snapshot goes; 0 without a snapshot.
+    pub fn snapshot_index(&self) -> u64
+        ensures { result ≡ (raft_of self.now).snapshot.index }
+    {
+        self.running.replica.snapshot_index()
+    }
+
+    /// The index up to which its log is compacted: the first entry that it holds has the index after it.
+    pub fn cut_index(&self) -> u64
+        ensures { result ≡ (raft_of self.now).base }
+    {
+        self.running.replica.cut_index()
+    }
+
+    /// The number of its sessions, with those of clients that have gone while a proposal of theirs is pending.
+    pub fn session_count(&self) -> u64
+        ensures { result ≡ length (sessions_of self.now).conns }
+    {
+        self.running.clients.session_count()
+    }
+
+    /// The number of its connections that carry a peer's messages.
+    pub fn peer_connection_count(&self) -> u64
+        ensures { result ≡ length (peer_connections self.now) }
+    {
+        self.running.links.count()
     }
 
     /// Its databases, lent.

@@ -106,6 +106,7 @@ impl Running {
         match event {
             Event::Timeout => self.take_raft(RaftEvent::Timeout, disk, engine)?,
             Event::Beat => self.take_raft(RaftEvent::Beat, disk, engine)?,
+            Event::Yield => self.take_raft(RaftEvent::Yield, disk, engine)?,
             Event::Peer(message) => self.take_raft(RaftEvent::Message(message), disk, engine)?,
             Event::Connect(conn) => self.connect(conn)?,
             Event::Hangup(conn) => self.hang_up(conn),

@@ -141,6 +141,8 @@ module _ (mean : Meaning) (kind : EngineKind) (r : Run) (n : ℕ) (old : Running
   pub comes_so : (begin : Begin) (x : Taken) → Arrives mean kind r n begin → Takes old begin x → ComesSo mean kind r n begin x
   comes_so (Happens events.Timeout) x here t = either old (Happens events.Timeout) x (λ a. came_local mean kind r n x (Happens events.Timeout) raft.Timeout a t.joins t.read t.asks) (λ l a. absurd l) t.inputs
   comes_so (Happens events.Beat) x here t = either old (Happens events.Beat) x (λ a. came_local mean kind r n x (Happens events.Beat) raft.Beat a t.joins t.read t.asks) (λ l a. absurd l) t.inputs
+  comes_so (Happens events.Yield) x here t =
+      either old (Happens events.Yield) x (λ a. came_local mean kind r n x (Happens events.Yield) raft.Yield a t.joins t.read t.asks) (λ l a. absurd l) t.inputs
   comes_so (Happens (events.Peer m)) x here t =
       either old (Happens (events.Peer m)) x (λ a. came_message mean kind r n x (Happens (events.Peer m)) m here a t.bytes t.joins t.read t.asks)
       (λ l a. came_none mean kind r n x (Happens (events.Peer m)) a.own a.each a.is t.joins t.read t.asks) t.inputs
@@ -165,6 +167,7 @@ brings_none old (Happens (events.Bytes other bytes)) asks conn h none = h.others
 brings_none old (Happens (events.Peer m)) asks conn h none = h conn
 brings_none old (Happens events.Timeout) asks conn h none = h conn
 brings_none old (Happens events.Beat) asks conn h none = h conn
+brings_none old (Happens events.Yield) asks conn h none = h conn
 brings_none old (Happens (events.Connect other)) asks conn h none = h conn
 brings_none old (Happens (events.Hangup other)) asks conn h none = h conn
 brings_none old (Happens (events.ReadDone other read)) asks conn h none = h conn

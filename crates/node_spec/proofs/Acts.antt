@@ -100,7 +100,7 @@ put_messages w n s out = refl
 
 stands_for : (s : raft.Node) (c : List Entry) (w : raft.What) → SameUpTo s.snapshot.index s.log c → WhatFront c w → HasFront s w
 stands_for s c (raft.Install last front) same f = λ e. subst (λ (l : LogEnd). take l.index s.log ≡ take l.index c) e same.2 ∙ sym f.1
-stands_for s c (raft.AskVote last) same f = tt
+stands_for s c (raft.AskVote last transfer) same f = tt
 stands_for s c (raft.Vote granted) same f = tt
 stands_for s c (raft.Append prev commit entries) same f = tt
 stands_for s c (raft.Ack good index) same f = tt

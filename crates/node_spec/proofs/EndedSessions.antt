@@ -1,11 +1,11 @@
 -- Sessions of which nothing is open nor in flight stay so where the node doesn't serve.
 use Rattle.std.proofs.Common.{◌≡◌, ℕ, suc, ◌≤◌, Bool, true, false, cond, List, [], ◌∷◌, ◌++◌, length, refl, sym, ap, ◌∙◌, subst, arith}
-use Rattle.std.specs.Prelude.{map, not, ◌&&◌, ◌==◌, Option, Some, None}
+use Rattle.std.specs.Prelude.{map, not, ◌&&◌, ◌||◌, ◌==◌, Option, Some, None}
 use Rattle.std.specs.List.{filter}
 use Rattle.std.proofs.lemmas.Bool.{cond_both, cond-true, cond-false, eqb-true, eq-eqb}
 use Rattle.session_spec.specs.Causes.{LeadershipLost}
-use Rattle.session_spec.specs.Events.{tidy, on_applied, still_lent, lost, on_lost, last_of, ordered, waits, told_lost, left, on_hangup, connected}
-use Rattle.session_spec.specs.Requests.{with_tx, with_flight, with_later, with_session}
+use Rattle.session_spec.specs.Events.{tidy, on_applied, still_lent, loses, lost, on_lost, last_of, ordered, waits, told_lost, left, on_hangup, connected}
+use Rattle.session_spec.specs.Requests.{with_tx, with_flight, with_later, with_lost, with_session}
 use Rattle.session_spec.specs.Sessions.{Refusal, Flight, Later, Due, Lent, Session, Gateway, absent, fresh, is_due, no_sessions}
 use Rattle.node_spec.specs.RaftTurns.{HasEnded, EndsOn}
 use Rattle.node_spec.proofs.LostSessions.{filter_twice, lost_flight, lost_settled}
@@ -26,12 +26,16 @@ and_false : (b : Bool) → (b && false) ≡ false
 and_false true = refl
 and_false false = refl
 
+or_false : (b : Bool) → (b || false) ≡ b
+or_false true = refl
+or_false false = refl
+
 abbrev over : Session → Session
-over s = with_later (with_flight (with_tx s None) None) (still_lent s.later)
+over s = with_lost (with_later (with_flight (with_tx s None) None) (still_lent s.later)) (loses s)
 
 lost_twice : (s : Session) → lost (lost s) ≡ lost s
 lost_twice s = cond_both s.hung absent (over s) (λ (x : Session). lost x ≡ x) (λ e. refl)
-    (λ e. cond-false s.hung absent (over (over s)) e ∙ ap (with_later (over s)) (lent_twice s.later))
+    (λ e. cond-false s.hung absent (over (over s)) e ∙ ap (λ (l : Option Later). with_lost (with_later (over s) l) (loses s || false)) (lent_twice s.later) ∙ ap (with_lost (over s)) (or_false (loses s)))
 
 silent : (s : Session) → waits (lost s) ≡ false
 silent s = cond_both s.hung absent (over s) (λ (x : Session). waits x ≡ false) (λ e. refl) (λ e. ap (λ (b : Bool). not s.hung && b) (due_none s.later) ∙ and_false (not s.hung))

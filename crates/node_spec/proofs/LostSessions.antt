@@ -7,10 +7,10 @@ use Rattle.std.proofs.lemmas.Bool.{cond_both, cond-true, cond-false}
 use Rattle.sql_engine.specs.declared.kind.EngineKind.{EngineKind}
 use Rattle.sql_engine.specs.Meanings.{Meaning}
 use Rattle.session_spec.specs.Entries.{Entry as Line}
-use Rattle.session_spec.specs.Events.{tidy, settled_by, on_applied, still_lent, lost, on_lost}
+use Rattle.session_spec.specs.Events.{tidy, settled_by, on_applied, still_lent, loses, lost, on_lost}
 use Rattle.session_spec.specs.Restarts.{shifted_tx, shifted_session, shifted}
 use Rattle.session_spec.specs.Sessions.{Flight, Session, Gateway, absent}
-use Rattle.session_spec.specs.Requests.{with_tx, with_flight, with_later}
+use Rattle.session_spec.specs.Requests.{with_tx, with_flight, with_later, with_lost}
 use Rattle.session_spec.proofs.RestartedEvents.{events_shift_hold}
 use Rattle.session_safety.specs.Nodes.{Trail, Said, Node as Life}
 use Rattle.session_safety.specs.Life.{Event as Doing, Apply, said_by, said_applied, happens, run_from as lives_on}
@@ -21,10 +21,10 @@ use Rattle.cluster_model.specs.Clusters.{AllFitIn}
 use Rattle.node_spec.specs.Steps.{calls}
 
 pub lost_flight : (s : Session) → (lost s).flight ≡ None
-lost_flight s = cond_both s.hung absent (with_later (with_flight (with_tx s None) None) (still_lent s.later)) (λ (x : Session). x.flight ≡ None) (λ e. refl) (λ e. refl)
+lost_flight s = cond_both s.hung absent (with_lost (with_later (with_flight (with_tx s None) None) (still_lent s.later)) (loses s)) (λ (x : Session). x.flight ≡ None) (λ e. refl) (λ e. refl)
 
 lost_tx : (s : Session) → (lost s).tx ≡ None
-lost_tx s = cond_both s.hung absent (with_later (with_flight (with_tx s None) None) (still_lent s.later)) (λ (x : Session). x.tx ≡ None) (λ e. refl) (λ e. refl)
+lost_tx s = cond_both s.hung absent (with_lost (with_later (with_flight (with_tx s None) None) (still_lent s.later)) (loses s)) (λ (x : Session). x.tx ≡ None) (λ e. refl) (λ e. refl)
 
 pub filter_twice : {A : Type 0} (f : A → Bool) (xs : List A) → filter f (filter f xs) ≡ filter f xs
 filter_twice {A} f [] = refl
@@ -52,8 +52,8 @@ lost_unshifted lacks others g = λ i. record { conns = filter (λ (conn : ℕ). 
     plain : (conn : ℕ) → shifted_session lacks (lost (g.session conn)) ≡ shifted_session others (lost (g.session conn))
     plain conn =
         let s = lost (g.session conn) in
-        ap (λ (o : Option _). record { there = s.there; hung = s.hung; database = s.database; barriers = s.barriers; later = s.later; statements = s.statements; tx = option_map (shifted_tx lacks) o; flight = s.flight }) (lost_tx (g.session conn))
-        ∙ sym (ap (λ (o : Option _). record { there = s.there; hung = s.hung; database = s.database; barriers = s.barriers; later = s.later; statements = s.statements; tx = option_map (shifted_tx others) o; flight = s.flight }) (lost_tx (g.session conn)))
+        ap (λ (o : Option _). record { there = s.there; hung = s.hung; database = s.database; barriers = s.barriers; later = s.later; statements = s.statements; tx = option_map (shifted_tx lacks) o; lost = s.lost; flight = s.flight }) (lost_tx (g.session conn))
+        ∙ sym (ap (λ (o : Option _). record { there = s.there; hung = s.hung; database = s.database; barriers = s.barriers; later = s.later; statements = s.statements; tx = option_map (shifted_tx others) o; lost = s.lost; flight = s.flight }) (lost_tx (g.session conn)))
 
 -- and nobody is answered
 lost_silent : (index : ℕ) (trail : ℕ → Trail) (lacks : List ℕ → ℕ) (g : Gateway) (conns : List ℕ) → said_applied index trail (shifted lacks (on_lost g)).session conns ≡ []

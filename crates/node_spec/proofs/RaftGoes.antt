@@ -20,7 +20,7 @@ use Rattle.session_safety.specs.Answering.{handled_in}
 use Rattle.session_safety.specs.Lending.{lent_in, answers_in}
 use Rattle.session_safety.specs.Laws.{NoneComes}
 use Rattle.raft_spec.specs.Log.{Entry, LogEnd}
-use Rattle.raft_spec.specs.Node.{Node, Timeout, Beat, Propose, Transfer, Snapped, UseServers, Input, Local, Receive, is_leader}
+use Rattle.raft_spec.specs.Node.{Node, Timeout, Beat, Yield, Propose, Transfer, Snapped, UseServers, Input, Local, Receive, is_leader}
 use Rattle.raft_spec.specs.NodeValues.{node_of}
 use Rattle.raft_spec.specs.Account.{stored_of, steps}
 use Rattle.raft_spec.specs.Compaction.{compacted, compacted_step}
@@ -102,6 +102,7 @@ pub keeps_woven : (j : Input) (s : Node) → ((es : List Entry) → j ≢ Local 
 keeps_woven (Local (Propose es)) s other = absurd (other es refl)
 keeps_woven (Local Timeout) s other = tt
 keeps_woven (Local Beat) s other = tt
+keeps_woven (Local Yield) s other = tt
 keeps_woven (Local (Transfer to)) s other = tt
 keeps_woven (Local (Snapped i)) s other = tt
 keeps_woven (Local (UseServers servers)) s other = tt
@@ -251,6 +252,7 @@ leaves_still vs me s (Local Beat) l = beat_still vs me s
 leaves_still vs me s (Local (Transfer to)) l = transfer_still vs me s to
 leaves_still vs me s (Local (UseServers servers)) l = servers_still vs me s servers
 leaves_still vs me s (Local Timeout) l = absurd l
+leaves_still vs me s (Local Yield) l = absurd l
 leaves_still vs me s (Local (Propose es)) l = absurd l
 leaves_still vs me s (Local (Snapped index)) l = absurd l
 leaves_still vs me s (Receive m) l = absurd l

@@ -3,9 +3,9 @@ use Rattle.std.proofs.Common.{◌≡◌, ℕ, ◌<◌, ◌≤◌, Bool, true, fa
 use Rattle.std.specs.Prelude.{◌==◌, ◌&&◌, not, nat_lt, nat_le}
 use Rattle.std.proofs.lemmas.Bool.{cond_both, cond-true, and_parts, ltb-true, leb-true, lt-ltb, le-leb}
 use Rattle.raft_spec.specs.Log.{Entry, LogEnd, matches}
-use Rattle.raft_spec.specs.Node.{Role, Leader, Candidate, Follower, What, AskVote, Vote, Append, Ack, Install, TimeoutNow, Message, Node, Server, Outcome, among, peers, majority, is_leader, is_candidate, Timeout, Beat, Propose, Transfer, Snapped, UseServers, Input, Local, Receive}
+use Rattle.raft_spec.specs.Node.{Role, Leader, Candidate, Follower, What, AskVote, Vote, Append, Ack, Install, TimeoutNow, Message, Node, Server, Outcome, among, peers, majority, is_leader, is_candidate, Timeout, Beat, Yield, Propose, Transfer, Snapped, UseServers, Input, Local, Receive}
 use Rattle.raft_spec.specs.Outcomes.{quiet, in_newer_term}
-use Rattle.raft_spec.specs.Elections.{on_grants, may_start_election, start_election, grants_vote, on_ask_vote, grants_with, on_vote}
+use Rattle.raft_spec.specs.Elections.{on_grants, may_start_election, on_yield, start_election, grants_vote, on_ask_vote, grants_with, on_vote}
 use Rattle.raft_spec.specs.Replication.{agrees, replaces_committed, take_entries, on_append, on_ack, on_propose, on_beat, on_transfer}
 use Rattle.raft_spec.specs.Snapshots.{on_install, on_snapped}
 use Rattle.raft_spec.specs.Membership.{on_servers}
@@ -66,9 +66,9 @@ candidate_follows Leader e = absurd cc
 candidate_follows Candidate e = refl
 candidate_follows Follower e = refl
 
-stood : (voters_of : List Entry → List ℕ) (me : ℕ) (s : Node) → Shaped s (start_election voters_of me s)
+stood : (transfer : Bool) (voters_of : List Entry → List ℕ) (me : ℕ) (s : Node) → Shaped s (start_election voters_of me s transfer)
 unfolding start_election on_grants
-stood voters_of me s = cond_both (may_start_election voters_of me s) _ _ (Shaped s)
+stood transfer voters_of me s = cond_both (may_start_election voters_of me s) _ _ (Shaped s)
     (λ e. cond_both (majority (voters_of s.log) (among (me ∷ []))) _ _ (Shaped s) (λ a. rises s _ (omega arith) refl refl) (λ a. rises s _ (omega arith) refl refl))
     (λ e. still s)
 
@@ -124,6 +124,10 @@ beats : (s : Node) → Shaped s (on_beat s)
 unfolding on_beat
 beats s = cond_both (is_leader s.role) _ _ (Shaped s) (λ e. same s _ refl refl refl refl) (λ e. still s)
 
+yields : (s : Node) → Shaped s (on_yield s)
+unfolding on_yield
+yields s = cond_both (is_leader s.role && nat_lt s.term 4294967295) _ _ (Shaped s) (λ e. rises s _ (omega arith) refl refl) (λ e. still s)
+
 hands : (me : ℕ) (s : Node) (to : ℕ) → Shaped s (on_transfer me s to)
 unfolding on_transfer
 hands me s to = cond_both (is_leader s.role && not (to == me)) _ _ (Shaped s) (λ e. same s _ refl refl refl refl) (λ e. still s)
@@ -131,15 +135,15 @@ hands me s to = cond_both (is_leader s.role && not (to == me)) _ _ (Shaped s) (�
 -- ---- messages
 
 in_turn : (voters_of : List Entry → List ℕ) (me : ℕ) (s : Node) (from : ℕ) (w : What) → Shaped s (on_own_term voters_of me s from w)
-in_turn voters_of me s from (AskVote last) = asked me s from last
+in_turn voters_of me s from (AskVote last transfer) = asked me s from last
 in_turn voters_of me s from (Vote granted) = voted voters_of me s from granted
 in_turn voters_of me s from (Append prev commit es) = appended me s from prev commit es
 in_turn voters_of me s from (Ack good index) = acked me s from good index
 in_turn voters_of me s from (Install last front) = installs me s from last front
-in_turn voters_of me s from TimeoutNow = stood voters_of me s
+in_turn voters_of me s from TimeoutNow = stood true voters_of me s
 
 late : (me : ℕ) (s : Node) (from : ℕ) (w : What) → Shaped s (on_older_term me s from w)
-late me s from (AskVote last) = still s
+late me s from (AskVote last transfer) = still s
 late me s from (Vote granted) = still s
 late me s from (Append prev commit es) = still s
 late me s from (Ack good index) = still s
@@ -164,7 +168,7 @@ from_taken s t term lt h =
 
 heard : (voters_of : List Entry → List ℕ) (me : ℕ) (s : Node) (m : Message) → Shaped s (on_message voters_of me s m)
 unfolding on_message
-heard voters_of me s m = cond_both (in_range m) _ _ (Shaped s)
+heard voters_of me s m = cond_both (in_range s.term m) _ _ (Shaped s)
     (λ e. cond_both (nat_lt m.term s.term) _ _ (Shaped s) (λ o. late me s m.from m.what)
     (λ o. cond_both (nat_lt s.term m.term) _ _ (Shaped s)
     (λ n. from_taken s _ m.term (ltb-true _ _ n) (in_turn voters_of me (in_newer_term s m.term) m.from m.what))
@@ -193,8 +197,9 @@ serves me s d h = cond_both (is_leader d.node.role) _ _ (Shaped s) (λ e. h) (λ
 whole : (voters_of : List Entry → List ℕ) (me : ℕ) (s : Node) (i : Input) → Shaped s (raft_step voters_of me s i)
 unfolding raft_step
 whole voters_of me s (Receive m) = ends voters_of me s _ (heard voters_of me s m)
-whole voters_of me s (Local Timeout) = ends voters_of me s _ (stood voters_of me s)
+whole voters_of me s (Local Timeout) = ends voters_of me s _ (stood false voters_of me s)
 whole voters_of me s (Local Beat) = ends voters_of me s _ (beats s)
+whole voters_of me s (Local Yield) = ends voters_of me s _ (yields s)
 whole voters_of me s (Local (Propose es)) = ends voters_of me s _ (proposes s es)
 whole voters_of me s (Local (Transfer to)) = ends voters_of me s _ (hands me s to)
 whole voters_of me s (Local (Snapped i)) = ends voters_of me s _ (snaps s i)

@@ -5,7 +5,7 @@ use Rattle.std.proofs.lemmas.Bool.{cond-false, and_parts, ltb-true, ltb-false, l
 use Rattle.std.proofs.lemmas.List.{drop-drop, length-drop}
 use Rattle.session_safety.specs.Nodes.{Node as Life}
 use Rattle.raft_spec.specs.Log.{Entry, LogEnd, nth_term, term_at, matches}
-use Rattle.raft_spec.specs.Node.{Node, Timeout, Beat, Propose, Transfer, Snapped, UseServers, Input, Local, Receive}
+use Rattle.raft_spec.specs.Node.{Node, Timeout, Beat, Yield, Propose, Transfer, Snapped, UseServers, Input, Local, Receive}
 use Rattle.raft_spec.specs.Account.{Stored, stored_of, older}
 use Rattle.raft_safety.specs.Members.{Setup, member_step}
 use Rattle.raft_safety.specs.Cuts.{AlikeInput}
@@ -36,6 +36,7 @@ first_weaves vs a s w i (Local (Propose es)) x first alike =
     λ leads. weaves.0
 first_weaves vs a s w i (Local Timeout) x first alike = tt
 first_weaves vs a s w i (Local Beat) x first alike = tt
+first_weaves vs a s w i (Local Yield) x first alike = tt
 first_weaves vs a s w i (Local (Transfer to)) x first alike = tt
 first_weaves vs a s w i (Local (Snapped index)) x first alike = tt
 first_weaves vs a s w i (Local (UseServers servers)) x first alike = tt

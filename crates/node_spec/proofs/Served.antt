@@ -9,7 +9,7 @@ use Rattle.sql_engine.specs.Meanings.{Meaning}
 use Rattle.sql_engine.specs.Replies.{Statement}
 use Rattle.wire_msgs.specs.declared.request.Request.{Request}
 use Rattle.session_spec.specs.Allowed.{IsAllowed}
-use Rattle.session_spec.specs.Asking.{Asked, Never, Tells, Sets, Opens, Creates, Prepares, Drops, Begins, Commits, RollsBack, Changes, Runs, Reads, asked}
+use Rattle.session_spec.specs.Asking.{Asked, Never, Tells, Sets, Opens, Creates, Prepares, Drops, Forgets, Begins, Commits, RollsBack, Changes, Runs, Reads, asked}
 use Rattle.session_spec.specs.Causes.{Cause, LogFull}
 use Rattle.session_spec.specs.Engines.{Answer, no_pages, Ending, Lacking, TooLarge, Stopped, Ended}
 use Rattle.session_spec.specs.Entries.{Content, Configures, Other, Entry as Line}
@@ -96,6 +96,7 @@ module _ (v : View) (m : Machine) (g : Gateway) (c : ℕ) (s : Session) where
   does_next r (Creates name barriers) answers h = cond_both (pages_full m g name empty_image) _ _ So (λ e. tt) (λ e. (_, refl, refl, h.0, h.1))
   does_next r (Prepares p tail) answers h = same
   does_next r (Drops id) answers h = same
+  does_next r (Forgets response) answers h = same
   does_next r (Begins at_once) answers h = cond_both (at_once && other_holds g c s.database) _ _ So (λ e. tt) (λ e. same)
   does_next r Commits answers h = commit_next h.0.serves s.tx
   does_next r RollsBack answers h = same

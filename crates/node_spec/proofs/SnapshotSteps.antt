@@ -52,7 +52,7 @@ bytes_at setup bytes m (raft.Receive o ∷ is) (suc k) h e = bytes_at setup byte
 brought : (setup : Setup) (bytes : List ℕ) (b : raft.Node) (w : raft.What) → BringsSnapshot w b.snapshot → HasFront b w → FrontIs setup bytes w → SnapshotIs setup b bytes
 brought setup bytes b (raft.Install last front) e has are =
     subst (λ (l : LogEnd). 0 < l.index → SnapshotOf setup (take l.index b.log) bytes) (sym e) (λ pos. subst (λ (es : List Entry). SnapshotOf setup es bytes) (sym (has e)) (are pos))
-brought setup bytes b (raft.AskVote last) e has are = absurd e
+brought setup bytes b (raft.AskVote last transfer) e has are = absurd e
 brought setup bytes b (raft.Vote granted) e has are = absurd e
 brought setup bytes b (raft.Append prev commit entries) e has are = absurd e
 brought setup bytes b (raft.Ack good index) e has are = absurd e

@@ -442,7 +442,7 @@ sent_early a b c (x ∷ xs) h e = (what x.message.what h.0, sent_early a b c xs 
   where
     what : (w : raft.What) → WhatSent a b x.bytes w → WhatSent a c x.bytes w
     what (raft.Install last front) h = one_of a b c last x.bytes h e
-    what (raft.AskVote last) h = tt
+    what (raft.AskVote last transfer) h = tt
     what (raft.Vote granted) h = tt
     what (raft.Append prev commit entries) h = tt
     what (raft.Ack good index) h = tt
@@ -454,7 +454,7 @@ sent_late a b c (x ∷ xs) h e = (what x.message.what h.0, sent_late a b c xs h.
   where
     what : (w : raft.What) → WhatSent b c x.bytes w → WhatSent a c x.bytes w
     what (raft.Install last front) h = other_of a b c last x.bytes h e
-    what (raft.AskVote last) h = tt
+    what (raft.AskVote last transfer) h = tt
     what (raft.Vote granted) h = tt
     what (raft.Append prev commit entries) h = tt
     what (raft.Ack good index) h = tt

@@ -3,9 +3,9 @@ use Rattle.std.proofs.Common.{◌≡◌, ℕ, ◌≤◌, Bool, true, false, List
 use Rattle.std.specs.Prelude.{◌≢◌, ◌==◌, ◌&&◌, ◌||◌, not, nat_lt, nat_le}
 use Rattle.std.proofs.lemmas.Bool.{cond-true, cond_both}
 use Rattle.raft_spec.specs.Log.{Entry, LogEnd, matches}
-use Rattle.raft_spec.specs.Node.{Role, Leader, Candidate, Follower, What, AskVote, Vote, Append, Ack, Install, TimeoutNow, Message, Node, Server, Outcome, voters, among, peers, majority, is_leader, is_candidate, Timeout, Beat, Propose, Transfer, Snapped, UseServers, Input, Local, Receive}
+use Rattle.raft_spec.specs.Node.{Role, Leader, Candidate, Follower, What, AskVote, Vote, Append, Ack, Install, TimeoutNow, Message, Node, Server, Outcome, voters, among, peers, majority, is_leader, is_candidate, Timeout, Beat, Yield, Propose, Transfer, Snapped, UseServers, Input, Local, Receive}
 use Rattle.raft_spec.specs.Outcomes.{in_newer_term, with_grants, with_log, with_term, barrier}
-use Rattle.raft_spec.specs.Elections.{as_candidate, grants_with, on_grants, may_start_election, start_election, grants_vote, on_ask_vote, on_vote}
+use Rattle.raft_spec.specs.Elections.{as_candidate, grants_with, on_grants, may_start_election, on_yield, start_election, grants_vote, on_ask_vote, on_vote}
 use Rattle.raft_spec.specs.Replication.{take_entries, agrees, replaces_committed, on_append, on_ack, on_propose, on_beat, on_transfer}
 use Rattle.raft_spec.specs.Snapshots.{on_install, on_snapped}
 use Rattle.raft_spec.specs.Membership.{with_servers, on_servers}
@@ -35,6 +35,7 @@ as_fixed me v i =
 tells_none : (ids : List ℕ) (i : Input) → IsPlain i → SameVoters ids (i ∷ [])
 tells_none ids (Local Timeout) p = tt
 tells_none ids (Local Beat) p = tt
+tells_none ids (Local Yield) p = tt
 tells_none ids (Local (Propose es)) p = tt
 tells_none ids (Local (Transfer to)) p = tt
 tells_none ids (Local (Snapped i)) p = tt
@@ -72,6 +73,7 @@ propose_plain vs s (x ∷ y ∷ es) e = ap not e
 pub may_plain : (opening : List Server) (s : Node) (i : Input) → IsPlain i → may_take (read_setup opening) s i ≡ true
 may_plain opening s (Local Timeout) p = refl
 may_plain opening s (Local Beat) p = refl
+may_plain opening s (Local Yield) p = refl
 may_plain opening s (Local (Propose es)) p = propose_plain (read_setup opening) s es p
 may_plain opening s (Local (Transfer to)) p = refl
 may_plain opening s (Local (Snapped i)) p = refl
@@ -81,6 +83,7 @@ may_plain opening s (Receive m) p = refl
 pub told_plain : (opening : List Server) (s : Node) (i : Input) → IsPlain i → voters s.servers ≡ voters_after (read_setup opening) s.log → ToldAt (read_setup opening) s i
 told_plain opening s (Local Timeout) p e = e
 told_plain opening s (Local Beat) p e = e
+told_plain opening s (Local Yield) p e = e
 told_plain opening s (Local (Propose es)) p e = e ∙ sym (others_follow (read_setup opening) s.log (with_term s.term es) (with_term_changes (read_setup opening) s.term es ∙ p))
 told_plain opening s (Local (Transfer to)) p e = e
 told_plain opening s (Local (Snapped i)) p e = e
@@ -97,9 +100,9 @@ counted_stands : (voters_of : List Entry → List ℕ) (me : ℕ) (s : Node) (ou
 unfolding on_grants
 counted_stands voters_of me s out = cond_both (majority (voters_of s.log) (among s.grants)) _ _ (Stands s.log) (λ e c. absurd cc) (λ e c. refl)
 
-election_stands : (voters_of : List Entry → List ℕ) (me : ℕ) (s : Node) → Stands s.log (start_election voters_of me s)
+election_stands : (transfer : Bool) (voters_of : List Entry → List ℕ) (me : ℕ) (s : Node) → Stands s.log (start_election voters_of me s transfer)
 unfolding start_election
-election_stands voters_of me s = cond_both (may_start_election voters_of me s) _ _ (Stands s.log) (λ e. counted_stands voters_of me (as_candidate me s) _) (λ e c. refl)
+election_stands transfer voters_of me s = cond_both (may_start_election voters_of me s) _ _ (Stands s.log) (λ e. counted_stands voters_of me (as_candidate me s) _) (λ e c. refl)
 
 ask_stands : (me : ℕ) (s : Node) (from : ℕ) (last : LogEnd) → Stands s.log (on_ask_vote me s from last)
 unfolding on_ask_vote
@@ -128,15 +131,15 @@ ack_stands me s from true index = cond_both (is_leader s.role && among (peers s.
 ack_stands me s from false index = cond_both (is_leader s.role && among (peers s.servers me) from) _ _ (Stands s.log) (λ e c. refl) (λ e c. refl)
 
 own_stands : (voters_of : List Entry → List ℕ) (me : ℕ) (s : Node) (from : ℕ) (w : What) → Stands s.log (on_own_term voters_of me s from w)
-own_stands voters_of me s from (AskVote last) = ask_stands me s from last
+own_stands voters_of me s from (AskVote last transfer) = ask_stands me s from last
 own_stands voters_of me s from (Vote granted) = vote_stands voters_of me s from granted
 own_stands voters_of me s from (Append prev commit es) = append_stands me s from prev commit es
 own_stands voters_of me s from (Ack good index) = ack_stands me s from good index
 own_stands voters_of me s from (Install last front) = install_stands me s from last front
-own_stands voters_of me s from TimeoutNow = election_stands voters_of me s
+own_stands voters_of me s from TimeoutNow = election_stands true voters_of me s
 
 older_stands : (me : ℕ) (s : Node) (from : ℕ) (w : What) → Stands s.log (on_older_term me s from w)
-older_stands me s from (AskVote last) c = refl
+older_stands me s from (AskVote last transfer) c = refl
 older_stands me s from (Vote granted) c = refl
 older_stands me s from (Append prev commit es) c = refl
 older_stands me s from (Ack good index) c = refl
@@ -149,15 +152,16 @@ leads_not_stands Candidate l c = absurd cc
 leads_not_stands Follower l c = absurd cc
 
 rule_stands : (voters_of : List Entry → List ℕ) (me : ℕ) (s : Node) (i : Input) → Stands s.log (rule_of voters_of me s i)
-unfolding on_beat on_propose on_transfer on_snapped on_servers on_message
-rule_stands voters_of me s (Local Timeout) = election_stands voters_of me s
+unfolding on_beat on_yield on_propose on_transfer on_snapped on_servers on_message
+rule_stands voters_of me s (Local Timeout) = election_stands false voters_of me s
 rule_stands voters_of me s (Local Beat) = cond_both (is_leader s.role) _ _ (Stands s.log) (λ e c. refl) (λ e c. refl)
+rule_stands voters_of me s (Local Yield) = cond_both (is_leader s.role && nat_lt s.term 4294967295) _ _ (Stands s.log) (λ e c. refl) (λ e c. refl)
 rule_stands voters_of me s (Local (Propose es)) = cond_both (is_leader s.role) _ _ (Stands s.log) (λ e c. absurd (leads_not_stands s.role e c)) (λ e c. refl)
 rule_stands voters_of me s (Local (Transfer to)) = cond_both (is_leader s.role && not (to == me)) _ _ (Stands s.log) (λ e c. refl) (λ e c. refl)
 rule_stands voters_of me s (Local (Snapped i)) = cond_both (nat_lt s.snapshot.index i && nat_le i s.commit) _ _ (Stands s.log) (λ e c. refl) (λ e c. refl)
 rule_stands voters_of me s (Local (UseServers servers)) = cond_both (is_leader s.role) _ _ (Stands s.log) (λ e c. refl) (λ e c. refl)
 rule_stands voters_of me s (Receive m) =
-    cond_both (in_range m) _ _ (Stands s.log)
+    cond_both (in_range s.term m) _ _ (Stands s.log)
     (λ e. cond_both (nat_lt m.term s.term) _ _ (Stands s.log) (λ x. older_stands me s m.from m.what)
     (λ x. cond_both (nat_lt s.term m.term) _ _ (Stands s.log) (λ y. own_stands voters_of me (in_newer_term s m.term) m.from m.what) (λ y. own_stands voters_of me s m.from m.what)))
     (λ e c. refl)
@@ -174,6 +178,7 @@ step_stands : (voters_of : List Entry → List ℕ) (me : ℕ) (s : Node) (i : I
 unfolding raft_step
 step_stands voters_of me s (Local Timeout) = finish_stands voters_of me s.log _ (rule_stands voters_of me s (Local Timeout))
 step_stands voters_of me s (Local Beat) = finish_stands voters_of me s.log _ (rule_stands voters_of me s (Local Beat))
+step_stands voters_of me s (Local Yield) = finish_stands voters_of me s.log _ (rule_stands voters_of me s (Local Yield))
 step_stands voters_of me s (Local (Propose es)) = finish_stands voters_of me s.log _ (rule_stands voters_of me s (Local (Propose es)))
 step_stands voters_of me s (Local (Transfer to)) = finish_stands voters_of me s.log _ (rule_stands voters_of me s (Local (Transfer to)))
 step_stands voters_of me s (Local (Snapped i)) = finish_stands voters_of me s.log _ (rule_stands voters_of me s (Local (Snapped i)))

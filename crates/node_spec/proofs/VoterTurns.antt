@@ -19,7 +19,7 @@ use Rattle.raft_safety.proofs.Alikes.{same_at, same_drop}
 use Rattle.raft_membership.specs.Members.{Configurations, last_servers, configuration_in, read_setup, IsOf}
 use Rattle.database_state.specs.Files.{Content}
 use Rattle.database_state.specs.Snapshot.{snapshot_text}
-use Rattle.applied_state.specs.Snapshot.{NodeSnapshot, SpellsSnapshot, made_in}
+use Rattle.applied_state.specs.Snapshot.{NodeSnapshot, SpellsSnapshot, snapshot_body, made_in}
 use Rattle.node_spec.specs.Nodes as rules
 use Rattle.node_spec.specs.Steps.{TakesIn, Counts}
 use Rattle.node_spec.specs.Voting.{taking, MayTell, IsPlain, TellsLast, with_same, with_own, with_told, MayChange, FromSnapshot, RestTells, FollowTells, ChangeTells, InstallTells, CompactTells, PlainStops, ChangeStops, StartCounts}
@@ -291,8 +291,8 @@ empty_configuration opening = refl
 -- bytes are the snapshot of one configuration alone
 one_configuration : (x y : NodeSnapshot) (bytes : List ℕ) → SpellsSnapshot x bytes → SpellsSnapshot y bytes → x.servers ≡ y.servers
 one_configuration x y bytes p q =
-    let one = configuration_reads bytes x.servers (servers_bytes x.servers) (snapshot_text x.contents) p.servers p.parts in
-    let two = configuration_reads bytes y.servers (servers_bytes y.servers) (snapshot_text y.contents) q.servers q.parts in
+    let one = configuration_reads (snapshot_body bytes) x.servers (servers_bytes x.servers) (snapshot_text x.contents) p.servers p.parts in
+    let two = configuration_reads (snapshot_body bytes) y.servers (servers_bytes y.servers) (snapshot_text y.contents) q.servers q.parts in
     ap read_servers (sym one ∙ two)
 
 -- the configurations of a whole log of whose front the snapshot is

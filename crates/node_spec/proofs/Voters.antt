@@ -3,7 +3,7 @@ use Rattle.std.specs.Prelude.{cond, ◌&&◌}
 use Rattle.std.proofs.lemmas.List.{take_all}
 use Rattle.std.proofs.Common.{◌≡◌, ℕ, suc, Bool, true, false, ◌≤◌, List, [], ◌∷◌, ◌++◌, length, take, drop, arith, append_assoc, refl, sym, ap, ◌∙◌, subst}
 use Rattle.raft_spec.specs.Log.{Entry}
-use Rattle.raft_spec.specs.Node.{voters, Server, LocalEvent, Timeout, Beat, Propose, Transfer, Snapped, UseServers, Input, Local, Receive, Node, Outcome}
+use Rattle.raft_spec.specs.Node.{voters, Server, LocalEvent, Timeout, Beat, Yield, Propose, Transfer, Snapped, UseServers, Input, Local, Receive, Node, Outcome}
 use Rattle.raft_spec.specs.Account.{steps}
 use Rattle.raft_safety.specs.Members.{Setup, is_change, configuration_from, configuration, fixed, voters_after, member_step}
 use Rattle.raft_safety.specs.Cuts.{AlikeInputs, SameVoters}
@@ -25,6 +25,7 @@ same_voters ids (Local local ∷ is) js a v =
     by_local (UseServers servers) is js f w = (w.0, f w.1)
     by_local Timeout is js f w = f w
     by_local Beat is js f w = f w
+    by_local Yield is js f w = f w
     by_local (Propose es) is js f w = f w
     by_local (Transfer to) is js f w = f w
     by_local (Snapped i) is js f w = f w

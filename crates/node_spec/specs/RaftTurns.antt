@@ -11,7 +11,7 @@ use Rattle.session_spec.specs.Seen.{log_seen}
 use Rattle.session_spec.specs.Sessions.{Reply, Session, Gateway, no_sessions}
 use Rattle.session_safety.specs.Nodes.{Node as Life}
 use Rattle.raft_spec.specs.Log.{Entry}
-use Rattle.raft_spec.specs.Node.{Node, Server, Message, is_leader, Timeout, Beat, Propose, Transfer, Snapped, UseServers, Input, Local, Receive}
+use Rattle.raft_spec.specs.Node.{Node, Server, Message, is_leader, Timeout, Beat, Yield, Propose, Transfer, Snapped, UseServers, Input, Local, Receive}
 use Rattle.raft_spec.specs.NodeValues.{IsCoherent, node_of}
 use Rattle.raft_spec.specs.Compaction.{compacted_step}
 use Rattle.raft_safety.specs.Members.{Setup, configuration_from, configuration}
@@ -73,6 +73,7 @@ LeavesLog (Local Beat) = Unit {0}
 LeavesLog (Local (Transfer to)) = Unit {0}
 LeavesLog (Local (UseServers servers)) = Unit {0}
 LeavesLog (Local Timeout) = ⊥
+LeavesLog (Local Yield) = ⊥
 LeavesLog (Local (Propose es)) = ⊥
 LeavesLog (Local (Snapped index)) = ⊥
 LeavesLog (Receive m) = ⊥
@@ -121,6 +122,7 @@ pub data LeadershipFollows (a b : Moment) (replies : List (ℕ × Reply)) : Type
 abbrev pub IsNoProposal : Input → Type 0
 IsNoProposal (Local Timeout) = Unit {0}
 IsNoProposal (Local Beat) = Unit {0}
+IsNoProposal (Local Yield) = Unit {0}
 IsNoProposal (Local (Propose es)) = ⊥
 IsNoProposal (Local (Transfer to)) = Unit {0}
 IsNoProposal (Local (Snapped index)) = Unit {0}
@@ -246,6 +248,7 @@ abbrev pub IsFirst : Moment → Input → Type 0
 IsFirst a (Local (Propose es)) = (rest : List (List Entry)) × (a.due ≡ es ∷ rest)
 IsFirst a (Local Timeout) = Unit {0}
 IsFirst a (Local Beat) = Unit {0}
+IsFirst a (Local Yield) = Unit {0}
 IsFirst a (Local (Transfer to)) = Unit {0}
 IsFirst a (Local (Snapped index)) = Unit {0}
 IsFirst a (Local (UseServers servers)) = Unit {0}

@@ -33,7 +33,7 @@ pub record Letter : Type 0 where
 -- the bytes of a snapshot are those of the front that it stands for
 abbrev pub FrontIs : Setup → List ℕ → raft.What → Type 0
 FrontIs setup bytes (raft.Install last front) = 0 < last.index → SnapshotOf setup front bytes
-FrontIs setup bytes (raft.AskVote last) = Unit {0}
+FrontIs setup bytes (raft.AskVote last transfer) = Unit {0}
 FrontIs setup bytes (raft.Vote granted) = Unit {0}
 FrontIs setup bytes (raft.Append prev commit entries) = Unit {0}
 FrontIs setup bytes (raft.Ack good index) = Unit {0}
@@ -58,7 +58,7 @@ BytesAre setup bytes (raft.Receive m ∷ is) = FrontIs setup bytes m.what × Byt
 -- a snapshot that comes and is kept stands for the front of the log behind the step
 abbrev pub HasFront : raft.Node → raft.What → Type 0
 HasFront s (raft.Install last front) = s.snapshot ≡ last → take last.index s.log ≡ front
-HasFront s (raft.AskVote last) = Unit {0}
+HasFront s (raft.AskVote last transfer) = Unit {0}
 HasFront s (raft.Vote granted) = Unit {0}
 HasFront s (raft.Append prev commit entries) = Unit {0}
 HasFront s (raft.Ack good index) = Unit {0}
@@ -186,7 +186,7 @@ HasBytes k last bytes = (last.index ≡ k.snap.index) × (bytes ≡ k.snap.bytes
 -- a snapshot that is sent is the one that was kept before the event, or after it
 abbrev pub WhatSent : Kept → Kept → List ℕ → raft.What → Type 0
 WhatSent old new bytes (raft.Install last front) = HasBytes old last bytes ⊎ HasBytes new last bytes
-WhatSent old new bytes (raft.AskVote last) = Unit {0}
+WhatSent old new bytes (raft.AskVote last transfer) = Unit {0}
 WhatSent old new bytes (raft.Vote granted) = Unit {0}
 WhatSent old new bytes (raft.Append prev commit entries) = Unit {0}
 WhatSent old new bytes (raft.Ack good index) = Unit {0}

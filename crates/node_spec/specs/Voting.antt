@@ -4,7 +4,7 @@ use Rattle.std.specs.Prelude.{◌≡◌, ◌≢◌, ℕ, ◌<◌, ◌≤◌, tru
 use Rattle.database_state.specs.Files.{Content}
 use Rattle.raft_spec.specs.Log.{Entry, term_at}
 use Rattle.raft_spec.specs.Node as raft
-use Rattle.raft_spec.specs.Node.{Follower, Server, voters, is_leader, Timeout, Beat, Propose, Transfer, Snapped, UseServers, Local, Receive}
+use Rattle.raft_spec.specs.Node.{Follower, Server, voters, is_leader, Timeout, Beat, Yield, Propose, Transfer, Snapped, UseServers, Local, Receive}
 use Rattle.raft_spec.specs.NodeValues.{NodeValue, IsCoherent, node_of}
 use Rattle.raft_spec.specs.Account.{Stored, steps, loaded}
 use Rattle.raft_spec.specs.Compaction.{compacted_step}
@@ -59,6 +59,7 @@ TellsToStop =
 abbrev pub IsPlain : raft.Input → Type 0
 IsPlain (Local Timeout) = Unit {0}
 IsPlain (Local Beat) = Unit {0}
+IsPlain (Local Yield) = Unit {0}
 IsPlain (Local (Propose es)) = any_change (read_setup []) es ≡ false
 IsPlain (Local (Transfer to)) = Unit {0}
 IsPlain (Local (Snapped index)) = Unit {0}

@@ -95,7 +95,7 @@ install_replaces h mid now from last e new has at is =
 
 same_what : (v w : What) → AlikeWhat v w → compact_what v ≡ compact_what w
 same_what (Install last front) w a = sym (ap compact_what a.1)
-same_what (AskVote last) w a = sym (ap compact_what a)
+same_what (AskVote last transfer) w a = sym (ap compact_what a)
 same_what (Vote granted) w a = sym (ap compact_what a)
 same_what (Append prev commit es) w a = sym (ap compact_what a)
 same_what (Ack good index) w a = sym (ap compact_what a)

@@ -108,14 +108,14 @@ sends_entries h p next at needs =
 
 -- ---- the end
 
-asks_compact : (me term : ℕ) (last : LogEnd) (ids : List ℕ) → map compact_message (map (λ to. message_in me term to (AskVote last)) ids) ≡ map (λ to. message_in me term to (AskVote last)) ids
-asks_compact me term last [] = refl
-asks_compact me term last (x ∷ ids) = ap (λ l. message_in me term x (AskVote last) ∷ l) (asks_compact me term last ids)
+asks_compact : (me term : ℕ) (last : LogEnd) (transfer : Bool) (ids : List ℕ) → map compact_message (map (λ to. message_in me term to (AskVote last transfer)) ids) ≡ map (λ to. message_in me term to (AskVote last transfer)) ids
+asks_compact me term last transfer [] = refl
+asks_compact me term last transfer (x ∷ ids) = ap (λ l. message_in me term x (AskVote last transfer) ∷ l) (asks_compact me term last transfer ids)
 
 -- what a node says by itself holds no front of a log
 pub said_compact : (me term : ℕ) (ids : List ℕ) (s : Say) → map compact_message (said_in me term ids s) ≡ said_in me term ids s
 said_compact me term ids say.Nothing = refl
-said_compact me term ids (say.AskVotes last) = asks_compact me term last ids
+said_compact me term ids (say.AskVotes last transfer) = asks_compact me term last transfer ids
 said_compact me term ids (say.Vote to granted) = refl
 said_compact me term ids (say.Ack to good index) = refl
 said_compact me term ids (say.TimeoutNow to) = refl

@@ -4,8 +4,9 @@ use Rattle.std.specs.Prelude.{Bool, true, false, cond, not, ◌&&◌, ◌==◌, 
 use Rattle.std.proofs.lemmas.Bool.{cond-true, cond-false, eq-eqb, eqb-true, eqb-false}
 use Rattle.std.proofs.lemmas.List.{length-map}
 use Rattle.raft_spec.specs.Log.{Entry}
-use Rattle.raft_spec.specs.Node.{Node, Nobody, Everyone, Only, among, peers, is_leader}
+use Rattle.raft_spec.specs.Node.{Follower, Node, Nobody, Everyone, Only, among, peers, is_leader}
 use Rattle.raft_spec.specs.Outcomes.{sends_to, with_log, with_progress, updated, with_term}
+use Rattle.raft_spec.specs.Elections.{on_yield}
 use Rattle.raft_spec.specs.Replication.{on_ack, on_propose, on_beat, on_transfer}
 use Rattle.raft_spec.specs.Progress.{PeerProgress, next_in, match_in, ids_in, ProgressTable, progress_of, after_ack}
 use Rattle.raft_spec.specs.NodeValues.{NodeValue, node_of}
@@ -129,6 +130,16 @@ beat_sends h e = record { id = refl; servers = refl; outcome = cond-true (is_lea
 pub beat_ignored : (h : NodeValue) → is_leader h.role ≡ false → Does h (on_beat (node_of h)) h (only_says say.Nothing)
 unfolding on_beat
 beat_ignored h e = does_nothing h _ (cond-false (is_leader h.role) _ _ e)
+
+pub yields_leadership : (h now : NodeValue) → (is_leader h.role && nat_lt h.term 4294967295) ≡ true
+    → now ≡ record h { term = suc h.term; vote = 0; role = Follower; leader = 0; grants = [] } → Does h (on_yield (node_of h)) now (only_says say.Nothing)
+unfolding on_yield
+yields_leadership h now e is = subst (λ (m : NodeValue). Does h (on_yield (node_of h)) m (only_says say.Nothing)) (sym is)
+    (record { id = refl; servers = refl; outcome = cond-true (is_leader h.role && nat_lt h.term 4294967295) _ _ e; log = (refl, refl) })
+
+pub yield_ignored : (h : NodeValue) → (is_leader h.role && nat_lt h.term 4294967295) ≡ false → Does h (on_yield (node_of h)) h (only_says say.Nothing)
+unfolding on_yield
+yield_ignored h e = does_nothing h _ (cond-false (is_leader h.role && nat_lt h.term 4294967295) _ _ e)
 
 pub transfer_says : (h : NodeValue) (to : ℕ) → (is_leader h.role && not (to == h.id)) ≡ true → Does h (on_transfer h.id (node_of h) to) h (only_says (say.TimeoutNow to))
 unfolding on_transfer

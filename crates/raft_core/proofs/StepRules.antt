@@ -1,10 +1,10 @@
 -- A whole step, as the code's node makes it.
 use Rattle.std.proofs.Common.{◌≡◌, ◌⊎◌, inl, inr, ℕ, ◌<◌, ◌≤◌, List, [], ◌∷◌, length, refl, sym, ap, subst, ◌∙◌, ⊎_elim, arith}
-use Rattle.std.specs.Prelude.{Option, Some, None, option_map, map}
+use Rattle.std.specs.Prelude.{false, Option, Some, None, option_map, map}
 use Rattle.std.specs.List.{AllByRecursion}
 use Rattle.raft_spec.specs.Log.{LogEnd}
 use Rattle.raft_spec.specs.Node as rules
-use Rattle.raft_spec.specs.Elections.{start_election}
+use Rattle.raft_spec.specs.Elections.{on_yield, start_election}
 use Rattle.raft_spec.specs.Replication.{on_propose, on_beat, on_transfer}
 use Rattle.raft_spec.specs.Receiving.{on_message}
 use Rattle.raft_spec.specs.Steps.{raft_step, finish, serve}
@@ -14,7 +14,7 @@ use Rattle.raft_spec.specs.Laws.{BringsSnapshot}
 use Rattle.raft_spec.specs.Todo.{IsLogWrite}
 use Rattle.raft_spec.specs.NodeValues.{NodeValue, node_of}
 use Rattle.raft_spec.proofs.NodeValues.{compacted_length}
-use Rattle.raft_spec.proofs.SnapshotEnds.{message_snapshot, stands_snapshot, proposes_snapshot, beats_snapshot, hands_snapshot, ends_snapshot}
+use Rattle.raft_spec.proofs.SnapshotEnds.{message_snapshot, stands_snapshot, proposes_snapshot, beats_snapshot, yields_snapshot, hands_snapshot, ends_snapshot}
 use Rattle.raft_messages.specs.declared.message.Snapshot.{Snapshot}
 use Rattle.raft_messages.specs.declared.message.MessageBody.{MessageBody}
 use Rattle.raft_messages.specs.declared.message.MessageBody.TheVariants as whats
@@ -37,6 +37,7 @@ pub step_is : (h : NodeValue) (event : RaftEvent) → IsRuled event → compacte
 unfolding compacted_step raft_step
 step_is h events.Timeout r = refl
 step_is h events.Beat r = refl
+step_is h events.Yield r = refl
 step_is h (events.Message message) r = refl
 step_is h (events.Propose entries) r = refl
 step_is h (events.Transfer to) r = refl
@@ -72,7 +73,7 @@ stays h now d e y = sym (ends_snapshot (told h) h.id (outcome_of now e)) ∙ ap 
 -- a message brings the snapshot with this end
 brings : (w : MessageBody) (end : LogEnd) → BringsSnapshot (what_value w) end → option_map snapshot_end (brought w) ≡ Some end
 brings (whats.Install snapshot) end b = ap (λ l. Some l) (sym b)
-brings (whats.AskVote l) end b = absurd b
+brings (whats.AskVote l transfer) end b = absurd b
 brings (whats.Vote granted) end b = absurd b
 brings (whats.Append prev commit entries) end b = absurd b
 brings (whats.Ack good index) end b = absurd b
@@ -80,8 +81,9 @@ brings whats.TimeoutNow end b = absurd b
 
 -- so a snapshot stays, or is the one that an event brings
 snapshot_from : (h now : NodeValue) (event : RaftEvent) (e : Effects) → Ends h (rule_at h event) now e → IsRuled event → NoSnap event → (now.snapshot ≡ h.snapshot) ⊎ (option_map snapshot_end (offered event) ≡ Some now.snapshot)
-snapshot_from h now events.Timeout e y r n = inl (stays h now (start_election (told h) h.id (node_of h)) e y ∙ stands_snapshot (told h) h.id (node_of h))
+snapshot_from h now events.Timeout e y r n = inl (stays h now (start_election (told h) h.id (node_of h) false) e y ∙ stands_snapshot false (told h) h.id (node_of h))
 snapshot_from h now events.Beat e y r n = inl (stays h now (on_beat (node_of h)) e y ∙ beats_snapshot (node_of h))
+snapshot_from h now events.Yield e y r n = inl (stays h now (on_yield (node_of h)) e y ∙ yields_snapshot (node_of h))
 snapshot_from h now (events.Message m) e y r n =
     let d = on_message (told h) h.id (node_of h) (message_value m) in
     let same = stays h now d e y in
@@ -121,6 +123,7 @@ writes event h now new e came install batch r low x log c b i is = subst (λ (m 
     by : (event : RaftEvent) → IsRuled event → Ends h (rule_at h event) now e → ChangesAt event (node_of h) (node_of now) e.change → came ≡ offered event → WritesLog event (node_of h) (node_of (record now { commit = new.commit })) install batch
     by events.Timeout r x log c = writes_log h now events.Timeout e new.commit came install batch low x r tt log c b i
     by events.Beat r x log c = writes_log h now events.Beat e new.commit came install batch low x r tt log c b i
+    by events.Yield r x log c = writes_log h now events.Yield e new.commit came install batch low x r tt log c b i
     by (events.Message m) r x log c = writes_log h now (events.Message m) e new.commit came install batch low x r tt log c b i
     by (events.Propose es) r x log c = writes_log h now (events.Propose es) e new.commit came install batch low x r tt log c b i
     by (events.Transfer to) r x log c = writes_log h now (events.Transfer to) e new.commit came install batch low x r tt log c b i
@@ -145,7 +148,7 @@ offers event change came install c i = subst (IsOffered event) (sym i) (by chang
 -- the length of the front of an Install, and its end
 abbrev front_size : rules.What → ℕ
 front_size (rules.Install last front) = length front
-front_size (rules.AskVote last) = 0
+front_size (rules.AskVote last transfer) = 0
 front_size (rules.Vote granted) = 0
 front_size (rules.Append prev commit entries) = 0
 front_size (rules.Ack good index) = 0
@@ -153,7 +156,7 @@ front_size rules.TimeoutNow = 0
 
 abbrev end_size : rules.What → ℕ
 end_size (rules.Install last front) = last.index
-end_size (rules.AskVote last) = 0
+end_size (rules.AskVote last transfer) = 0
 end_size (rules.Vote granted) = 0
 end_size (rules.Append prev commit entries) = 0
 end_size (rules.Ack good index) = 0
@@ -162,7 +165,7 @@ end_size rules.TimeoutNow = 0
 -- the fronts that the code's node sends are as long as their ends say
 same_size : (w : rules.What) → front_size (compact_what w) ≡ end_size (compact_what w)
 same_size (rules.Install last front) = compacted_length last last.index
-same_size (rules.AskVote last) = refl
+same_size (rules.AskVote last transfer) = refl
 same_size (rules.Vote granted) = refl
 same_size (rules.Append prev commit entries) = refl
 same_size (rules.Ack good index) = refl
@@ -170,7 +173,7 @@ same_size rules.TimeoutNow = refl
 
 bare_what : (w : MessageBody) (v : rules.What) → sent_what w ≡ compact_what v → IsBareWhat w × (what_value w ≡ compact_what v)
 bare_what (whats.Install snapshot) v e = absurd (let a = ap front_size e in let b = ap end_size e in let c = same_size v in omega arith)
-bare_what (whats.AskVote last) v e = (tt, e)
+bare_what (whats.AskVote last transfer) v e = (tt, e)
 bare_what (whats.Vote granted) v e = (tt, e)
 bare_what (whats.Append prev commit entries) v e = (tt, e)
 bare_what (whats.Ack good index) v e = (tt, e)

@@ -82,22 +82,22 @@ own_once ids x = ap (λ b. cond (among ids x && not (b || false)) ((x ∷ []) ++
     none true = refl
     none false = refl
 
-pub does_stand : (h mid counted now : NodeValue) (last : LogEnd) (e : Effects) → may_start_election (told h) h.id (node_of h) ≡ true → mid ≡ standing h → last ≡ log_end (node_of mid).log → counted ≡ record mid { grants = grants_with (voters mid.servers) mid.grants mid.id } → Does counted (on_grants (told counted) counted.id (node_of counted) (said counted (say.AskVotes last))) now e → Does h (start_election (told h) h.id (node_of h)) now e
+pub does_stand : (h mid counted now : NodeValue) (last : LogEnd) (transfer : Bool) (e : Effects) → may_start_election (told h) h.id (node_of h) ≡ true → mid ≡ standing h → last ≡ log_end (node_of mid).log → counted ≡ record mid { grants = grants_with (voters mid.servers) mid.grants mid.id } → Does counted (on_grants (told counted) counted.id (node_of counted) (said counted (say.AskVotes last transfer))) now e → Does h (start_election (told h) h.id (node_of h) transfer) now e
 unfolding start_election
-does_stand h mid counted now last e may at end count d =
+does_stand h mid counted now last transfer e may at end count d =
     let whole : counted ≡ standing h = count ∙ ap (λ (m : NodeValue). record m { grants = grants_with (voters m.servers) m.grants m.id }) at ∙ ap (λ g. record (standing h) { grants = g }) (own_once (voters h.servers) h.id) in
-    let does : Does (standing h) (on_grants (told h) h.id (node_of (standing h)) (said (standing h) (say.AskVotes last))) now e = subst (λ (m : NodeValue). Does m (on_grants (told m) m.id (node_of m) (said m (say.AskVotes last))) now e) whole d in
+    let does : Does (standing h) (on_grants (told h) h.id (node_of (standing h)) (said (standing h) (say.AskVotes last transfer))) now e = subst (λ (m : NodeValue). Does m (on_grants (told m) m.id (node_of m) (said m (say.AskVotes last transfer))) now e) whole d in
     let its : last ≡ log_end (node_of h).log = end ∙ ap (λ (m : NodeValue). log_end (node_of m).log) at in
     record {
       id = does.id;
       servers = does.servers;
-      outcome = cond-true (may_start_election (told h) h.id (node_of h)) _ _ may ∙ ap (λ l. on_grants (told h) h.id (node_of (standing h)) (map (λ to. record { from = h.id; to = to; term = suc h.term; what = AskVote l }) (others (voters h.servers) h.id))) (sym its) ∙ does.outcome;
+      outcome = cond-true (may_start_election (told h) h.id (node_of h)) _ _ may ∙ ap (λ l. on_grants (told h) h.id (node_of (standing h)) (map (λ to. record { from = h.id; to = to; term = suc h.term; what = AskVote l transfer }) (others (voters h.servers) h.id))) (sym its) ∙ does.outcome;
       log = does.log;
     }
 
-pub does_not_stand : (h : NodeValue) → may_start_election (told h) h.id (node_of h) ≡ false → Does h (start_election (told h) h.id (node_of h)) h (only_says say.Nothing)
+pub does_not_stand : (h : NodeValue) (transfer : Bool) → may_start_election (told h) h.id (node_of h) ≡ false → Does h (start_election (told h) h.id (node_of h) transfer) h (only_says say.Nothing)
 unfolding start_election
-does_not_stand h may = does_nothing h _ (cond-false (may_start_election (told h) h.id (node_of h)) _ _ may)
+does_not_stand h transfer may = does_nothing h _ (cond-false (may_start_election (told h) h.id (node_of h)) _ _ may)
 
 -- ---- votes
 

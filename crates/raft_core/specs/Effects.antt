@@ -20,7 +20,7 @@ message_in me term to what = record { from = me; to = to; term = term; what = wh
 -- the messages that it says, where these are the other voters
 abbrev pub said_in : ℕ → ℕ → List ℕ → Say → List rules.Message
 said_in me term voters says.Nothing = []
-said_in me term voters (says.AskVotes last) = map (λ to. message_in me term to (rules.AskVote last)) voters
+said_in me term voters (says.AskVotes last transfer) = map (λ to. message_in me term to (rules.AskVote last transfer)) voters
 said_in me term voters (says.Vote to granted) = message_in me term to (rules.Vote granted) ∷ []
 said_in me term voters (says.Ack to good index) = message_in me term to (rules.Ack good index) ∷ []
 said_in me term voters (says.TimeoutNow to) = message_in me term to rules.TimeoutNow ∷ []

@@ -1,8 +1,8 @@
 -- Events, and what a step hands to the node's owner.
-use Rattle.std.specs.Prelude.{◌≡◌, ◌≢◌, ◌⊎◌, ℕ, Option, Some, None, option_map}
+use Rattle.std.specs.Prelude.{◌≡◌, ◌≢◌, ◌⊎◌, ℕ, false, Option, Some, None, option_map}
 use Rattle.raft_spec.specs.Node as rules
 use Rattle.raft_spec.specs.Outcomes.{quiet}
-use Rattle.raft_spec.specs.Elections.{start_election}
+use Rattle.raft_spec.specs.Elections.{start_election, on_yield}
 use Rattle.raft_spec.specs.Replication.{on_propose, on_beat, on_transfer}
 use Rattle.raft_spec.specs.Snapshots.{on_snapped}
 use Rattle.raft_spec.specs.Receiving.{on_message}
@@ -24,6 +24,7 @@ use Rattle.raft_core.specs.Nodes.{told}
 abbrev pub input_of : RaftEvent → rules.Input
 input_of events.Timeout = rules.Local rules.Timeout
 input_of events.Beat = rules.Local rules.Beat
+input_of events.Yield = rules.Local rules.Yield
 input_of (events.Message message) = rules.Receive (message_value message)
 input_of (events.Propose entries) = rules.Local (rules.Propose entries)
 input_of (events.Transfer to) = rules.Local (rules.Transfer to)
@@ -37,8 +38,9 @@ EventFits h event = Unit {0}
 
 -- the rule of an event, except for other servers
 abbrev pub rule_at : NodeValue → RaftEvent → rules.Outcome
-rule_at h events.Timeout = start_election (told h) h.id (node_of h)
+rule_at h events.Timeout = start_election (told h) h.id (node_of h) false
 rule_at h events.Beat = on_beat (node_of h)
+rule_at h events.Yield = on_yield (node_of h)
 rule_at h (events.Message message) = on_message (told h) h.id (node_of h) (message_value message)
 rule_at h (events.Propose entries) = on_propose (node_of h) entries
 rule_at h (events.Transfer to) = on_transfer h.id (node_of h) to
@@ -71,7 +73,7 @@ first_at (changes.Installed last) = None
 -- the snapshot that a message brings
 abbrev pub brought : MessageBody → Option Snapshot
 brought (whats.Install snapshot) = Some snapshot
-brought (whats.AskVote last) = None
+brought (whats.AskVote last transfer) = None
 brought (whats.Vote granted) = None
 brought (whats.Append prev commit entries) = None
 brought (whats.Ack good index) = None
@@ -82,6 +84,7 @@ abbrev pub offered : RaftEvent → Option Snapshot
 offered (events.Message message) = brought message.what
 offered events.Timeout = None
 offered events.Beat = None
+offered events.Yield = None
 offered (events.Propose entries) = None
 offered (events.Transfer to) = None
 offered (events.Snapped end) = None

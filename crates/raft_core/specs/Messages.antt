@@ -22,7 +22,7 @@ sendings_value me sends = map (sending_value me) sends
 -- what a message says isn't an Install
 abbrev pub IsBareWhat : MessageBody → Type 0
 IsBareWhat (whats.Install snapshot) = ⊥
-IsBareWhat (whats.AskVote last) = Unit {0}
+IsBareWhat (whats.AskVote last transfer) = Unit {0}
 IsBareWhat (whats.Vote granted) = Unit {0}
 IsBareWhat (whats.Append prev commit entries) = Unit {0}
 IsBareWhat (whats.Ack good index) = Unit {0}
@@ -38,7 +38,7 @@ IsBare (sendings.Install to term last) = Unit {0}
 -- what a message says, where an Install is marked by a front that is longer than its end
 abbrev pub sent_what : MessageBody → rules.What
 sent_what (whats.Install snapshot) = rules.Install (record { index = 0; term = 0 }) (barrier 0 ∷ [])
-sent_what (whats.AskVote last) = rules.AskVote last
+sent_what (whats.AskVote last transfer) = rules.AskVote last transfer
 sent_what (whats.Vote granted) = rules.Vote granted
 sent_what (whats.Append prev commit entries) = rules.Append prev commit entries
 sent_what (whats.Ack good index) = rules.Ack good index

@@ -7,8 +7,8 @@ use raft_messages::LogEnd;
 #[derive(Clone, Copy)]
 pub enum Say {
     Nothing,
-    /// It asks every other voter for its vote, with the end of its log.
-    AskVotes { last: LogEnd },
+    /// It asks every other voter for its vote, with the end of its log, and whether a leader handed its leadership to it.
+    AskVotes { last: LogEnd, transfer: bool },
     Vote { to: u64, granted: bool },
     Ack { to: u64, good: bool, index: u64 },
     TimeoutNow { to: u64 },

@@ -1,7 +1,7 @@
 //! Elections: standing, granting votes, and winning.
-ghost use Rattle.std.specs.Prelude.{◌≡◌, suc, IfOk, [], ◌∷◌, length};
-ghost use Rattle.raft_spec.specs.Elections.{may_start_election, start_election, on_grants, on_ask_vote, on_vote};
-ghost use Rattle.raft_spec.specs.Node.{among, majority, voters};
+ghost use Rattle.std.specs.Prelude.{◌≡◌, ◌&&◌, nat_lt, suc, IfOk, [], ◌∷◌, length};
+ghost use Rattle.raft_spec.specs.Elections.{may_start_election, start_election, on_yield, on_grants, on_ask_vote, on_vote};
+ghost use Rattle.raft_spec.specs.Node.{among, is_leader, majority, voters};
 ghost use Rattle.raft_spec.specs.NodeValues.{node_of};
 ghost use Rattle.raft_spec.specs.Outcomes.{barrier};
 ghost use Rattle.raft_core.specs.Effects.{said, Does};
@@ -63,9 +63,13 @@ impl RaftNode {
         })
     }
 
-    /// A timeout: who may stand does, and asks every other voter.
-    pub(crate) fn start_election(&mut self, alloc: Global) -> Result<Effects, AllocError>
-        ensures { IfOk result (λ effects. Does self.old (start_election (told self.old) self.old.id (node_of self.old)) self.new effects) }
+    /// A timeout, or a leader's `transfer` of its leadership: who may stand does, and asks every other voter.
+    pub(crate) fn start_election(
+        &mut self,
+        alloc: Global,
+        transfer: bool,
+    ) -> Result<Effects, AllocError>
+        ensures { IfOk result (λ effects. Does self.old (start_election (told self.old) self.old.id (node_of self.old) transfer) self.new effects) }
     {
         if !self.may_stand() {
             return Ok(Effects::says(Say::Nothing));
@@ -74,7 +78,27 @@ impl RaftNode {
         let last = self.end();
         let own = self.id();
         let won = self.count(own);
-        self.after_count(alloc, won, Say::AskVotes { last })
+        self.after_count(alloc, won, Say::AskVotes { last, transfer })
+    }
+
+    // Whether the node leads, below the last term.
+    fn may_yield(&self) -> bool
+        ensures { result ≡ (is_leader self.now.role && nat_lt self.now.term 4294967295) }
+    {
+        self.leads() && self.term() < MAX_TERM
+    }
+
+    /// A leader gives up its leadership: it takes the next term, as if it had heard of it. At the last term, and at other nodes, nothing
+    /// happens.
+    pub(crate) fn give_up(&mut self) -> Effects
+        ensures { Does self.old (on_yield (node_of self.old)) self.new result }
+    {
+        if self.may_yield() {
+            let next = self.term() + 1;
+            self.take_term(next);
+            return Effects::says(Say::Nothing);
+        }
+        Effects::says(Say::Nothing)
     }
 
     /// A node asks for the vote in the own term.

@@ -5,12 +5,14 @@ use crate::sending::OutgoingList;
 use raft_messages::{Entries, LogEnd, RaftMessage, Servers, Snapshot};
 
 /// What a node takes in, one at a time.
-#[derive(Debug, Drop)]
+#[derive(Drop)]
 pub enum RaftEvent {
     /// It heard of no leader for too long.
     Timeout,
     /// It is time for a leader's heartbeat.
     Beat,
+    /// A leader is to give up its leadership: it becomes a follower of the next term. At other nodes nothing happens.
+    Yield,
     /// A message came.
     Message(RaftMessage),
     /// A leader is to append entries of this kind and these bytes, in its own term. At other nodes nothing happens.
@@ -24,7 +26,7 @@ pub enum RaftEvent {
 }
 
 /// What a node's owner has kept, and starts the node with.
-#[derive(Debug, Drop)]
+#[derive(Drop)]
 pub struct StoredRaft {
     /// The term.
     pub term: u64,

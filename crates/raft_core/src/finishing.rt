@@ -60,23 +60,34 @@ impl RaftNode {
 
     // Asks a voter for its vote, if it is another one.
     #[tactic(auto, unfolding(raft_spec::specs::Node::others))]
-    fn ask_voter(&self, out: &mut Vec<Outgoing>, voter: u64, last: LogEnd) -> Result<(), AllocError>
-        ensures { IfOk result (λ done. sents_value self.now.id out.new.items ≡ sents_value self.now.id out.old.items ++ map (λ to. message_in self.now.id self.now.term to (rules.AskVote last)) (others (voter ∷ []) self.now.id)) }
+    fn ask_voter(
+        &self,
+        out: &mut Vec<Outgoing>,
+        voter: u64,
+        last: LogEnd,
+        transfer: bool,
+    ) -> Result<(), AllocError>
+        ensures { IfOk result (λ done. sents_value self.now.id out.new.items ≡ sents_value self.now.id out.old.items ++ map (λ to. message_in self.now.id self.now.term to (rules.AskVote last transfer)) (others (voter ∷ []) self.now.id)) }
     {
         if voter == self.id() {
             return Ok(());
         }
-        out.push(self.message(voter, MessageBody::AskVote { last }))?;
+        out.push(self.message(voter, MessageBody::AskVote { last, transfer }))?;
         Ok(())
     }
 
     // Asks every other voter for its vote.
-    fn ask_voters(&self, out: &mut Vec<Outgoing>, last: LogEnd) -> Result<(), AllocError>
-        ensures { IfOk result (λ done. sents_value self.now.id out.new.items ≡ sents_value self.now.id out.old.items ++ map (λ to. message_in self.now.id self.now.term to (rules.AskVote last)) (others (voters self.now.servers) self.now.id)) }
+    fn ask_voters(
+        &self,
+        out: &mut Vec<Outgoing>,
+        last: LogEnd,
+        transfer: bool,
+    ) -> Result<(), AllocError>
+        ensures { IfOk result (λ done. sents_value self.now.id out.new.items ≡ sents_value self.now.id out.old.items ++ map (λ to. message_in self.now.id self.now.term to (rules.AskVote last transfer)) (others (voters self.now.servers) self.now.id)) }
     {
         let voters = self.voters();
         for voter in voters {
-            self.ask_voter(out, *voter, last)?;
+            self.ask_voter(out, *voter, last, transfer)?;
         }
         Ok(())
     }
@@ -88,7 +99,7 @@ impl RaftNode {
         let mut out = Vec::new(alloc);
         match say {
             Say::Nothing => {}
-            Say::AskVotes { last } => self.ask_voters(&mut out, last)?,
+            Say::AskVotes { last, transfer } => self.ask_voters(&mut out, last, transfer)?,
             Say::Vote { to, granted } => out.push(self.message(to, MessageBody::Vote { granted }))?,
             Say::Ack { to, good, index } => out.push(self.message(
                 to,

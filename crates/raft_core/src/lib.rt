@@ -20,5 +20,6 @@ mod step;
 
 pub use event::{RaftEvent, RaftView, StoredRaft, Todo};
 pub use node::RaftNode;
+pub use receiving::is_near;
 pub use role::RaftRole;
 pub use sending::{Outgoing, OutgoingList};

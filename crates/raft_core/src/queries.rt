@@ -4,7 +4,7 @@ ghost use Rattle.raft_spec.specs.Log.{log_end};
 ghost use Rattle.raft_spec.specs.Node.{is_leader};
 ghost use Rattle.raft_spec.specs.NodeValues.{node_of};
 ghost use Rattle.raft_spec.specs.Progress.{match_in};
-ghost use Rattle.raft_core.specs.Queries.{forgets_at, known_at, leader_at};
+ghost use Rattle.raft_core.specs.Queries.{forgets_at, known_at, leader_at, matched_at};
 ghost use Rattle.raft_core.specs.Roles.{role_value};
 ghost use Rattle.raft_log.specs.Compacting.{is_due};
 
@@ -64,6 +64,28 @@ impl RaftNode {
     {
         let first = self.log.first();
         first.index
+    }
+
+    /// The index up to which the last snapshot goes; 0 without a snapshot. Constant cost.
+    pub fn snapshot_index(&self) -> u64
+        ensures { result ≡ self.now.snapshot.index }
+    {
+        let last = self.snapshot();
+        last.index
+    }
+
+    /// Up to which index a server's log is known to agree with the one of this node, if this node leads. Its own log agrees
+    /// whole; a server to which it sends no entries has 0. Constant cost.
+    pub fn matched(&self, server: u64) -> Option<u64>
+        ensures { result ≡ matched_at self.now server }
+    {
+        if !self.leads() {
+            return None;
+        }
+        if server == self.id() {
+            return Some(self.last_index());
+        }
+        Some(self.match_of(server))
     }
 
     /// The first index of the log that stays, where its owner keeps a snapshot at an index past the last one's: 16 entries up

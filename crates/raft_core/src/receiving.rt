@@ -1,5 +1,5 @@
 //! What a node does with a message, by its term.
-ghost use Rattle.std.specs.Prelude.{◌≡◌, nat_lt, cond, true, IfOk, []};
+ghost use Rattle.std.specs.Prelude.{◌≡◌, ◌-◌, nat_le, nat_lt, cond, true, IfOk, []};
 ghost use Rattle.raft_spec.specs.Node.{Follower};
 ghost use Rattle.raft_spec.specs.NodeValues.{node_of};
 ghost use Rattle.raft_spec.specs.Receiving.{in_range, what_in_range, on_older_term, on_own_term, on_message};
@@ -13,10 +13,25 @@ use crate::node::RaftNode;
 use raft_messages::{LogEnd, MessageBody, RaftMessage};
 use std::alloc::{AllocError, Global};
 
-// Whether a node looks at a message: it has a term and a sender, and its numbers are in range.
-fn is_in_range(message: &RaftMessage) -> bool
-    ensures { result ≡ in_range (message_value message.now) }
+/// The most by which a message's term may be above the receiver's. A message of a term further above counts as lost: one faulty
+/// message must not raise the terms of a cluster towards the last one.
+const MAX_TERM_JUMP: u64 = 1_000_000;
+
+/// Whether a message of this term isn't too far above a node of the term `own` to be taken.
+pub fn is_near(own: u64, term: u64) -> bool
+    ensures { result ≡ nat_le (term - own) 1000000 }
 {
+    term.saturating_sub(own) <= MAX_TERM_JUMP
+}
+
+// Whether a node of the term `own` looks at a message: its term isn't too far above, it has a term and a sender, and its numbers
+// are in range.
+fn is_in_range(own: u64, message: &RaftMessage) -> bool
+    ensures { result ≡ in_range own (message_value message.now) }
+{
+    if !is_near(own, message.term) {
+        return false;
+    }
     if message.term == 0 {
         return false;
     }
@@ -67,7 +82,7 @@ impl RaftNode {
         ensures log { IfOk result (λ effects. ChangesLog (node_of self.old) (node_of self.new) effects.change) }
     {
         match what {
-            MessageBody::AskVote { last } => Ok(self.on_ask_vote(from, last)),
+            MessageBody::AskVote { last, .. } => Ok(self.on_ask_vote(from, last)),
             MessageBody::Vote { granted } => self.on_vote(alloc, from, granted),
             MessageBody::Append {
                 prev,
@@ -83,7 +98,7 @@ impl RaftNode {
                     term: snapshot.term,
                 },
             )),
-            MessageBody::TimeoutNow => self.start_election(alloc),
+            MessageBody::TimeoutNow => self.start_election(alloc, true),
         }
     }
 
@@ -96,10 +111,11 @@ impl RaftNode {
         ensures outcome { IfOk result (λ effects. Ends self.old (on_message (told self.old) self.old.id (node_of self.old) (message_value message)) self.new effects) }
         ensures log { IfOk result (λ effects. ChangesLog (node_of self.old) (node_of self.new) effects.change) }
     {
-        if !is_in_range(&message) {
+        let own = self.term();
+        if !is_in_range(own, &message) {
             return Ok(Effects::says(Say::Nothing));
         }
-        if message.term < self.term() {
+        if message.term < own {
             return Ok(self.on_older_term(message.from, &message.what));
         }
         self.hear_term(message.term);

@@ -3,7 +3,7 @@ use dq_base::Items;
 use raft_messages::{LogEnd, RaftMessage};
 
 /// One thing that a node sends to another.
-#[derive(Debug, Drop)]
+#[derive(Drop)]
 pub enum Outgoing {
     /// A message.
     Message(RaftMessage),

@@ -26,6 +26,7 @@ fn told_servers(event: &RaftEvent) -> Option<&Servers>
         RaftEvent::Servers(servers) => Some(servers),
         RaftEvent::Timeout
         | RaftEvent::Beat
+        | RaftEvent::Yield
         | RaftEvent::Message(_)
         | RaftEvent::Propose(_)
         | RaftEvent::Transfer(_)
@@ -55,6 +56,7 @@ fn offered(event: &RaftEvent) -> Result<Option<Snapshot>, AllocError>
         RaftEvent::Message(message) => brought(&message.what),
         RaftEvent::Timeout
         | RaftEvent::Beat
+        | RaftEvent::Yield
         | RaftEvent::Propose(_)
         | RaftEvent::Transfer(_)
         | RaftEvent::Snapped { .. }
@@ -70,8 +72,9 @@ impl RaftNode {
         ensures log { IfOk result (λ effects. ChangesAt event (node_of self.old) (node_of self.new) effects.change) }
     {
         match event {
-            RaftEvent::Timeout => self.start_election(alloc),
+            RaftEvent::Timeout => self.start_election(alloc, false),
             RaftEvent::Beat => Ok(self.heartbeat()),
+            RaftEvent::Yield => Ok(self.give_up()),
             RaftEvent::Message(message) => self.on_message(alloc, message),
             RaftEvent::Propose(entries) => self.propose(entries),
             RaftEvent::Transfer(to) => Ok(self.transfer(to)),

@@ -1,5 +1,5 @@
 -- The table of messages: the type of each and the fields of its body; which numbers a message may carry; the rules' message.
-use Rattle.std.specs.Prelude.{◌≡◌, ℕ, ◌<◌, ◌^◌, Bool, true, false, ◌&&◌, List, [], ◌∷◌, ◌++◌, length}
+use Rattle.std.specs.Prelude.{◌≡◌, ℕ, ◌+◌, ◌<◌, ◌≤◌, ◌^◌, Bool, true, false, cond, nat_le, ◌&&◌, List, [], ◌∷◌, ◌++◌, length}
 use Rattle.raft_spec.specs.Log.{Entry, LogEnd}
 use Rattle.raft_spec.specs.Node as rules
 use Rattle.raft_spec.specs.Receiving.{fits_the_wire, what_in_range}
@@ -21,7 +21,7 @@ snapshot_end s = record { index = s.index; term = s.term }
 
 -- what the message says in the rules: a snapshot stands for a front of a log, of which its end alone is known
 abbrev pub what_value : MessageBody → rules.What
-what_value (AskVote last) = rules.AskVote last
+what_value (AskVote last transfer) = rules.AskVote last transfer
 what_value (Vote granted) = rules.Vote granted
 what_value (Append prev commit entries) = rules.Append prev commit entries
 what_value (Ack good index) = rules.Ack good index
@@ -50,7 +50,7 @@ flag false = 0
 
 -- the number of a message's type
 abbrev pub what_number : MessageBody → ℕ
-what_number (AskVote last) = 1
+what_number (AskVote last transfer) = 1
 what_number (Vote granted) = 2
 what_number (Append prev commit entries) = 3
 what_number (Ack good index) = 4
@@ -59,7 +59,7 @@ what_number TimeoutNow = 6
 
 -- what follows the sender and the term
 abbrev pub what_fields : MessageBody → List Field
-what_fields (AskVote last) = Word last.index ∷ Word last.term ∷ []
+what_fields (AskVote last transfer) = Word last.index ∷ Word last.term ∷ []
 what_fields (Vote granted) = Word (flag granted) ∷ []
 what_fields (Append prev commit entries) = Word prev.index ∷ Word prev.term ∷ Word commit ∷ Entries entries ∷ []
 what_fields (Ack good index) = Word (flag good) ∷ Word index ∷ []
@@ -95,20 +95,36 @@ AllHold (field ∷ fields) = Holds field × AllHold fields
 abbrev pub body_bytes : RaftMessage → List ℕ
 body_bytes m = fields_bytes (message_fields m)
 
+-- the mark of an AskVote of a node to which a leader handed its leadership
+abbrev pub what_mark : MessageBody → ℕ
+what_mark (AskVote last true) = 128
+what_mark (AskVote last false) = 0
+what_mark (Vote granted) = 0
+what_mark (Append prev commit entries) = 0
+what_mark (Ack good index) = 0
+what_mark (Install snapshot) = 0
+what_mark TimeoutNow = 0
+
+-- the schema byte: the receiver's id with the mark; 0 for an id above 127, whose messages no node reads
+abbrev pub message_schema : RaftMessage → ℕ
+message_schema m = cond (nat_le m.to 127) (m.to + what_mark m.what) 0
+
 -- the one spelling of a message
 abbrev pub message_bytes : RaftMessage → List ℕ
-message_bytes m = message (what_number m.what) 0 (body_bytes m)
+message_bytes m = message (what_number m.what) (message_schema m) (body_bytes m)
 
--- The message of the wire stands for this one: its type, the schema 0 and the fields, and no number is out of range.
+-- The message of the wire is this one: its type, the receiver with the mark and the fields, and no number is out of range.
 pub record Reads (m : Message) (peer : RaftMessage) : Type 0 where
   pub kind : m.kind ≡ what_number peer.what
-  pub schema : m.schema ≡ 0
+  pub schema : m.schema ≡ peer.to + what_mark peer.what
+  pub receiver : peer.to ≤ 127
   pub holds : AllHold (message_fields peer)
   pub body : m.body ≡ body_bytes peer
   pub in_range : numbers_fit peer ≡ true
 
 -- The bytes spell the message: it is spelled so, and no number is out of range.
 pub record Writes (peer : RaftMessage) (bytes : List ℕ) : Type 0 where
+  pub receiver : peer.to ≤ 127
   pub holds : AllHold (message_fields peer)
   pub whole : IsBody (body_bytes peer)
   pub parts : bytes ≡ message_bytes peer

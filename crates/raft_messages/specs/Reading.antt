@@ -1,5 +1,5 @@
--- Reading a message, with the first fault that is met: its type and schema, its items from left to right, the range of its numbers, its end.
-use Rattle.std.specs.Prelude.{◌≡◌, ℕ, ◌==◌, nat_le, Bool, true, ◌&&◌, if◌then◌else◌, List, length, Option, Some, None, Result, Ok, Err, MatchResult}
+-- Reading a message, with the first fault that is met: its type and receiver, its items from left to right, the range of its numbers, its end.
+use Rattle.std.specs.Prelude.{◌≡◌, ℕ, ◌+◌, ◌==◌, nat_le, Bool, true, false, ◌&&◌, if◌then◌else◌, List, length, Option, Some, None, Result, Ok, Err, MatchResult}
 use Rattle.raft_spec.specs.Log.{Entry, LogEnd}
 use Rattle.wire_words.specs.declared.fault.WordFault.{WordFault}
 use Rattle.wire_words.specs.declared.fault.WordFault.TheVariants as word_faults
@@ -47,10 +47,10 @@ entries_at left = do
   heads ← heads_at count.0 count.1
   contents_at heads.0 heads.1
 
-unfoldable pub ask_vote_at : Unread → Result (UncheckedBody × Unread) WordFault
-ask_vote_at left = do
+unfoldable pub ask_vote_at : Bool → Unread → Result (UncheckedBody × Unread) WordFault
+ask_vote_at transfer left = do
   last ← log_end_at left
-  Ok (record { what = AskVote last.0; flag_fits = true }, last.1)
+  Ok (record { what = AskVote last.0 transfer; flag_fits = true }, last.1)
 
 unfoldable pub vote_at : Unread → Result (UncheckedBody × Unread) WordFault
 vote_at left = do
@@ -76,21 +76,21 @@ install_at left = do
   bytes ← blob_at Exact last.1
   Ok (record { what = Install (record { index = last.0.index; term = last.0.term; bytes = bytes.0 }); flag_fits = true }, bytes.1)
 
--- what a message of this type says
-abbrev pub said_at : MessageKind → Unread → Result (UncheckedBody × Unread) WordFault
-said_at kinds.AskVote left = ask_vote_at left
-said_at kinds.Vote left = vote_at left
-said_at kinds.Append left = append_at left
-said_at kinds.Ack left = ack_at left
-said_at kinds.Install left = install_at left
-said_at kinds.TimeoutNow left = Ok (record { what = TimeoutNow; flag_fits = true }, left)
+-- what a message of this type says, with the mark or without
+abbrev pub said_at : MessageKind → Bool → Unread → Result (UncheckedBody × Unread) WordFault
+said_at kinds.AskVote mark left = ask_vote_at mark left
+said_at kinds.Vote mark left = vote_at left
+said_at kinds.Append mark left = append_at left
+said_at kinds.Ack mark left = ack_at left
+said_at kinds.Install mark left = install_at left
+said_at kinds.TimeoutNow mark left = Ok (record { what = TimeoutNow; flag_fits = true }, left)
 
 -- the message to this node, of a type: the sender, the term, what it says, and whether a flag in it is 0 or 1
-unfoldable pub items_at : ℕ → MessageKind → Unread → Result ((RaftMessage × Bool) × Unread) WordFault
-items_at to kind left = do
+unfoldable pub items_at : ℕ → MessageKind → Bool → Unread → Result ((RaftMessage × Bool) × Unread) WordFault
+items_at to kind mark left = do
   from ← word_at left
   term ← word_at from.1
-  said ← said_at kind term.1
+  said ← said_at kind mark term.1
   Ok ((record { from = from.0; to = to; term = term.0; what = said.0.what }, said.0.flag_fits), said.1)
 
 -- ---- the whole
@@ -101,11 +101,28 @@ ended x =
     if x.0.1 && numbers_fit x.0.0 then (if length x.1.bytes == 0 then Ok x.0.0 else Err Tail)
     else Err Range
 
+-- a message of this type may have the mark
+abbrev pub may_mark : MessageKind → Bool
+may_mark kinds.AskVote = true
+may_mark kinds.Vote = false
+may_mark kinds.Append = false
+may_mark kinds.Ack = false
+may_mark kinds.Install = false
+may_mark kinds.TimeoutNow = false
+
+-- whether a message to this node has the mark, by its type and its schema byte; nothing if it is for another node
+abbrev pub mark_in : ℕ → MessageKind → ℕ → Option Bool
+mark_in to kind schema =
+    if nat_le to 127 then (if schema == to then Some false else if (schema == to + 128) && may_mark kind then Some true else None)
+    else None
+
+abbrev pub body_in : ℕ → MessageKind → Option Bool → Message → Result RaftMessage PeerFault
+body_in to kind None m = Err Kind
+body_in to kind (Some mark) m = in_message (items_at to kind mark (unread m.body)) >>= ended
+
 abbrev pub message_in : ℕ → Option MessageKind → Message → Result RaftMessage PeerFault
 message_in to None m = Err Kind
-message_in to (Some kind) m =
-    if m.schema == 0 then in_message (items_at to kind (unread m.body)) >>= ended
-    else Err Kind
+message_in to (Some kind) m = body_in to kind (mark_in to kind m.schema) m
 
 -- the message to a node, or the first fault
 unfoldable pub peer_message_of : ℕ → Message → Result RaftMessage PeerFault

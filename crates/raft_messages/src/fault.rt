@@ -8,7 +8,7 @@ use wire_words::WordFault;
 /// Why a message of a peer could not be read.
 #[derive(Clone, Copy, Debug, PartialEq, Eq, Error)]
 pub enum PeerFault {
-    /// No message of a peer has this type, or the schema isn't 0.
+    /// No message of a peer has this type, or the message is for another node.
     #[error("no message of a peer has this type")]
     Kind,
     /// An item of the body could not be read.

@@ -38,12 +38,12 @@ fn entries(alloc: Global, words: &mut Words<'_>) -> Result<Entries, WordFault>
 }
 
 #[tactic(auto, unfolding(crate::specs::Reading::ask_vote_at))]
-fn ask_vote(words: &mut Words<'_>) -> Result<UncheckedBody, WordFault>
-    ensures { Finds (λ said. said) ask_vote_at words.old words.new result }
+fn ask_vote(transfer: bool, words: &mut Words<'_>) -> Result<UncheckedBody, WordFault>
+    ensures { Finds (λ said. said) (ask_vote_at transfer) words.old words.new result }
 {
     let last = log_end(words)?;
     Ok(UncheckedBody {
-        what: MessageBody::AskVote { last },
+        what: MessageBody::AskVote { last, transfer },
         flag_fits: true,
     })
 }
@@ -111,16 +111,17 @@ fn install(alloc: Global, words: &mut Words<'_>) -> Result<UncheckedBody, WordFa
     })
 }
 
-/// What a message of this type says.
+/// What a message of this type says, with the mark or without.
 fn said_by_kind(
     alloc: Global,
     kind: MessageKind,
+    mark: bool,
     words: &mut Words<'_>,
 ) -> Result<UncheckedBody, WordFault>
-    ensures { Finds (λ said. said) (said_at kind) words.old words.new result }
+    ensures { Finds (λ said. said) (said_at kind mark) words.old words.new result }
 {
     match kind {
-        MessageKind::AskVote => ask_vote(words),
+        MessageKind::AskVote => ask_vote(mark, words),
         MessageKind::Vote => vote(words),
         MessageKind::Append => append(alloc, words),
         MessageKind::Ack => ack(words),
@@ -138,13 +139,14 @@ pub(crate) fn items(
     alloc: Global,
     to: u64,
     kind: MessageKind,
+    mark: bool,
     words: &mut Words<'_>,
 ) -> Result<(RaftMessage, bool), WordFault>
-    ensures { Finds (λ items. items) (items_at to kind) words.old words.new result }
+    ensures { Finds (λ items. items) (items_at to kind mark) words.old words.new result }
 {
     let from = words.u64()?;
     let term = words.u64()?;
-    let said = said_by_kind(alloc, kind, words)?;
+    let said = said_by_kind(alloc, kind, mark, words)?;
     let message = RaftMessage {
         from,
         to,

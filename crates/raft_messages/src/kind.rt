@@ -1,6 +1,6 @@
 //! The types of message, by their numbers.
 ghost use Rattle.std.specs.Prelude.{◌≡◌};
-ghost use Rattle.raft_messages.specs.Reading.{message_kind};
+ghost use Rattle.raft_messages.specs.Reading.{may_mark, message_kind};
 
 /// The types of message.
 #[derive(Clone, Copy, PartialEq, Eq)]
@@ -26,6 +26,20 @@ impl MessageKind {
             5 => Some(MessageKind::Install),
             6 => Some(MessageKind::TimeoutNow),
             _ => None,
+        }
+    }
+
+    /// Whether a message of this type may have the mark of a transfer.
+    pub(crate) fn may_mark(self) -> bool
+        ensures { result ≡ may_mark self }
+    {
+        match self {
+            MessageKind::AskVote => true,
+            MessageKind::Vote
+            | MessageKind::Append
+            | MessageKind::Ack
+            | MessageKind::Install
+            | MessageKind::TimeoutNow => false,
         }
     }
 }

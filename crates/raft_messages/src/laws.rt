@@ -1,11 +1,11 @@
 //! What holds of the bytes of all messages and configurations.
-ghost use Rattle.std.specs.Prelude.{◌≡◌, ℕ, false, List, [], ◌++◌, length, take, Ok, Err};
+ghost use Rattle.std.specs.Prelude.{◌≡◌, ◌≢◌, ℕ, ◌<◌, ◌≤◌, false, List, [], ◌++◌, length, take, Ok, Err};
 ghost use Rattle.raft_spec.specs.Node.{Server};
 ghost use Rattle.wire_words.specs.declared.message.Message.{Message};
 ghost use Rattle.wire_words.specs.Items.{AreBytes};
-ghost use Rattle.raft_messages.specs.declared.fault.PeerFault.TheVariants.{Range};
+ghost use Rattle.raft_messages.specs.declared.fault.PeerFault.TheVariants.{Kind, Range};
 ghost use Rattle.raft_messages.specs.declared.message.RaftMessage.{RaftMessage};
-ghost use Rattle.raft_messages.specs.Messages.{message_fields, body_bytes, what_number, numbers_fit, AllHold, Reads, Writes};
+ghost use Rattle.raft_messages.specs.Messages.{message_fields, body_bytes, message_schema, what_number, numbers_fit, AllHold, Reads, Writes};
 ghost use Rattle.raft_messages.specs.Reading.{peer_message_of};
 ghost use Rattle.raft_messages.specs.Servers.{servers_of, WritesServers};
 
@@ -15,14 +15,21 @@ pub fn messages_read_back()
     ensures spelled { (to : ℕ) (m : Message) (peer : RaftMessage) → AreBytes m.body → peer_message_of to m ≡ Ok peer → Reads m peer × (peer.to ≡ to) }
     ensures read { (m : Message) (peer : RaftMessage) → Reads m peer → peer_message_of peer.to m ≡ Ok peer }
     ensures written { (peer : RaftMessage) (bytes : List ℕ) → Writes peer bytes →
-        Reads (record { kind = what_number peer.what; schema = 0; body = body_bytes peer }) peer }
+        Reads (record { kind = what_number peer.what; schema = message_schema peer; body = body_bytes peer }) peer }
 {}
 
 /// A message with a number out of range has no spelling, and what is written of it is refused as out of range.
 pub fn out_of_range_is_refused()
     ensures unspelled { (peer : RaftMessage) (bytes : List ℕ) → numbers_fit peer ≡ false → ¬ (Writes peer bytes) }
-    ensures refused { (to : ℕ) (peer : RaftMessage) → AllHold (message_fields peer) → numbers_fit peer ≡ false →
-        peer_message_of to (record { kind = what_number peer.what; schema = 0; body = body_bytes peer }) ≡ Err Range }
+    ensures refused { (peer : RaftMessage) → peer.to ≤ 127 → AllHold (message_fields peer) → numbers_fit peer ≡ false →
+        peer_message_of peer.to (record { kind = what_number peer.what; schema = message_schema peer; body = body_bytes peer }) ≡ Err Range }
+{}
+
+/// What is written of a message is refused by every other node, and by each node whose id is above 127.
+pub fn other_nodes_refuse()
+    ensures others { (to : ℕ) (peer : RaftMessage) → 0 < to → to ≢ peer.to →
+        peer_message_of to (record { kind = what_number peer.what; schema = message_schema peer; body = body_bytes peer }) ≡ Err Kind }
+    ensures far { (to : ℕ) (m : Message) → 127 < to → peer_message_of to m ≡ Err Kind }
 {}
 
 /// No spelling of a message is a proper front of another's.

@@ -26,7 +26,8 @@ pub use entries::{
 pub use entry::{Entries, Entry, EntryKind, LogEnd};
 pub use fault::PeerFault;
 pub use laws::{
-    configurations_read_back, messages_read_back, messages_stand_apart, out_of_range_is_refused,
+    configurations_read_back, messages_read_back, messages_stand_apart, other_nodes_refuse,
+    out_of_range_is_refused,
 };
 pub use message::{MessageBody, RaftMessage, Snapshot};
 pub use reading::read_message;

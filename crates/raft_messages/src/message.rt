@@ -37,6 +37,8 @@ pub enum MessageBody {
     AskVote {
         /// Where its log ends.
         last: LogEnd,
+        /// Whether a leader handed its leadership to it, by TimeoutNow. No grant depends on that.
+        transfer: bool,
     },
     /// The answer to AskVote.
     Vote {
@@ -68,12 +70,18 @@ pub enum MessageBody {
     TimeoutNow,
 }
 
+/// The greatest id of a node that a message can name as its receiver.
+pub(crate) const MAX_RECEIVER: u64 = 127;
+
+/// What an AskVote adds to the byte of the receiver if a leader handed its leadership to the sender.
+pub(crate) const TRANSFER_MARK: u8 = 128;
+
 /// A message from one node to another.
 #[derive(Debug, Drop)]
 pub struct RaftMessage {
     /// The sender's id.
     pub from: u64,
-    /// The receiver's id. It isn't among the message's bytes.
+    /// The receiver's id. A message to an id above 127 is read by no node.
     pub to: u64,
     /// The term that the sender has.
     pub term: u64,

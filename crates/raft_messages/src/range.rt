@@ -45,7 +45,7 @@ fn what_fits(what: &MessageBody) -> bool
     ensures { result ≡ what_in_range (what_value what.now) }
 {
     match what {
-        MessageBody::AskVote { last } => end_fits(last),
+        MessageBody::AskVote { last, .. } => end_fits(last),
         MessageBody::Vote { .. } | MessageBody::TimeoutNow => true,
         MessageBody::Append {
             prev,

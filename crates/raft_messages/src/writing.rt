@@ -1,12 +1,12 @@
 //! Writing a message of a peer.
-ghost use Rattle.std.specs.Prelude.{◌≡◌, ◌<◌, [], ◌∷◌, ◌++◌, ◌/◌, ◌%◌, ◌^◌, true, length, IfOk, OnOk, IsErr};
+ghost use Rattle.std.specs.Prelude.{◌≡◌, ◌<◌, ◌≤◌, [], ◌∷◌, ◌++◌, ◌/◌, ◌%◌, ◌^◌, true, length, IfOk, OnOk, IsErr};
 ghost use Rattle.wire_words.specs.Items.{word, blob};
 ghost use Rattle.wire_words.specs.Message.{header};
-ghost use Rattle.raft_messages.specs.Messages.{flag, what_number, what_fields, fields_bytes, field_bytes, message_fields, body_bytes, message_bytes, numbers_fit, AllHold, Writes, Entries as EntriesField};
+ghost use Rattle.raft_messages.specs.Messages.{flag, what_number, what_fields, fields_bytes, field_bytes, message_fields, body_bytes, message_bytes, message_schema, what_mark, numbers_fit, AllHold, Writes, Entries as EntriesField};
 
 use crate::entries::{write_entry_contents, write_entry_heads};
 use crate::entry::{Entry, LogEnd};
-use crate::message::{MessageBody, RaftMessage, Snapshot};
+use crate::message::{MAX_RECEIVER, MessageBody, RaftMessage, Snapshot, TRANSFER_MARK};
 use std::alloc::{AllocError, Global};
 use wire_words::{WireBytes, Writer};
 
@@ -92,7 +92,7 @@ fn put_what(out: &mut Writer, what: &MessageBody) -> Result<(), AllocError>
     ensures holds { OnOk result (AllHold (what_fields what.now)) }
 {
     match what {
-        MessageBody::AskVote { last } => put_log_end(out, last),
+        MessageBody::AskVote { last, .. } => put_log_end(out, last),
         MessageBody::Vote { granted } => out.word(flag(*granted)),
         MessageBody::Append {
             prev,
@@ -105,11 +105,38 @@ fn put_what(out: &mut Writer, what: &MessageBody) -> Result<(), AllocError>
     }
 }
 
+/// The mark of a transfer, if the message has it.
+fn mark(what: &MessageBody) -> u8
+    ensures value { result ≡ what_mark what.now }
+    ensures fits { result ≤ 128 }
+{
+    match what {
+        MessageBody::AskVote { transfer, .. } => { if *transfer { TRANSFER_MARK } else { 0 } }
+        MessageBody::Vote { .. }
+        | MessageBody::Append { .. }
+        | MessageBody::Ack { .. }
+        | MessageBody::Install { .. }
+        | MessageBody::TimeoutNow => 0,
+    }
+}
+
+/// The byte that names the receiver, with the mark; 0, which is no node's id, for an id that it can't hold.
+fn schema(message: &RaftMessage) -> u8
+    ensures { result ≡ message_schema message.now }
+{
+    let mark = mark(&message.what);
+    if message.to <= MAX_RECEIVER {
+        message.to as u8 + mark
+    } else {
+        0
+    }
+}
+
 fn put_message(out: &mut Writer, message: &RaftMessage) -> Result<(), AllocError>
-    ensures bytes { OnOk result (out.new ≡ out.old ++ (header 0 (what_number message.now.what) 0 ++ body_bytes message.now)) }
+    ensures bytes { OnOk result (out.new ≡ out.old ++ (header 0 (what_number message.now.what) (message_schema message.now) ++ body_bytes message.now)) }
     ensures holds { OnOk result (AllHold (message_fields message.now)) }
 {
-    out.header(number(&message.what), 0)?;
+    out.header(number(&message.what), schema(message))?;
     out.word(message.from)?;
     out.word(message.term)?;
     put_what(out, &message.what)
@@ -152,11 +179,11 @@ fn whole_message(alloc: Global, message: &RaftMessage) -> Result<WireBytes, Allo
 
 /// Writes a whole message of a peer, its header and its body. An entry of more than 4,294,967,295 bytes, and a body of
 /// more than 4,294,967,295 words, are answered as if memory had run out; any other `Err` means out of memory. A message
-/// with a number out of range (`RaftMessage::numbers_fit`) has no spelling, and `read_message` refuses what is written of
-/// it.
+/// with a number out of range (`RaftMessage::numbers_fit`), or to a node whose id is above 127, has no spelling, and
+/// `read_message` refuses what is written of it.
 pub fn write_message(alloc: Global, message: &RaftMessage) -> Result<WireBytes, AllocError>
     // Where no number is out of range, what is written spells the message.
-    ensures writes { numbers_fit message.now ≡ true → IfOk result (Writes message.now) }
+    ensures writes { numbers_fit message.now ≡ true → message.now.to ≤ 127 → IfOk result (Writes message.now) }
     // Which bytes they are.
     ensures bytes { IfOk result (λ bytes. bytes ≡ message_bytes message.now) }
     // No entry of what is written is too large.

@@ -10,7 +10,7 @@ use Rattle.raft_safety.specs.Commits.{Exact, CommitBy, CommitOf, Serves}
 use Rattle.raft_safety.proofs.CommitSteps.{leader_commit_holds, other_commit_holds}
 
 by_message : (w : What) (old new : ℕ) → CommitBy w old new → old ≤ new
-by_message (AskVote last) old new e = omega arith
+by_message (AskVote last transfer) old new e = omega arith
 by_message (Vote granted) old new e = omega arith
 by_message (Append prev commit entries) old new (inl e) = omega arith
 by_message (Append prev commit entries) old new (inr e) = omega arith

@@ -45,7 +45,7 @@ Says s b d = nat_lt s.commit d.node.snapshot.index ≡ b
 
 module _ (me : ℕ) (s : Node) (from term : ℕ) (last : LogEnd) (front : List Entry) (low : s.snapshot.index ≤ s.commit) where
   abbrev A : Bool
-  A = is_looked_at from term last
+  A = is_looked_at s.term from term last
 
   abbrev B : Bool
   B = nat_le s.term term
@@ -105,7 +105,7 @@ other_puts me s m none low =
 -- what the test of a message is
 abbrev pub taken_by : Node → ℕ → ℕ → whats.MessageBody → Bool
 taken_by s from term (what.Install snapshot) = takes_install s from term (snapshot_end snapshot)
-taken_by s from term (what.AskVote last) = false
+taken_by s from term (what.AskVote last transfer) = false
 taken_by s from term (what.Vote granted) = false
 taken_by s from term (what.Append prev commit entries) = false
 taken_by s from term (what.Ack good index) = false
@@ -113,7 +113,8 @@ taken_by s from term what.TimeoutNow = false
 
 puts : (me : ℕ) (s : Node) (from to term : ℕ) (w : whats.MessageBody) → s.snapshot.index ≤ s.commit → taken_by s from term w ≡ nat_lt s.commit (compacted_step me s (Receive (record { from = from; to = to; term = term; what = what_value w }))).node.snapshot.index
 puts me s from to term (what.Install snapshot) low = sym (install_puts me s from to term (snapshot_end snapshot) _ low)
-puts me s from to term (what.AskVote last) low = sym (other_puts me s (record { from = from; to = to; term = term; what = AskVote last }) (λ end b. b) low)
+puts me s from to term (what.AskVote last transfer) low =
+    sym (other_puts me s (record { from = from; to = to; term = term; what = AskVote last transfer }) (λ end b. b) low)
 puts me s from to term (what.Vote granted) low = sym (other_puts me s (record { from = from; to = to; term = term; what = Vote granted }) (λ end b. b) low)
 puts me s from to term (what.Append prev commit entries) low = sym (other_puts me s (record { from = from; to = to; term = term; what = Append prev commit entries }) (λ end b. b) low)
 puts me s from to term (what.Ack good index) low = sym (other_puts me s (record { from = from; to = to; term = term; what = Ack good index }) (λ end b. b) low)
@@ -127,7 +128,7 @@ none_puts r m w n = by m.what n ∙ message_puts r m w
   where
     by : (w : whats.MessageBody) → brought w ≡ None → false ≡ taken_by (node_of r.raft) m.from m.term w
     by (what.Install snapshot) e = absurd cc
-    by (what.AskVote last) e = refl
+    by (what.AskVote last transfer) e = refl
     by (what.Vote granted) e = refl
     by (what.Append prev commit entries) e = refl
     by (what.Ack good index) e = refl

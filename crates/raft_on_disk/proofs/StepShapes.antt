@@ -1,11 +1,12 @@
 -- What one step does to the log, the snapshot and the cut of a node, and what it says of snapshots: what a node keeps goes by it.
 use Rattle.std.proofs.Common.{◌≡◌, ◌≢◌, ℕ, ◌<◌, ◌≤◌, Bool, true, false, List, [], ◌∷◌, ◌++◌, length, map, refl, arith}
-use Rattle.std.specs.Prelude.{◌&&◌, ◌==◌, not, nat_lt, nat_le}
+use Rattle.std.specs.Prelude.{◌-◌, ◌&&◌, ◌==◌, not, nat_lt, nat_le}
 use Rattle.std.proofs.lemmas.Bool.{cond_both, and_parts, ltb-true, ltb-false, leb-false}
 use Rattle.raft_spec.specs.Log.{Entry, LogEnd, matches}
-use Rattle.raft_spec.specs.Node.{Role, Leader, Candidate, Follower, What, AskVote, Vote, Append, Ack, Install, TimeoutNow, Message, Node, Server, Outcome, among, peers, majority, voters, is_leader, is_candidate, Timeout, Beat, Propose, Transfer, Snapped, UseServers, Input, Local, Receive}
+use Rattle.raft_spec.specs.Node.{Role, Leader, Candidate, Follower, What, AskVote, Vote, Append, Ack, Install, TimeoutNow, Message, Node, Server, Outcome, among, peers, majority, voters, is_leader, is_candidate, Timeout, Beat, Yield, Propose, Transfer, Snapped, UseServers, Input, Local, Receive}
 use Rattle.raft_spec.specs.Outcomes.{quiet, in_newer_term, with_grants, with_log}
-use Rattle.raft_spec.specs.Elections.{as_candidate, ask_vote, on_grants, may_start_election, start_election, on_ask_vote, grants_with, grants_vote, on_vote}
+use Rattle.raft_spec.specs.Elections.{as_candidate, ask_vote, on_grants, may_start_election, on_yield, start_election, on_ask_vote, grants_with}
+use Rattle.raft_spec.specs.Elections.{grants_vote, on_vote}
 use Rattle.raft_spec.specs.Replication.{agrees, replaces_committed, take_entries, on_append, on_ack, on_propose, on_beat, on_transfer}
 use Rattle.raft_spec.specs.Snapshots.{on_install, needs_snapshot}
 use Rattle.raft_spec.specs.Membership.{on_servers}
@@ -28,7 +29,7 @@ pub data Moves (log : List Entry) (snapshot : LogEnd) (base commit : ℕ) (t : N
 -- none of these messages is an Install
 abbrev pub IsOther : What → Type 0
 IsOther (Install last front) = ⊥
-IsOther (AskVote last) = Unit {0}
+IsOther (AskVote last transfer) = Unit {0}
 IsOther (Vote granted) = Unit {0}
 IsOther (Append prev commit entries) = Unit {0}
 IsOther (Ack good index) = Unit {0}
@@ -44,7 +45,7 @@ Sound s d = HasTerm d.node × Moves s.log s.snapshot s.base s.commit d.node × A
 -- the front of an Install is as long as its end says
 abbrev pub IsFront : What → Type 0
 IsFront (Install last front) = length front ≡ last.index
-IsFront (AskVote last) = Unit {0}
+IsFront (AskVote last transfer) = Unit {0}
 IsFront (Vote granted) = Unit {0}
 IsFront (Append prev commit entries) = Unit {0}
 IsFront (Ack good index) = Unit {0}
@@ -68,9 +69,9 @@ leads Follower e = absurd cc
 
 -- ---- elections
 
-asks : (me : ℕ) (s : Node) (ids : List ℕ) → AreOthers (map (ask_vote me s) ids)
-asks me s [] = tt
-asks me s (x ∷ xs) = (tt, asks me s xs)
+asks : (transfer : Bool) (me : ℕ) (s : Node) (ids : List ℕ) → AreOthers (map (ask_vote me s transfer) ids)
+asks transfer me s [] = tt
+asks transfer me s (x ∷ xs) = (tt, asks transfer me s xs)
 
 counted : (voters_of : List Entry → List ℕ) (me : ℕ) (s : Node) (out : List Message) → s.term ≢ 0 → AreOthers out → Sound s (on_grants voters_of me s out)
 unfolding on_grants
@@ -78,10 +79,10 @@ counted voters_of me s out nz o = cond_both (majority (voters_of s.log) (among s
     (λ e. (((λ r. nz), (λ l. nz)), writes nz refl refl, o))
     (λ e. (((λ r. nz), (λ l. nz)), stays refl refl refl, o))
 
-stood : (voters_of : List Entry → List ℕ) (me : ℕ) (s : Node) → HasTerm s → Sound s (start_election voters_of me s)
+stood : (transfer : Bool) (voters_of : List Entry → List ℕ) (me : ℕ) (s : Node) → HasTerm s → Sound s (start_election voters_of me s transfer)
 unfolding start_election
-stood voters_of me s h = cond_both (may_start_election voters_of me s) _ _ (Sound s)
-    (λ e. counted voters_of me (as_candidate me s) _ (λ z. omega arith) (asks me (as_candidate me s) _))
+stood transfer voters_of me s h = cond_both (may_start_election voters_of me s) _ _ (Sound s)
+    (λ e. counted voters_of me (as_candidate me s) _ (λ z. omega arith) (asks transfer me (as_candidate me s) _))
     (λ e. still s h)
 
 voted : (voters_of : List Entry → List ℕ) (me : ℕ) (s : Node) (from : ℕ) (granted : Bool) → HasTerm s → Sound s (on_vote voters_of me s from granted)
@@ -125,6 +126,12 @@ beats : (s : Node) → HasTerm s → Sound s (on_beat s)
 unfolding on_beat
 beats s h = cond_both (is_leader s.role) _ _ (Sound s) (λ e. (h, stays refl refl refl, tt)) (λ e. still s h)
 
+yields : (s : Node) → HasTerm s → Sound s (on_yield s)
+unfolding on_yield
+yields s h =
+    cond_both (is_leader s.role && nat_lt s.term 4294967295) _ _ (Sound s) (λ e. (((λ r. none r), (λ l z. omega arith)), stays refl refl refl, tt))
+    (λ e. still s h)
+
 hands : (me : ℕ) (s : Node) (to : ℕ) → HasTerm s → Sound s (on_transfer me s to)
 unfolding on_transfer
 hands me s to h = cond_both (is_leader s.role && not (to == me)) _ _ (Sound s) (λ e. (h, stays refl refl refl, (tt, tt))) (λ e. still s h)
@@ -136,15 +143,15 @@ hears me s servers h = cond_both (is_leader s.role) _ _ (Sound s) (λ e. (h, sta
 -- ---- messages
 
 in_turn : (voters_of : List Entry → List ℕ) (me : ℕ) (s : Node) (from : ℕ) (w : What) → s.term ≢ 0 → IsFront w → HasTerm s → Sound s (on_own_term voters_of me s from w)
-in_turn voters_of me s from (AskVote last) nz f h = asked me s from last h
+in_turn voters_of me s from (AskVote last transfer) nz f h = asked me s from last h
 in_turn voters_of me s from (Vote granted) nz f h = voted voters_of me s from granted h
 in_turn voters_of me s from (Append prev commit es) nz f h = appended me s from prev commit es nz h
 in_turn voters_of me s from (Ack good index) nz f h = acked me s from good index h
 in_turn voters_of me s from (Install last front) nz f h = installs me s from last front nz f h
-in_turn voters_of me s from TimeoutNow nz f h = stood voters_of me s h
+in_turn voters_of me s from TimeoutNow nz f h = stood true voters_of me s h
 
 late : (me : ℕ) (s : Node) (from : ℕ) (w : What) → HasTerm s → Sound s (on_older_term me s from w)
-late me s from (AskVote last) h = (h, stays refl refl refl, (tt, tt))
+late me s from (AskVote last transfer) h = (h, stays refl refl refl, (tt, tt))
 late me s from (Vote granted) h = still s h
 late me s from (Append prev commit es) h = (h, stays refl refl refl, (tt, tt))
 late me s from (Ack good index) h = still s h
@@ -152,19 +159,20 @@ late me s from (Install last front) h = (h, stays refl refl refl, (tt, tt))
 late me s from TimeoutNow h = still s h
 
 -- a message that a node looks at has a term
-has_term : (m : Message) → in_range m ≡ true → 0 < m.term
+has_term : (own : ℕ) (m : Message) → in_range own m ≡ true → 0 < m.term
 unfolding in_range
-has_term m e =
+has_term own m e =
+    let n = nat_le (m.term - own) 1000000 in
     let a = nat_lt 0 m.term in
     let b = nat_lt 0 m.from in
     let c = fits_the_wire m.term in
     let d = what_in_range m.what in
-    ltb-true 0 m.term (and_parts a b (and_parts (a && b) c (and_parts (a && b && c) d e).0).0).0
+    ltb-true 0 m.term (and_parts n a (and_parts (n && a) b (and_parts (n && a && b) c (and_parts (n && a && b && c) d e).0).0).0).1
 
 comes : (voters_of : List Entry → List ℕ) (me : ℕ) (s : Node) (m : Message) → IsFront m.what → HasTerm s → Sound s (on_message voters_of me s m)
 unfolding on_message
-comes voters_of me s m f h = cond_both (in_range m) _ _ (Sound s)
-    (λ e. let pos : 0 < m.term = has_term m e in
+comes voters_of me s m f h = cond_both (in_range s.term m) _ _ (Sound s)
+    (λ e. let pos : 0 < m.term = has_term s.term m e in
     cond_both (nat_lt m.term s.term) _ _ (Sound s) (λ o. late me s m.from m.what h)
     (λ o. let upto : s.term ≤ m.term = ltb-false _ _ o in
     cond_both (nat_lt s.term m.term) _ _ (Sound s)
@@ -177,7 +185,7 @@ comes voters_of me s m f h = cond_both (in_range m) _ _ (Sound s)
 -- an Install speaks of the snapshot that ends there
 abbrev pub SpeaksOf : LogEnd → What → Type 0
 SpeaksOf end (Install last front) = last ≡ end
-SpeaksOf end (AskVote last) = Unit {0}
+SpeaksOf end (AskVote last transfer) = Unit {0}
 SpeaksOf end (Vote granted) = Unit {0}
 SpeaksOf end (Append prev commit entries) = Unit {0}
 SpeaksOf end (Ack good index) = Unit {0}
@@ -189,7 +197,7 @@ SpeakOf end (m ∷ ms) = SpeaksOf end m.what × SpeakOf end ms
 
 other_speaks : (end : LogEnd) (w : What) → IsOther w → SpeaksOf end w
 other_speaks end (Install last front) o = absurd o
-other_speaks end (AskVote last) o = tt
+other_speaks end (AskVote last transfer) o = tt
 other_speaks end (Vote granted) o = tt
 other_speaks end (Append prev commit entries) o = tt
 other_speaks end (Ack good index) o = tt
@@ -234,6 +242,7 @@ abbrev pub IsIntake : Input → Type 0
 IsIntake (Local (Snapped i)) = ⊥
 IsIntake (Local Timeout) = Unit {0}
 IsIntake (Local Beat) = Unit {0}
+IsIntake (Local Yield) = Unit {0}
 IsIntake (Local (Propose es)) = Unit {0}
 IsIntake (Local (Transfer to)) = Unit {0}
 IsIntake (Local (UseServers servers)) = Unit {0}
@@ -242,8 +251,9 @@ IsIntake (Receive m) = IsFront m.what
 whole : (voters_of : List Entry → List ℕ) (me : ℕ) (s : Node) (i : Input) → IsIntake i → HasTerm s → Ended s (raft_step voters_of me s i)
 unfolding raft_step
 whole voters_of me s (Receive m) x h = ends voters_of me s _ (comes voters_of me s m x h)
-whole voters_of me s (Local Timeout) x h = ends voters_of me s _ (stood voters_of me s h)
+whole voters_of me s (Local Timeout) x h = ends voters_of me s _ (stood false voters_of me s h)
 whole voters_of me s (Local Beat) x h = ends voters_of me s _ (beats s h)
+whole voters_of me s (Local Yield) x h = ends voters_of me s _ (yields s h)
 whole voters_of me s (Local (Propose es)) x h = ends voters_of me s _ (proposes s es h)
 whole voters_of me s (Local (Transfer to)) x h = ends voters_of me s _ (hands me s to h)
 whole voters_of me s (Local (Snapped i)) x h = absurd x
@@ -253,7 +263,7 @@ whole voters_of me s (Local (UseServers servers)) x h = serves me s _ (hears me 
 
 compact_speaks : (end : LogEnd) (w : What) → SpeaksOf end w → SpeaksOf end (compact_what w)
 compact_speaks end (Install last front) s = s
-compact_speaks end (AskVote last) s = tt
+compact_speaks end (AskVote last transfer) s = tt
 compact_speaks end (Vote granted) s = tt
 compact_speaks end (Append prev commit entries) s = tt
 compact_speaks end (Ack good index) s = tt

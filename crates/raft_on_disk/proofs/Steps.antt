@@ -47,7 +47,7 @@ use Rattle.raft_on_disk.proofs.CommitRises.{commit_rises}
 -- ---- the event
 
 front_fits : (w : MessageBody) → IsFront (what_value w)
-front_fits (whats.AskVote last) = tt
+front_fits (whats.AskVote last transfer) = tt
 front_fits (whats.Vote granted) = tt
 front_fits (whats.Append prev commit entries) = tt
 front_fits (whats.Ack good index) = tt
@@ -57,6 +57,7 @@ front_fits whats.TimeoutNow = tt
 rule_intake : (event : RaftEvent) → IsIntake event → IsRuleIntake (input_of event)
 rule_intake events.Timeout x = tt
 rule_intake events.Beat x = tt
+rule_intake events.Yield x = tt
 rule_intake (events.Message message) x = front_fits message.what
 rule_intake (events.Propose entries) x = tt
 rule_intake (events.Transfer to) x = tt
@@ -66,6 +67,7 @@ rule_intake (events.Servers servers) x = tt
 log_write : (event : RaftEvent) (s t : rules.Node) (install : Option Snapshot) (batch : Option ℕ) → IsIntake event → WritesLog event s t install batch → IsLogWrite s t (option_map snapshot_end install) batch
 log_write events.Timeout s t install batch x w = w
 log_write events.Beat s t install batch x w = w
+log_write events.Yield s t install batch x w = w
 log_write (events.Message message) s t install batch x w = w
 log_write (events.Propose entries) s t install batch x w = w
 log_write (events.Transfer to) s t install batch x w = w
@@ -187,7 +189,7 @@ letters_say me kept (s ∷ sends) e = λ i. letter_says me kept s e.0 i ∷ lett
 
 bare_carries : (kept : Snapshot) (w : MessageBody) → IsBareWhat w → Carries (snap_value kept) w
 bare_carries kept (whats.Install snapshot) b = absurd b
-bare_carries kept (whats.AskVote last) b = tt
+bare_carries kept (whats.AskVote last transfer) b = tt
 bare_carries kept (whats.Vote granted) b = tt
 bare_carries kept (whats.Append prev commit entries) b = tt
 bare_carries kept (whats.Ack good index) b = tt

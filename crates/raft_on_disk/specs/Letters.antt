@@ -20,7 +20,7 @@ letter me kept (sendings.Install to term last) = record { from = me; to = to; te
 -- an Install has this snapshot
 abbrev pub Carries : Snap → MessageBody → Type 0
 Carries kept (whats.Install snapshot) = snap_value snapshot ≡ kept
-Carries kept (whats.AskVote last) = Unit {0}
+Carries kept (whats.AskVote last transfer) = Unit {0}
 Carries kept (whats.Vote granted) = Unit {0}
 Carries kept (whats.Append prev commit entries) = Unit {0}
 Carries kept (whats.Ack good index) = Unit {0}

@@ -14,7 +14,7 @@ pub record MailValue : Type 0 where
 abbrev pub sends_log : MessageBody → Bool
 sends_log (whats.Append prev commit entries) = true
 sends_log (whats.Install snapshot) = true
-sends_log (whats.AskVote last) = false
+sends_log (whats.AskVote last transfer) = false
 sends_log (whats.Vote granted) = false
 sends_log (whats.Ack good index) = false
 sends_log whats.TimeoutNow = false

@@ -8,6 +8,7 @@ ghost use Rattle.raft_on_disk.specs.Looking.{end_fits, is_looked_at, puts_snapsh
 ghost use Rattle.raft_on_disk.specs.Replicas.{IsWhole};
 
 use crate::replica::Replica;
+use raft_core::is_near;
 use raft_messages::{MessageBody, RaftMessage, Snapshot};
 
 /// The greatest term and the greatest index that a message may carry.
@@ -26,11 +27,12 @@ fn end_fits(snapshot: &Snapshot) -> bool
     fits(snapshot.index) && fits(snapshot.term)
 }
 
-// Whether a node looks at an Install: it has a term and a sender, and its numbers are in range.
-fn is_looked_at(from: u64, term: u64, snapshot: &Snapshot) -> bool
-    ensures { result ≡ is_looked_at from term (snapshot_end snapshot.now) }
+// Whether a node of the term `own` looks at an Install: its term isn't too far above, it has a term and a sender, and its
+// numbers are in range.
+fn is_looked_at(own: u64, from: u64, term: u64, snapshot: &Snapshot) -> bool
+    ensures { result ≡ is_looked_at own from term (snapshot_end snapshot.now) }
 {
-    0 < term && 0 < from && fits(term) && end_fits(snapshot)
+    is_near(own, term) && 0 < term && 0 < from && fits(term) && end_fits(snapshot)
 }
 
 // The snapshot that a message brings.
@@ -53,7 +55,7 @@ impl Replica {
         ensures { result ≡ takes_install (node_of self.now.raft) from term (snapshot_end snapshot.now) }
     {
         let view = self.raft.view();
-        is_looked_at(from, term, snapshot)
+        is_looked_at(view.term, from, term, snapshot)
             && view.term <= term
             && (view.term < term || !view.role.leads())
             && view.commit < snapshot.index

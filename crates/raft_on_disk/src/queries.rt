@@ -5,7 +5,7 @@ ghost use Rattle.raft_spec.specs.Node.{is_leader};
 ghost use Rattle.raft_spec.specs.NodeValues.{node_of};
 ghost use Rattle.raft_spec.specs.Progress.{match_in};
 ghost use Rattle.raft_log.specs.Compacting.{is_due};
-ghost use Rattle.raft_core.specs.Queries.{leader_at};
+ghost use Rattle.raft_core.specs.Queries.{leader_at, matched_at};
 ghost use Rattle.raft_core.specs.Roles.{role_value};
 
 use crate::replica::Replica;
@@ -45,6 +45,28 @@ impl Replica {
         ensures { result ≡ (is_leader self.now.raft.role && (match_in self.now.raft.rows peer == length (node_of self.now.raft).log)) }
     {
         self.raft.is_caught_up(peer)
+    }
+
+    /// Up to which index a server's log is known to agree with the one of this node, if this node leads. Its own log agrees
+    /// whole; a server to which it sends no entries has 0. Constant cost.
+    pub fn matched(&self, server: u64) -> Option<u64>
+        ensures { result ≡ matched_at self.now.raft server }
+    {
+        self.raft.matched(server)
+    }
+
+    /// The index up to which the last snapshot goes; 0 without a snapshot. Constant cost.
+    pub fn snapshot_index(&self) -> u64
+        ensures { result ≡ self.now.raft.snapshot.index }
+    {
+        self.raft.snapshot_index()
+    }
+
+    /// The index up to which the log is compacted: the first entry that is held has the index after it. Constant cost.
+    pub fn cut_index(&self) -> u64
+        ensures { result ≡ self.now.raft.base }
+    {
+        self.raft.cut_index()
     }
 
     /// Whether an own snapshot is due with so much applied: the index is 64 or more past the last one's.

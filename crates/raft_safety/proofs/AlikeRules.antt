@@ -5,7 +5,8 @@ use Rattle.std.proofs.lemmas.Bool.{cases_Bool, and_parts, or_cases, or_left, ltb
 use Rattle.raft_spec.specs.Log.{Entry, LogEnd, term_at, log_end, matches, conflict_place, first_replaced, accept_above, first_replaced_above, is_up_to_date}
 use Rattle.raft_spec.specs.Node.{What, AskVote, Vote, Append, Ack, Install, TimeoutNow, Message, Leader, Node, Server, Outcome, Recipients, Nobody, Everyone, Only, among, others, peers, majority, is_leader, is_candidate}
 use Rattle.raft_spec.specs.Outcomes.{quiet, says, sends_to, in_newer_term, as_follower, with_log, with_vote, with_grants, barrier, answer, with_term}
-use Rattle.raft_spec.specs.Elections.{as_candidate, on_grants, ask_vote, may_start_election, start_election, on_ask_vote, grants_with, on_vote, may_grant}
+use Rattle.raft_spec.specs.Elections.{as_candidate, on_grants, ask_vote, may_start_election, on_yield, start_election, on_ask_vote, grants_with, on_vote}
+use Rattle.raft_spec.specs.Elections.{may_grant}
 use Rattle.raft_spec.specs.Replication.{take_entries, agrees, replaces_committed, on_append, good_ack, bad_ack, on_ack, on_propose, on_beat, on_transfer}
 use Rattle.raft_spec.specs.Snapshots.{installed, on_install, on_snapped}
 use Rattle.raft_spec.specs.Membership.{gained, with_servers, on_servers}
@@ -183,22 +184,25 @@ counted_alike {voters_of} {ids} me s ys out out' told sh e o =
     crown : Node → ℕ → Node
     crown s n = record s { role = Leader; leader = me; next_of = λ p. cond (among (peers s.servers me) p) (suc n) 1; match_of = λ p. 0 }
 
-asks_alike : (me : ℕ) (s : Node) (ys : List Entry) (vs : List ℕ) → log_end s.log ≡ log_end ys → AlikeAll (map (ask_vote me s) vs) (map (ask_vote me (with_whole_log s ys)) vs)
-asks_alike me s ys [] e = refl
-asks_alike me s ys (v ∷ vs) e = (ask_vote me (with_whole_log s ys) v, map (ask_vote me (with_whole_log s ys)) vs, refl, record { from = refl; to = refl; term = refl; what = ap AskVote (sym e) }, asks_alike me s ys vs e)
+asks_alike : (transfer : Bool) (me : ℕ) (s : Node) (ys : List Entry) (vs : List ℕ) → log_end s.log ≡ log_end ys
+    → AlikeAll (map (ask_vote me s transfer) vs) (map (ask_vote me (with_whole_log s ys) transfer) vs)
+asks_alike transfer me s ys [] e = refl
+asks_alike transfer me s ys (v ∷ vs) e = (ask_vote me (with_whole_log s ys) transfer v, map (ask_vote me (with_whole_log s ys) transfer) vs, refl, record { from = refl; to = refl; term = refl; what = ap (λ end. AskVote end transfer) (sym e) }, asks_alike transfer me s ys vs e)
 
 all_over : (ms ks ls : List Message) → ks ≡ ls → AlikeAll ms ks → AlikeAll ms ls
 all_over ms ks ls e a = subst (AlikeAll ms) e a
 
-pub stand_alike : {voters_of : List Entry → List ℕ} {ids : List ℕ} (me : ℕ) (s : Node) (ys : List Entry) → Sees voters_of ids s.log → Shape s → Same s.base s.snapshot.index s.log ys → Alike voters_of ids (start_election voters_of me s) (start_election (always ids) me (with_whole_log s ys))
+pub stand_alike : (transfer : Bool) {voters_of : List Entry → List ℕ} {ids : List ℕ} (me : ℕ) (s : Node) (ys : List Entry) → Sees voters_of ids s.log
+    → Shape s → Same s.base s.snapshot.index s.log ys
+    → Alike voters_of ids (start_election voters_of me s transfer) (start_election (always ids) me (with_whole_log s ys) transfer)
 unfolding start_election may_start_election
-stand_alike {voters_of} {ids} me s ys told sh e =
+stand_alike transfer {voters_of} {ids} me s ys told sh e =
     let a = sh.applied in
     let b = sh.within in
     alike_cond (may_start_election voters_of me s) (may_start_election (always ids) me (with_whole_log s ys)) _ _ _ _
     (ap (λ v. among v me && nat_lt 0 me && not (is_leader s.role) && nat_lt s.term 4294967295 && nat_lt (length s.log) 4294900000) told.now ∙ ap (λ n. among ids me && nat_lt 0 me && not (is_leader s.role) && nat_lt s.term 4294967295 && nat_lt n 4294900000) e.len)
     (λ t. counted_alike me (as_candidate me s) ys _ _ told (record { low = sh.low; applied = sh.applied; within = sh.within }) e
-    (all_over (map (ask_vote me (as_candidate me s)) (others (voters_of s.log) me)) _ _ (ap (λ v. map (ask_vote me (with_whole_log (as_candidate me s) ys)) (others v me)) told.now) (asks_alike me (as_candidate me s) ys (others (voters_of s.log) me) (same_end sh.low (omega arith) e))))
+    (all_over (map (ask_vote me (as_candidate me s) transfer) (others (voters_of s.log) me)) _ _ (ap (λ v. map (ask_vote me (with_whole_log (as_candidate me s) ys) transfer) (others v me)) told.now) (asks_alike transfer me (as_candidate me s) ys (others (voters_of s.log) me) (same_end sh.low (omega arith) e))))
     (λ t. quiet_alike s ys told.now e)
 
 on_vote_alike : {voters_of : List Entry → List ℕ} {ids : List ℕ} (me : ℕ) (s : Node) (ys : List Entry) (from : ℕ) (granted : Bool) → Sees voters_of ids s.log → Shape s → Same s.base s.snapshot.index s.log ys → Alike voters_of ids (on_vote voters_of me s from granted) (on_vote (always ids) me (with_whole_log s ys) from granted)
@@ -210,18 +214,24 @@ on_vote_alike {voters_of} {ids} me s ys from granted told sh e =
     (λ t. quiet_alike s ys told.now e)
 
 pub in_turn_alike : {voters_of : List Entry → List ℕ} {ids : List ℕ} (me : ℕ) (s : Node) (ys : List Entry) (from : ℕ) (w v : What) → Sees voters_of ids s.log → Shape s → Same s.base s.snapshot.index s.log ys → AlikeWhat w v → Alike voters_of ids (on_own_term voters_of me s from w) (on_own_term (always ids) me (with_whole_log s ys) from v)
-in_turn_alike {voters_of} {ids} me s ys from (AskVote last) v told sh e a = subst (λ v. Alike voters_of ids (on_ask_vote me s from last) (on_own_term (always ids) me (with_whole_log s ys) from v)) (sym a) (on_ask_alike me s ys from last told.now sh e)
+in_turn_alike {voters_of} {ids} me s ys from (AskVote last transfer) v told sh e a =
+    subst (λ v. Alike voters_of ids (on_ask_vote me s from last) (on_own_term (always ids) me (with_whole_log s ys) from v)) (sym a)
+    (on_ask_alike me s ys from last told.now sh e)
 in_turn_alike {voters_of} {ids} me s ys from (Vote granted) v told sh e a = subst (λ v. Alike voters_of ids (on_vote voters_of me s from granted) (on_own_term (always ids) me (with_whole_log s ys) from v)) (sym a) (on_vote_alike me s ys from granted told sh e)
 in_turn_alike {voters_of} {ids} me s ys from (Append prev commit es) v told sh e a = subst (λ v. Alike voters_of ids (on_append me s from prev commit es) (on_own_term (always ids) me (with_whole_log s ys) from v)) (sym a) (on_append_alike me s ys from prev commit es told.now sh e)
 in_turn_alike {voters_of} {ids} me s ys from (Ack good index) v told sh e a = subst (λ v. Alike voters_of ids (on_ack me s from good index) (on_own_term (always ids) me (with_whole_log s ys) from v)) (sym a) (on_ack_alike me s ys from good index told.now e)
 in_turn_alike {voters_of} {ids} me s ys from (Install last front) v told sh e a = subst (λ v. Alike voters_of ids (on_install me s from last front) (on_own_term (always ids) me (with_whole_log s ys) from v)) (sym a.1) (on_install_alike me s ys from last front a.0 told.now sh e a.2)
-in_turn_alike {voters_of} {ids} me s ys from TimeoutNow v told sh e a = subst (λ v. Alike voters_of ids (start_election voters_of me s) (on_own_term (always ids) me (with_whole_log s ys) from v)) (sym a) (stand_alike me s ys told sh e)
+in_turn_alike {voters_of} {ids} me s ys from TimeoutNow v told sh e a =
+    subst (λ v. Alike voters_of ids (start_election voters_of me s true) (on_own_term (always ids) me (with_whole_log s ys) from v)) (sym a)
+    (stand_alike true me s ys told sh e)
 
 fresh_says : {voters_of : List Entry → List ℕ} {ids : List ℕ} (me : ℕ) (s : Node) (ys : List Entry) (from : ℕ) (w v : What) → voters_of s.log ≡ ids → Same s.base s.snapshot.index s.log ys → AlikeWhat w v → Alike voters_of ids (says s (answer me s from w)) (says (with_whole_log s ys) (answer me (with_whole_log s ys) from v))
 fresh_says me s ys from w v told e a = says_alike s ys _ _ (λ l. told) e (record { from = refl; to = refl; term = refl; what = a })
 
 pub stale_alike : {voters_of : List Entry → List ℕ} {ids : List ℕ} (me : ℕ) (s : Node) (ys : List Entry) (from : ℕ) (w v : What) → voters_of s.log ≡ ids → Same s.base s.snapshot.index s.log ys → AlikeWhat w v → Alike voters_of ids (on_older_term me s from w) (on_older_term me (with_whole_log s ys) from v)
-stale_alike {voters_of} {ids} me s ys from (AskVote last) v told e a = subst (λ v. Alike voters_of ids (on_older_term me s from (AskVote last)) (on_older_term me (with_whole_log s ys) from v)) (sym a) (fresh_says me s ys from (Vote false) (Vote false) told e refl)
+stale_alike {voters_of} {ids} me s ys from (AskVote last transfer) v told e a =
+    subst (λ v. Alike voters_of ids (on_older_term me s from (AskVote last transfer)) (on_older_term me (with_whole_log s ys) from v)) (sym a)
+    (fresh_says me s ys from (Vote false) (Vote false) told e refl)
 stale_alike {voters_of} {ids} me s ys from (Vote granted) v told e a = subst (λ v. Alike voters_of ids (quiet s) (on_older_term me (with_whole_log s ys) from v)) (sym a) (quiet_alike s ys told e)
 stale_alike {voters_of} {ids} me s ys from (Append prev commit es) v told e a = subst (λ v. Alike voters_of ids (on_older_term me s from (Append prev commit es)) (on_older_term me (with_whole_log s ys) from v)) (sym a) (fresh_says me s ys from (Ack false (length s.log)) (Ack false (length ys)) told e (ap (λ n. Ack false n) (sym e.len)))
 stale_alike {voters_of} {ids} me s ys from (Ack good index) v told e a = subst (λ v. Alike voters_of ids (quiet s) (on_older_term me (with_whole_log s ys) from v)) (sym a) (quiet_alike s ys told e)
@@ -229,22 +239,23 @@ stale_alike {voters_of} {ids} me s ys from (Install last front) v told e a = sub
 stale_alike {voters_of} {ids} me s ys from TimeoutNow v told e a = subst (λ v. Alike voters_of ids (quiet s) (on_older_term me (with_whole_log s ys) from v)) (sym a) (quiet_alike s ys told e)
 
 -- the range is of what both carry
-range_alike : (m : Message) (w : What) → AlikeWhat m.what w → in_range m ≡ in_range (record { from = m.from; to = m.to; term = m.term; what = w })
+range_alike : (own : ℕ) (m : Message) (w : What) → AlikeWhat m.what w
+    → in_range own m ≡ in_range own (record { from = m.from; to = m.to; term = m.term; what = w })
 unfolding in_range
-range_alike m w a = go m.what w a
+range_alike own m w a = go m.what w a
   where
-    go : (x v : What) → AlikeWhat x v → in_range (record { from = m.from; to = m.to; term = m.term; what = x }) ≡ in_range (record { from = m.from; to = m.to; term = m.term; what = v })
-    go (AskVote last) v a = ap (λ v. in_range (record { from = m.from; to = m.to; term = m.term; what = v })) (sym a)
-    go (Vote granted) v a = ap (λ v. in_range (record { from = m.from; to = m.to; term = m.term; what = v })) (sym a)
-    go (Append prev commit es) v a = ap (λ v. in_range (record { from = m.from; to = m.to; term = m.term; what = v })) (sym a)
-    go (Ack good index) v a = ap (λ v. in_range (record { from = m.from; to = m.to; term = m.term; what = v })) (sym a)
-    go (Install last front) v a = ap (λ v. in_range (record { from = m.from; to = m.to; term = m.term; what = v })) (sym a.1)
-    go TimeoutNow v a = ap (λ v. in_range (record { from = m.from; to = m.to; term = m.term; what = v })) (sym a)
+    go : (x v : What) → AlikeWhat x v → in_range own (record { from = m.from; to = m.to; term = m.term; what = x }) ≡ in_range own (record { from = m.from; to = m.to; term = m.term; what = v })
+    go (AskVote last transfer) v a = ap (λ v. in_range own (record { from = m.from; to = m.to; term = m.term; what = v })) (sym a)
+    go (Vote granted) v a = ap (λ v. in_range own (record { from = m.from; to = m.to; term = m.term; what = v })) (sym a)
+    go (Append prev commit es) v a = ap (λ v. in_range own (record { from = m.from; to = m.to; term = m.term; what = v })) (sym a)
+    go (Ack good index) v a = ap (λ v. in_range own (record { from = m.from; to = m.to; term = m.term; what = v })) (sym a)
+    go (Install last front) v a = ap (λ v. in_range own (record { from = m.from; to = m.to; term = m.term; what = v })) (sym a.1)
+    go TimeoutNow v a = ap (λ v. in_range own (record { from = m.from; to = m.to; term = m.term; what = v })) (sym a)
 
 pub on_message_alike : {voters_of : List Entry → List ℕ} {ids : List ℕ} (me : ℕ) (s : Node) (ys : List Entry) (m : Message) (w : What) → Sees voters_of ids s.log → Shape s → Same s.base s.snapshot.index s.log ys → AlikeWhat m.what w → Alike voters_of ids (on_message voters_of me s m) (on_message (always ids) me (with_whole_log s ys) (record { from = m.from; to = m.to; term = m.term; what = w }))
 unfolding on_message
 on_message_alike me s ys m w told sh e a =
-    alike_cond (in_range m) (in_range (record { from = m.from; to = m.to; term = m.term; what = w })) _ _ _ _ (range_alike m w a)
+    alike_cond (in_range s.term m) (in_range s.term (record { from = m.from; to = m.to; term = m.term; what = w })) _ _ _ _ (range_alike s.term m w a)
     (λ t. alike_cond (nat_lt m.term s.term) (nat_lt m.term s.term) _ _ _ _ refl (λ q. stale_alike me s ys m.from m.what w told.now e a)
     (λ q. alike_cond (nat_lt s.term m.term) (nat_lt s.term m.term) _ _ _ _ refl
     (λ r. in_turn_alike me (in_newer_term s m.term) ys m.from m.what w told (record { low = sh.low; applied = sh.applied; within = sh.within }) e a)
@@ -266,6 +277,13 @@ on_propose_alike s ys es told sh e =
 pub on_beat_alike : {voters_of : List Entry → List ℕ} {ids : List ℕ} (s : Node) (ys : List Entry) → voters_of s.log ≡ ids → Same s.base s.snapshot.index s.log ys → Alike voters_of ids (on_beat s) (on_beat (with_whole_log s ys))
 unfolding on_beat
 on_beat_alike s ys told e = alike_cond (is_leader s.role) (is_leader s.role) _ _ _ _ refl (λ t. spread_alike s ys Everyone Everyone (λ l. told) refl e) (λ t. quiet_alike s ys told e)
+
+pub on_yield_alike : {voters_of : List Entry → List ℕ} {ids : List ℕ} (s : Node) (ys : List Entry) → voters_of s.log ≡ ids
+    → Same s.base s.snapshot.index s.log ys → Alike voters_of ids (on_yield s) (on_yield (with_whole_log s ys))
+unfolding on_yield
+on_yield_alike s ys told e =
+    alike_cond (is_leader s.role && nat_lt s.term 4294967295) (is_leader s.role && nat_lt s.term 4294967295) _ _ _ _ refl
+    (λ t. quiet_alike (in_newer_term s (suc s.term)) ys told e) (λ t. quiet_alike s ys told e)
 
 pub on_transfer_alike : {voters_of : List Entry → List ℕ} {ids : List ℕ} (me : ℕ) (s : Node) (ys : List Entry) (to : ℕ) → voters_of s.log ≡ ids → Same s.base s.snapshot.index s.log ys → Alike voters_of ids (on_transfer me s to) (on_transfer me (with_whole_log s ys) to)
 unfolding on_transfer

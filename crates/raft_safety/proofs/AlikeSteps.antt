@@ -4,7 +4,8 @@ use Rattle.std.specs.Prelude.{◌==◌, ◌&&◌, not, nat_lt, nat_le, map}
 use Rattle.std.proofs.lemmas.List.{length-take-le, drop_all}
 use Rattle.std.proofs.lemmas.Bool.{cases_eq, and_cases, or_parts, ltb-true, ltb-false, eqb-true, eqb-false, not-false}
 use Rattle.raft_spec.specs.Log.{Entry, term_at}
-use Rattle.raft_spec.specs.Node.{What, Append, Install, Message, Node, Outcome, Recipients, Nobody, Everyone, Only, majority, is_leader, Timeout, Beat, Propose, Transfer, Snapped, UseServers, Input, Local, Receive}
+use Rattle.raft_spec.specs.Node.{What, Append, Install, Message, Node, Outcome, Recipients, Nobody, Everyone, Only, majority, is_leader, Timeout, Beat}
+use Rattle.raft_spec.specs.Node.{Yield, Propose, Transfer, Snapped, UseServers, Input, Local, Receive}
 use Rattle.raft_spec.specs.Outcomes.{with_log, with_term}
 use Rattle.raft_spec.specs.Snapshots.{needs_snapshot}
 use Rattle.raft_spec.specs.Commitment.{has, majority_stores, commit_below, commit_index, is_stored_by_majority, commit_up_to}
@@ -14,7 +15,8 @@ use Rattle.raft_safety.specs.Cuts.{Same, AlikeWhat, AlikeMessage, AlikeAll, Alik
 use Rattle.raft_safety.proofs.Logs.{term_at-zero, term_at-take}
 use Rattle.raft_safety.proofs.Shapes.{rule_of}
 use Rattle.raft_safety.proofs.Alikes.{same_term, same_drop, same_at}
-use Rattle.raft_safety.proofs.AlikeRules.{Shape, Sees, Alike, AlikeServed, always, alike_cond, stand_alike, on_beat_alike, on_propose_alike, on_transfer_alike, on_snap_alike, on_servers_alike, on_message_alike}
+use Rattle.raft_safety.proofs.AlikeRules.{Shape, Sees, Alike, AlikeServed, always, alike_cond, stand_alike, on_beat_alike, on_yield_alike}
+use Rattle.raft_safety.proofs.AlikeRules.{on_propose_alike, on_transfer_alike, on_snap_alike, on_servers_alike, on_message_alike}
 
 pub alikes_append : (a a' b b' : List Message) → AlikeAll a a' → AlikeAll b b' → AlikeAll (a ++ b) (a' ++ b')
 alikes_append [] a' b b' x y = subst (λ l. AlikeAll b (l ++ b')) (sym x) y
@@ -197,6 +199,7 @@ SeesAt voters_of ids s (Local (UseServers servers)) = Unit {0}
 SeesAt voters_of ids s (Local (Propose es)) = voters_of (s.log ++ with_term s.term es) ≡ ids
 SeesAt voters_of ids s (Local Timeout) = Sees voters_of ids s.log
 SeesAt voters_of ids s (Local Beat) = Sees voters_of ids s.log
+SeesAt voters_of ids s (Local Yield) = Sees voters_of ids s.log
 SeesAt voters_of ids s (Local (Transfer to)) = Sees voters_of ids s.log
 SeesAt voters_of ids s (Local (Snapped i)) = Sees voters_of ids s.log
 SeesAt voters_of ids s (Receive m) = Sees voters_of ids s.log
@@ -204,8 +207,11 @@ SeesAt voters_of ids s (Receive m) = Sees voters_of ids s.log
 -- the node's state and its messages after a step are known from what it has, whatever was cut off
 pub step_alike : (voters_of : List Entry → List ℕ) (ids : List ℕ) (me : ℕ) (s : Node) (ys : List Entry) (i j : Input) → SeesAt voters_of ids s i → Shape s → Shape (rule_of voters_of me s i).node → Same s.base s.snapshot.index s.log ys → AlikeInput i j → AlikeStep (raft_step voters_of me s i) (raft_step (always ids) me (with_whole_log s ys) j)
 unfolding raft_step
-step_alike voters_of ids me s ys (Local Timeout) j told sh after e a = subst (λ j. AlikeStep (raft_step voters_of me s (Local Timeout)) (raft_step (always ids) me (with_whole_log s ys) j)) (sym a) (steps_alike _ _ (finish_alike me _ _ after (stand_alike me s ys told sh e)))
+step_alike voters_of ids me s ys (Local Timeout) j told sh after e a = subst (λ j. AlikeStep (raft_step voters_of me s (Local Timeout)) (raft_step (always ids) me (with_whole_log s ys) j)) (sym a) (steps_alike _ _ (finish_alike me _ _ after (stand_alike false me s ys told sh e)))
 step_alike voters_of ids me s ys (Local Beat) j told sh after e a = subst (λ j. AlikeStep (raft_step voters_of me s (Local Beat)) (raft_step (always ids) me (with_whole_log s ys) j)) (sym a) (steps_alike _ _ (finish_alike me _ _ after (on_beat_alike s ys told.now e)))
+step_alike voters_of ids me s ys (Local Yield) j told sh after e a =
+    subst (λ j. AlikeStep (raft_step voters_of me s (Local Yield)) (raft_step (always ids) me (with_whole_log s ys) j)) (sym a)
+    (steps_alike _ _ (finish_alike me _ _ after (on_yield_alike s ys told.now e)))
 step_alike voters_of ids me s ys (Local (Propose es)) j told sh after e a = subst (λ j. AlikeStep (raft_step voters_of me s (Local (Propose es))) (raft_step (always ids) me (with_whole_log s ys) j)) (sym a) (steps_alike _ _ (finish_alike me _ _ after (on_propose_alike s ys es told sh e)))
 step_alike voters_of ids me s ys (Local (Transfer to)) j told sh after e a = subst (λ j. AlikeStep (raft_step voters_of me s (Local (Transfer to))) (raft_step (always ids) me (with_whole_log s ys) j)) (sym a) (steps_alike _ _ (finish_alike me _ _ after (on_transfer_alike me s ys to told.now e)))
 step_alike voters_of ids me s ys (Local (Snapped i)) j told sh after e a = subst (λ j. AlikeStep (raft_step voters_of me s (Local (Snapped i))) (raft_step (always ids) me (with_whole_log s ys) j)) (sym a) (steps_alike _ _ (finish_alike me _ _ after (on_snap_alike s ys i told.now sh e)))

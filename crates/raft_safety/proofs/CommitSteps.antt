@@ -3,9 +3,10 @@ use Rattle.std.proofs.Common.{◌∷◌, ◌+◌, ◌++◌, length-append, ◌�
 use Rattle.std.specs.Prelude.{nat_lt, nat_le, ◌&&◌, not, ◌==◌}
 use Rattle.std.proofs.lemmas.Bool.{cond-true, eq-eqb, le-leb, lt-ltb, and_from, cond_both, cases_lt, ltb-true, ltb-false, leb-false}
 use Rattle.raft_spec.specs.Log.{Entry, LogEnd, matches, term_at}
-use Rattle.raft_spec.specs.Node.{Everyone, What, AskVote, Vote, Append, Ack, Install, TimeoutNow, Message, Node, Outcome, among, peers, majority, is_leader, is_candidate, LocalEvent, Timeout, Beat, Propose, Transfer, Snapped, UseServers, Input, Local, Receive}
+use Rattle.raft_spec.specs.Node.{Everyone, What, AskVote, Vote, Append, Ack, Install, TimeoutNow, Message, Node, Outcome, among, peers, majority}
+use Rattle.raft_spec.specs.Node.{is_leader, is_candidate, LocalEvent, Timeout, Beat, Yield, Propose, Transfer, Snapped, UseServers, Input, Local, Receive}
 use Rattle.raft_spec.specs.Outcomes.{sends_to, with_log, with_term, quiet, in_newer_term, with_grants}
-use Rattle.raft_spec.specs.Elections.{as_candidate, grants_with, on_grants, may_start_election, start_election, grants_vote, on_ask_vote, on_vote}
+use Rattle.raft_spec.specs.Elections.{as_candidate, grants_with, on_grants, may_start_election, on_yield, start_election, grants_vote, on_ask_vote, on_vote}
 use Rattle.raft_spec.specs.Replication.{take_entries, agrees, replaces_committed, on_append, on_ack, on_propose, on_beat, on_transfer}
 use Rattle.raft_spec.specs.Snapshots.{on_install, on_snapped}
 use Rattle.raft_spec.specs.Membership.{on_servers}
@@ -50,9 +51,9 @@ counted_keeps : (voters_of : List Entry → List ℕ) (me : ℕ) (s : Node) (out
 unfolding on_grants
 counted_keeps voters_of me s out = cond_both (majority (voters_of s.log) (among s.grants)) _ _ (Keeps s.commit) (λ e. refl) (λ e. refl)
 
-stand_keeps : (voters_of : List Entry → List ℕ) (me : ℕ) (s : Node) → Keeps s.commit (start_election voters_of me s)
+stand_keeps : (transfer : Bool) (voters_of : List Entry → List ℕ) (me : ℕ) (s : Node) → Keeps s.commit (start_election voters_of me s transfer)
 unfolding start_election
-stand_keeps voters_of me s = cond_both (may_start_election voters_of me s) _ _ (Keeps s.commit) (λ e. counted_keeps voters_of me (as_candidate me s) _) (λ e. refl)
+stand_keeps transfer voters_of me s = cond_both (may_start_election voters_of me s) _ _ (Keeps s.commit) (λ e. counted_keeps voters_of me (as_candidate me s) _) (λ e. refl)
 
 on_ask_keeps : (me : ℕ) (s : Node) (from : ℕ) (last : LogEnd) → Keeps s.commit (on_ask_vote me s from last)
 unfolding on_ask_vote
@@ -87,15 +88,15 @@ on_install_moves me s from last front =
     cond_both (matches s.log last) _ _ M (λ y. record { leads = λ l. off l; other = inr (lt, refl) }) (λ y. record { leads = λ l. off l; other = inr (lt, refl) })))
 
 in_turn_moves : (voters_of : List Entry → List ℕ) (me : ℕ) (s : Node) (from : ℕ) (w : What) → Moves s.commit (CommitBy w) (on_own_term voters_of me s from w)
-in_turn_moves voters_of me s from (AskVote last) = record { leads = λ l. on_ask_keeps me s from last; other = on_ask_keeps me s from last }
+in_turn_moves voters_of me s from (AskVote last transfer) = record { leads = λ l. on_ask_keeps me s from last; other = on_ask_keeps me s from last }
 in_turn_moves voters_of me s from (Vote granted) = record { leads = λ l. on_vote_keeps voters_of me s from granted; other = on_vote_keeps voters_of me s from granted }
 in_turn_moves voters_of me s from (Append prev commit es) = on_append_moves me s from prev commit es
 in_turn_moves voters_of me s from (Ack good index) = record { leads = λ l. on_ack_keeps me s from good index; other = on_ack_keeps me s from good index }
 in_turn_moves voters_of me s from (Install last front) = on_install_moves me s from last front
-in_turn_moves voters_of me s from TimeoutNow = record { leads = λ l. stand_keeps voters_of me s; other = stand_keeps voters_of me s }
+in_turn_moves voters_of me s from TimeoutNow = record { leads = λ l. stand_keeps true voters_of me s; other = stand_keeps true voters_of me s }
 
 still_moves : (s : Node) (w : What) (d : Outcome) → d.node.commit ≡ s.commit → Moves s.commit (CommitBy w) d
-still_moves s (AskVote last) d e = record { leads = λ l. e; other = e }
+still_moves s (AskVote last transfer) d e = record { leads = λ l. e; other = e }
 still_moves s (Vote granted) d e = record { leads = λ l. e; other = e }
 still_moves s (Append prev commit es) d e = record { leads = λ l. e; other = inl e }
 still_moves s (Ack good index) d e = record { leads = λ l. e; other = e }
@@ -103,7 +104,7 @@ still_moves s (Install last front) d e = record { leads = λ l. e; other = inl e
 still_moves s TimeoutNow d e = record { leads = λ l. e; other = e }
 
 stale_keeps : (me : ℕ) (s : Node) (from : ℕ) (w : What) → Keeps s.commit (on_older_term me s from w)
-stale_keeps me s from (AskVote last) = refl
+stale_keeps me s from (AskVote last transfer) = refl
 stale_keeps me s from (Vote granted) = refl
 stale_keeps me s from (Append prev commit es) = refl
 stale_keeps me s from (Ack good index) = refl
@@ -114,15 +115,16 @@ on_message_moves : (voters_of : List Entry → List ℕ) (me : ℕ) (s : Node) (
 unfolding on_message
 on_message_moves voters_of me s m =
     let M = Moves s.commit (CommitBy m.what) in
-    cond_both (in_range m) _ _ M
+    cond_both (in_range s.term m) _ _ M
     (λ e. cond_both (nat_lt m.term s.term) _ _ M (λ x. still_moves s m.what (on_older_term me s m.from m.what) (stale_keeps me s m.from m.what))
     (λ x. cond_both (nat_lt s.term m.term) _ _ M (λ y. in_turn_moves voters_of me (in_newer_term s m.term) m.from m.what) (λ y. in_turn_moves voters_of me s m.from m.what)))
     (λ e. still_moves s m.what (quiet s) refl)
 
 deed_keeps : (voters_of : List Entry → List ℕ) (me : ℕ) (s : Node) (d : LocalEvent) → Keeps s.commit (rule_of voters_of me s (Local d))
-unfolding on_beat on_propose on_transfer on_snapped on_servers
-deed_keeps voters_of me s Timeout = stand_keeps voters_of me s
+unfolding on_beat on_yield on_propose on_transfer on_snapped on_servers
+deed_keeps voters_of me s Timeout = stand_keeps false voters_of me s
 deed_keeps voters_of me s Beat = cond_both (is_leader s.role) _ _ (Keeps s.commit) (λ e. refl) (λ e. refl)
+deed_keeps voters_of me s Yield = cond_both (is_leader s.role && nat_lt s.term 4294967295) _ _ (Keeps s.commit) (λ e. refl) (λ e. refl)
 deed_keeps voters_of me s (Propose es) = cond_both (is_leader s.role) _ _ (Keeps s.commit) (λ e. refl) (λ e. refl)
 deed_keeps voters_of me s (Transfer to) = cond_both (is_leader s.role && not (to == me)) _ _ (Keeps s.commit) (λ e. refl) (λ e. refl)
 deed_keeps voters_of me s (Snapped i) = cond_both (nat_lt s.snapshot.index i && nat_le i s.commit) _ _ (Keeps s.commit) (λ e. refl) (λ e. refl)
@@ -163,6 +165,7 @@ pub leader_commit_holds : LeaderCommit
 unfolding raft_step
 leader_commit_holds voters_of me s (Local Timeout) l = inl (finish_exact voters_of me s.commit _ (rule_moves voters_of me s (Local Timeout)).leads l)
 leader_commit_holds voters_of me s (Local Beat) l = inl (finish_exact voters_of me s.commit _ (rule_moves voters_of me s (Local Beat)).leads l)
+leader_commit_holds voters_of me s (Local Yield) l = inl (finish_exact voters_of me s.commit _ (rule_moves voters_of me s (Local Yield)).leads l)
 leader_commit_holds voters_of me s (Local (Propose es)) l = inl (finish_exact voters_of me s.commit _ (rule_moves voters_of me s (Local (Propose es))).leads l)
 leader_commit_holds voters_of me s (Local (Transfer to)) l = inl (finish_exact voters_of me s.commit _ (rule_moves voters_of me s (Local (Transfer to))).leads l)
 leader_commit_holds voters_of me s (Local (Snapped i)) l = inl (finish_exact voters_of me s.commit _ (rule_moves voters_of me s (Local (Snapped i))).leads l)
@@ -173,6 +176,8 @@ pub other_commit_holds : OtherCommit
 unfolding raft_step
 other_commit_holds voters_of me s (Local Timeout) l = finish_other voters_of me s.commit (CommitOf (Local Timeout)) _ (rule_moves voters_of me s (Local Timeout)).other l
 other_commit_holds voters_of me s (Local Beat) l = finish_other voters_of me s.commit (CommitOf (Local Beat)) _ (rule_moves voters_of me s (Local Beat)).other l
+other_commit_holds voters_of me s (Local Yield) l =
+    finish_other voters_of me s.commit (CommitOf (Local Yield)) _ (rule_moves voters_of me s (Local Yield)).other l
 other_commit_holds voters_of me s (Local (Propose es)) l = finish_other voters_of me s.commit (CommitOf (Local (Propose es))) _ (rule_moves voters_of me s (Local (Propose es))).other l
 other_commit_holds voters_of me s (Local (Transfer to)) l = finish_other voters_of me s.commit (CommitOf (Local (Transfer to))) _ (rule_moves voters_of me s (Local (Transfer to))).other l
 other_commit_holds voters_of me s (Local (Snapped i)) l = finish_other voters_of me s.commit (CommitOf (Local (Snapped i))) _ (rule_moves voters_of me s (Local (Snapped i))).other l

@@ -4,7 +4,7 @@ use Rattle.std.specs.Prelude.{map}
 use Rattle.std.proofs.lemmas.List.{length-replicate, length-take-le, drop_at, drop_all}
 use Rattle.std.proofs.lemmas.Bool.{cases_eq, cond-true}
 use Rattle.raft_spec.specs.Log.{Entry, Barrier, LogEnd, nth_term, term_at}
-use Rattle.raft_spec.specs.Node.{What, AskVote, Vote, Append, Ack, Install, TimeoutNow, Message, Node, Outcome, voters, Timeout, Beat, Propose, Transfer, Snapped, UseServers, Input, Local, Receive}
+use Rattle.raft_spec.specs.Node.{What, AskVote, Vote, Append, Ack, Install, TimeoutNow, Message, Node, Outcome, voters, Timeout, Beat, Yield, Propose, Transfer, Snapped, UseServers, Input, Local, Receive}
 use Rattle.raft_spec.specs.Outcomes.{barrier, quiet}
 use Rattle.raft_spec.specs.Steps.{raft_step}
 use Rattle.raft_spec.specs.Account.{steps, said}
@@ -74,7 +74,7 @@ gone_same last front len t =
     }
 
 what_forget : (vs : Setup) (h : Hist) (from to u : ℕ) (w v : What) → WhatOk vs h from to u w → AlikeWhat w v → AlikeWhat w (compact_what v)
-what_forget vs h from to u (AskVote last) v ok a = ap compact_what a
+what_forget vs h from to u (AskVote last transfer) v ok a = ap compact_what a
 what_forget vs h from to u (Vote granted) v ok a = ap compact_what a
 what_forget vs h from to u (Append prev commit es) v ok a = ap compact_what a
 what_forget vs h from to u (Ack good index) v ok a = ap compact_what a
@@ -110,6 +110,7 @@ sees_at vs s (Local (UseServers servers)) t = tt
 sees_at vs s (Local (Propose es)) t = sym t
 sees_at vs s (Local Timeout) t = record { now = sym t; barrier = λ u. conf_still vs s.log (barrier u) refl ∙ sym t }
 sees_at vs s (Local Beat) t = record { now = sym t; barrier = λ u. conf_still vs s.log (barrier u) refl ∙ sym t }
+sees_at vs s (Local Yield) t = record { now = sym t; barrier = λ u. conf_still vs s.log (barrier u) refl ∙ sym t }
 sees_at vs s (Local (Transfer to)) t = record { now = sym t; barrier = λ u. conf_still vs s.log (barrier u) refl ∙ sym t }
 sees_at vs s (Local (Snapped i)) t = record { now = sym t; barrier = λ u. conf_still vs s.log (barrier u) refl ∙ sym t }
 sees_at vs s (Receive m) t = record { now = sym t; barrier = λ u. conf_still vs s.log (barrier u) refl ∙ sym t }

@@ -2,7 +2,7 @@
 use Rattle.std.proofs.Common.{refl}
 use Rattle.raft_spec.specs.Log.{term_at, log_end, matches, merged, conflict_place, accept, first_replaced, accept_above, first_replaced_above, is_up_to_date}
 use Rattle.raft_spec.specs.Node.{voters, others, peers, majority}
-use Rattle.raft_spec.specs.Elections.{on_grants, may_start_election, start_election, on_ask_vote, grants_with, on_vote, may_grant}
+use Rattle.raft_spec.specs.Elections.{on_grants, may_start_election, on_yield, start_election, on_ask_vote, grants_with, on_vote, may_grant}
 use Rattle.raft_spec.specs.Replication.{agrees, take_entries, replaces_committed, on_append, on_ack, on_propose, on_beat, on_transfer}
 use Rattle.raft_spec.specs.Snapshots.{on_install, on_snapped, needs_snapshot}
 use Rattle.raft_spec.specs.Membership.{on_servers}

@@ -2,7 +2,7 @@
 use Rattle.std.proofs.Common.{◌≡◌, Bool, true, false, List, [], ◌∷◌, refl, ap, ◌∙◌}
 use Rattle.std.specs.Prelude.{cond, not, ◌&&◌, ◌||◌}
 use Rattle.raft_spec.specs.Log.{Entry}
-use Rattle.raft_spec.specs.Node.{Server, Node, Timeout, Beat, Propose, Transfer, Snapped, UseServers, Local, Receive}
+use Rattle.raft_spec.specs.Node.{Server, Node, Timeout, Beat, Yield, Propose, Transfer, Snapped, UseServers, Local, Receive}
 use Rattle.raft_safety.specs.Members.{fixed, changes, is_change, servers_read, any_change, may_change, may_propose, configuration_from, configuration, FixedServers, FixedProposals}
 
 none : (servers : List Server) (e : Entry) → changes (fixed servers) e ≡ false
@@ -32,6 +32,7 @@ proposes servers s (e ∷ f ∷ es) = ap not (none_of servers (e ∷ f ∷ es))
 pub fixed_proposals_holds : FixedProposals
 fixed_proposals_holds servers s (Local Timeout) = refl
 fixed_proposals_holds servers s (Local Beat) = refl
+fixed_proposals_holds servers s (Local Yield) = refl
 fixed_proposals_holds servers s (Local (Propose es)) = proposes servers s es
 fixed_proposals_holds servers s (Local (Transfer to)) = refl
 fixed_proposals_holds servers s (Local (Snapped i)) = refl

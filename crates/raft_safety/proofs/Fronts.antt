@@ -3,9 +3,11 @@ use Rattle.std.proofs.Common.{◌≡◌, ℕ, zero, suc, ◌≤◌, Bool, true, 
 use Rattle.std.specs.Prelude.{◌==◌, ◌&&◌, not, nat_lt, nat_le, map, slice_get}
 use Rattle.std.proofs.lemmas.Bool.{cond_both, eq-eqb}
 use Rattle.raft_spec.specs.Log.{Entry, LogEnd, matches}
-use Rattle.raft_spec.specs.Node.{What, AskVote, Vote, Append, Ack, Install, TimeoutNow, Message, Node, Outcome, among, others, peers, majority, is_leader, is_candidate, Timeout, Beat, Propose, Transfer, Snapped, UseServers, Input, Local, Receive}
+use Rattle.raft_spec.specs.Node.{What, AskVote, Vote, Append, Ack, Install, TimeoutNow, Message, Node, Outcome, among, others, peers, majority, is_leader}
+use Rattle.raft_spec.specs.Node.{is_candidate, Timeout, Beat, Yield, Propose, Transfer, Snapped, UseServers, Input, Local, Receive}
 use Rattle.raft_spec.specs.Outcomes.{in_newer_term, with_grants}
-use Rattle.raft_spec.specs.Elections.{as_candidate, grants_with, ask_vote, on_grants, may_start_election, start_election, grants_vote, on_ask_vote, on_vote}
+use Rattle.raft_spec.specs.Elections.{as_candidate, grants_with, ask_vote, on_grants, may_start_election, on_yield, start_election, grants_vote}
+use Rattle.raft_spec.specs.Elections.{on_ask_vote, on_vote}
 use Rattle.raft_spec.specs.Replication.{take_entries, agrees, replaces_committed, on_append, on_ack, on_propose, on_beat, on_transfer}
 use Rattle.raft_spec.specs.Snapshots.{on_install, on_snapped, needs_snapshot}
 use Rattle.raft_spec.specs.Membership.{on_servers}
@@ -27,7 +29,7 @@ AllWithin k (m ∷ ms) = WithinWhat k m.what × AllWithin k ms
 
 what_more : (j k : ℕ) (w : What) → j ≤ k → WithinWhat j w → WithinWhat k w
 what_more j k (Install last front) le a = omega arith
-what_more j k (AskVote last) le a = tt
+what_more j k (AskVote last transfer) le a = tt
 what_more j k (Vote granted) le a = tt
 what_more j k (Append prev commit es) le a = tt
 what_more j k (Ack good index) le a = tt
@@ -69,9 +71,9 @@ counted_none : (voters_of : List Entry → List ℕ) (me : ℕ) (s : Node) (out 
 unfolding on_grants
 counted_none voters_of me s out a = cond_both (majority (voters_of s.log) (among s.grants)) _ _ MakesNone (λ e. a) (λ e. a)
 
-stand_none : (voters_of : List Entry → List ℕ) (me : ℕ) (s : Node) → MakesNone (start_election voters_of me s)
+stand_none : (transfer : Bool) (voters_of : List Entry → List ℕ) (me : ℕ) (s : Node) → MakesNone (start_election voters_of me s transfer)
 unfolding start_election
-stand_none voters_of me s = cond_both (may_start_election voters_of me s) _ _ MakesNone (λ e. counted_none voters_of me (as_candidate me s) _ (within_map 0 (ask_vote me (as_candidate me s)) (others (voters_of s.log) me) (λ v. tt))) (λ e. tt)
+stand_none transfer voters_of me s = cond_both (may_start_election voters_of me s) _ _ MakesNone (λ e. counted_none voters_of me (as_candidate me s) _ (within_map 0 (ask_vote me (as_candidate me s) transfer) (others (voters_of s.log) me) (λ v. tt))) (λ e. tt)
 
 on_ask_none : (me : ℕ) (s : Node) (from : ℕ) (last : LogEnd) → MakesNone (on_ask_vote me s from last)
 unfolding on_ask_vote
@@ -99,15 +101,15 @@ on_ack_none me s from true index = cond_both (is_leader s.role && among (peers s
 on_ack_none me s from false index = cond_both (is_leader s.role && among (peers s.servers me) from) _ _ MakesNone (λ e. tt) (λ e. tt)
 
 in_turn_none : (voters_of : List Entry → List ℕ) (me : ℕ) (s : Node) (from : ℕ) (w : What) → MakesNone (on_own_term voters_of me s from w)
-in_turn_none voters_of me s from (AskVote last) = on_ask_none me s from last
+in_turn_none voters_of me s from (AskVote last transfer) = on_ask_none me s from last
 in_turn_none voters_of me s from (Vote granted) = on_vote_none voters_of me s from granted
 in_turn_none voters_of me s from (Append prev commit es) = on_append_none me s from prev commit es
 in_turn_none voters_of me s from (Ack good index) = on_ack_none me s from good index
 in_turn_none voters_of me s from (Install last front) = on_install_none me s from last front
-in_turn_none voters_of me s from TimeoutNow = stand_none voters_of me s
+in_turn_none voters_of me s from TimeoutNow = stand_none true voters_of me s
 
 stale_none : (me : ℕ) (s : Node) (from : ℕ) (w : What) → MakesNone (on_older_term me s from w)
-stale_none me s from (AskVote last) = (tt, tt)
+stale_none me s from (AskVote last transfer) = (tt, tt)
 stale_none me s from (Vote granted) = tt
 stale_none me s from (Append prev commit es) = (tt, tt)
 stale_none me s from (Ack good index) = tt
@@ -115,15 +117,16 @@ stale_none me s from (Install last front) = (tt, tt)
 stale_none me s from TimeoutNow = tt
 
 rule_none : (voters_of : List Entry → List ℕ) (me : ℕ) (s : Node) (i : Input) → MakesNone (rule_of voters_of me s i)
-unfolding on_beat on_propose on_transfer on_snapped on_servers on_message
-rule_none voters_of me s (Local Timeout) = stand_none voters_of me s
+unfolding on_beat on_yield on_propose on_transfer on_snapped on_servers on_message
+rule_none voters_of me s (Local Timeout) = stand_none false voters_of me s
 rule_none voters_of me s (Local Beat) = cond_both (is_leader s.role) _ _ MakesNone (λ e. tt) (λ e. tt)
+rule_none voters_of me s (Local Yield) = cond_both (is_leader s.role && nat_lt s.term 4294967295) _ _ MakesNone (λ e. tt) (λ e. tt)
 rule_none voters_of me s (Local (Propose es)) = cond_both (is_leader s.role) _ _ MakesNone (λ e. tt) (λ e. tt)
 rule_none voters_of me s (Local (Transfer to)) = cond_both (is_leader s.role && not (to == me)) _ _ MakesNone (λ e. (tt, tt)) (λ e. tt)
 rule_none voters_of me s (Local (Snapped i)) = cond_both (nat_lt s.snapshot.index i && nat_le i s.commit) _ _ MakesNone (λ e. tt) (λ e. tt)
 rule_none voters_of me s (Local (UseServers servers)) = cond_both (is_leader s.role) _ _ MakesNone (λ e. tt) (λ e. tt)
 rule_none voters_of me s (Receive m) =
-    cond_both (in_range m) _ _ MakesNone
+    cond_both (in_range s.term m) _ _ MakesNone
     (λ e. cond_both (nat_lt m.term s.term) _ _ MakesNone (λ x. stale_none me s m.from m.what)
     (λ x. cond_both (nat_lt s.term m.term) _ _ MakesNone (λ y. in_turn_none voters_of me (in_newer_term s m.term) m.from m.what) (λ y. in_turn_none voters_of me s m.from m.what)))
     (λ e. tt)
@@ -150,6 +153,7 @@ raft_own : (voters_of : List Entry → List ℕ) (me : ℕ) (s : Node) (i : Inpu
 unfolding raft_step
 raft_own voters_of me s (Local Timeout) = finish_own voters_of me _ (rule_none voters_of me s (Local Timeout))
 raft_own voters_of me s (Local Beat) = finish_own voters_of me _ (rule_none voters_of me s (Local Beat))
+raft_own voters_of me s (Local Yield) = finish_own voters_of me _ (rule_none voters_of me s (Local Yield))
 raft_own voters_of me s (Local (Propose es)) = finish_own voters_of me _ (rule_none voters_of me s (Local (Propose es)))
 raft_own voters_of me s (Local (Transfer to)) = finish_own voters_of me _ (rule_none voters_of me s (Local (Transfer to)))
 raft_own voters_of me s (Local (Snapped i)) = finish_own voters_of me _ (rule_none voters_of me s (Local (Snapped i)))

@@ -153,7 +153,8 @@ install_later {h} {g} {u} {last} {front} vs l a =
     }
 
 pub what_later : {h g : Hist} (vs : Setup) (from to u : ℕ) (w : What) → Later h g → WhatOk vs h from to u w → WhatOk vs g from to u w
-what_later {h} {g} vs from to u (AskVote last) l a = (a.0, l.ballot from u (ne_along _ _ a.1 a.0) ∙ a.1, ap log_end (l.had from u (ne_along _ _ a.1 a.0)) ∙ a.2)
+what_later {h} {g} vs from to u (AskVote last transfer) l a =
+    (a.0, l.ballot from u (ne_along _ _ a.1 a.0) ∙ a.1, ap log_end (l.had from u (ne_along _ _ a.1 a.0)) ∙ a.2)
 what_later vs from to u (Vote true) l a = (a.0, l.ballot from u (ne_along _ _ a.1 a.0) ∙ a.1)
 what_later vs from to u (Vote false) l a = tt
 what_later {h} {g} vs from to u (Append prev commit es) l a = (λ e. a.0 (sym (l.who u a.1.leads) ∙ e), append_later vs l a.1)

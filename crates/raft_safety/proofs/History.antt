@@ -131,7 +131,7 @@ pub record InstallOk (vs : Setup) (h : Hist) (u : ℕ) (last : LogEnd) (front : 
   pub settled : Committed vs h (h.log_of u) u last.index
 
 abbrev pub WhatOk : Setup → Hist → ℕ → ℕ → ℕ → What → Type 0
-WhatOk vs h from to u (AskVote last) = (from ≢ 0) × (h.ballot from u ≡ from) × (log_end (h.had from u) ≡ last)
+WhatOk vs h from to u (AskVote last transfer) = (from ≢ 0) × (h.ballot from u ≡ from) × (log_end (h.had from u) ≡ last)
 WhatOk vs h from to u (Vote true) = (to ≢ 0) × (h.ballot from u ≡ to)
 WhatOk vs h from to u (Vote false) = Unit {0}
 WhatOk vs h from to u (Append prev commit es) = (h.who u ≢ to) × AppendOk vs h u prev commit es

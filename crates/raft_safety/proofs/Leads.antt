@@ -5,7 +5,8 @@ use Rattle.std.proofs.lemmas.List.{length-take, take_min, take_all}
 use Rattle.std.proofs.lemmas.Bool.{cond_both, and_parts, eqb-true, leb-true, le-leb}
 use Rattle.raft_spec.specs.Log.{Entry, term_at}
 use Rattle.raft_spec.specs.Node.{Recipients, Only, Nobody, Everyone, Ack, Outcome, Node, Server, among, is_leader, majority, peers}
-use Rattle.raft_spec.specs.Outcomes.{updated, with_log, with_progress}
+use Rattle.raft_spec.specs.Outcomes.{updated, with_log, with_progress, in_newer_term}
+use Rattle.raft_spec.specs.Elections.{on_yield}
 use Rattle.raft_spec.specs.Replication.{on_ack, on_beat, on_propose, on_transfer}
 use Rattle.raft_spec.specs.Snapshots.{needs_snapshot}
 use Rattle.raft_spec.specs.Membership.{on_servers, with_servers}
@@ -17,7 +18,7 @@ use Rattle.raft_safety.proofs.Majorities.{majority_mono}
 use Rattle.raft_safety.proofs.History.{Hist, HistOk, LeaderOk, NodeOk, AppendOk, InstallOk, WhatOk, MessageOk, Decided, Committed, decided}
 use Rattle.raft_safety.proofs.Growth.{ne_along}
 use Rattle.raft_safety.proofs.Bases.{base, with_base, base_commit, committed_within, committed_down}
-use Rattle.raft_safety.proofs.Reaches.{all_among, off, all_append, still}
+use Rattle.raft_safety.proofs.Reaches.{all_among, off, all_append, still, in_term_ok}
 use Rattle.raft_safety.proofs.Shapes.{Far, peers_far, index_up}
 use Rattle.raft_safety.proofs.Changes.{fresh_fine}
 use Rattle.raft_safety.proofs.Votes.{Fine, not_both, appends}
@@ -74,6 +75,12 @@ on_propose_fine {vs} {h} me s es ok a m =
 pub on_beat_fine : {vs : Setup} {h : Hist} (me : ℕ) (s : Node) → HistOk vs h → NodeOk vs h me s → Fine vs h me (on_beat s)
 unfolding on_beat
 on_beat_fine {vs} {h} me s ok a = cond_both (is_leader s.role) _ _ (Fine vs h me) (λ e. still s [] ok a tt) (λ e. still s [] ok a tt)
+
+pub on_yield_fine : {vs : Setup} {h : Hist} (me : ℕ) (s : Node) → HistOk vs h → NodeOk vs h me s → Fine vs h me (on_yield s)
+unfolding on_yield
+on_yield_fine {vs} {h} me s ok a = cond_both (is_leader s.role && nat_lt s.term 4294967295) _ _ (Fine vs h me)
+    (λ e. still (in_newer_term s (suc s.term)) [] ok (in_term_ok s (suc s.term) (omega arith) a) tt)
+    (λ e. still s [] ok a tt)
 
 pub on_transfer_fine : {vs : Setup} {h : Hist} (me : ℕ) (s : Node) (to : ℕ) → HistOk vs h → NodeOk vs h me s → Fine vs h me (on_transfer me s to)
 unfolding on_transfer

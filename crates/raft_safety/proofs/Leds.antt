@@ -99,7 +99,7 @@ pub entries_led_hold : EntriesLed
 entries_led_hold vs es n = by_index vs es (log_at vs es n) ((led_so vs es).so.nodes n)
 
 what_led : (vs : Setup) (es : List Event) (h : Hist) (from to u : ℕ) (w : What) → WhatOk vs h from to u w → WhatFit (LedFront vs es) h u w → WhatLed vs es w
-what_led vs es h from to u (AskVote last) ok a = tt
+what_led vs es h from to u (AskVote last transfer) ok a = tt
 what_led vs es h from to u (Vote granted) ok a = tt
 what_led vs es h from to u (Append prev commit entries) ok a =
     let p = ok.1.piece in

@@ -79,7 +79,7 @@ not_lost n s from to (Append prev commit es) is ok a m = (not_leader n to s is a
 not_lost n s from to (Install last front) is ok a m = not_leader n to s is a m.0
 not_lost n s from to (Ack true index) is ok a m = λ lead. let l = a.leading lead in let b = ok.acks_within from s.term in omega (arith, m, ap length l.log)
 not_lost n s from to (Ack false index) is ok a m = tt
-not_lost n s from to (AskVote last) is ok a m = tt
+not_lost n s from to (AskVote last transfer) is ok a m = tt
 not_lost n s from to (Vote granted) is ok a m = tt
 not_lost n s from to TimeoutNow is ok a m = tt
 

@@ -4,9 +4,10 @@ use Rattle.std.specs.Prelude.{◌==◌, ◌&&◌, not, nat_lt, nat_le, map}
 use Rattle.std.proofs.lemmas.List.{length-take-le}
 use Rattle.std.proofs.lemmas.Bool.{cond_both, or_cases, leb-true}
 use Rattle.raft_spec.specs.Log.{Entry, LogEnd, nth_term, term_at, merged, accept, accept_above, matches}
-use Rattle.raft_spec.specs.Node.{What, AskVote, Vote, Append, Ack, Install, TimeoutNow, Message, Node, Outcome, Recipients, Nobody, Everyone, Only, among, others, peers, majority, is_leader, is_candidate, Timeout, Beat, Propose, Transfer, Snapped, UseServers, Input, Local, Receive}
+use Rattle.raft_spec.specs.Node.{What, AskVote, Vote, Append, Ack, Install, TimeoutNow, Message, Node, Outcome, Recipients, Nobody, Everyone, Only, among, others, peers, majority, is_leader, is_candidate, Timeout, Beat, Yield, Propose, Transfer, Snapped, UseServers, Input, Local, Receive}
 use Rattle.raft_spec.specs.Outcomes.{in_newer_term, as_follower, with_log, with_vote, with_grants, barrier, answer}
-use Rattle.raft_spec.specs.Elections.{as_candidate, on_grants, ask_vote, may_start_election, start_election, grants_vote, on_ask_vote, grants_with, on_vote}
+use Rattle.raft_spec.specs.Elections.{as_candidate, on_grants, ask_vote, may_start_election, on_yield, start_election, grants_vote, on_ask_vote}
+use Rattle.raft_spec.specs.Elections.{grants_with, on_vote}
 use Rattle.raft_spec.specs.Replication.{agrees, take_entries, replaces_committed, on_append, good_ack, bad_ack, on_ack, on_propose, on_beat, on_transfer}
 use Rattle.raft_spec.specs.Snapshots.{installed, on_install, on_snapped}
 use Rattle.raft_spec.specs.Membership.{with_servers, on_servers, gained}
@@ -21,7 +22,7 @@ use Rattle.raft_safety.proofs.Shapes.{rule_of}
 
 -- what a message carries at an index
 abbrev pub InWhat : What → ℕ → ℕ → Type 0
-InWhat (AskVote last) j t = ⊥
+InWhat (AskVote last transfer) j t = ⊥
 InWhat (Vote granted) j t = ⊥
 InWhat (Append prev commit es) j t = (k : ℕ) × (j ≡ suc (prev.index + k)) × (nth_term es k ≡ t)
 InWhat (Ack good index) j t = ⊥
@@ -39,7 +40,7 @@ pub data Step (s : Node) (i : Input) (d : Node) : Type 0 where
 
 -- a message with no entries
 abbrev pub Bare : What → Type 0
-Bare (AskVote last) = Unit {0}
+Bare (AskVote last transfer) = Unit {0}
 Bare (Vote granted) = Unit {0}
 Bare (Append prev commit es) = ⊥
 Bare (Ack good index) = Unit {0}
@@ -68,10 +69,11 @@ counted_ruled voters_of me s c i out e b = cond_both (majority (voters_of c.log)
     (λ z. record { step = own refl (a_barrier (ap (λ l. l ++ barrier c.term ∷ []) e)); bare = b })
     (λ z. still s i c out Nobody e b)
 
-stand_ruled : (voters_of : List Entry → List ℕ) (me : ℕ) (s b : Node) (i : Input) → s.log ≡ b.log → Ruled b i (start_election voters_of me s)
+stand_ruled : (transfer : Bool) (voters_of : List Entry → List ℕ) (me : ℕ) (s b : Node) (i : Input) → s.log ≡ b.log
+    → Ruled b i (start_election voters_of me s transfer)
 unfolding start_election
-stand_ruled voters_of me s b i e = cond_both (may_start_election voters_of me s) _ _ (Ruled b i)
-    (λ z. counted_ruled voters_of me b (as_candidate me s) i _ e (bare_map (ask_vote me (as_candidate me s)) (others (voters_of s.log) me) (λ x. tt)))
+stand_ruled transfer voters_of me s b i e = cond_both (may_start_election voters_of me s) _ _ (Ruled b i)
+    (λ z. counted_ruled voters_of me b (as_candidate me s) i _ e (bare_map (ask_vote me (as_candidate me s) transfer) (others (voters_of s.log) me) (λ x. tt)))
     (λ z. still b i s [] Nobody e tt)
 
 on_ask_ruled : (me : ℕ) (s b : Node) (i : Input) (from : ℕ) (last : LogEnd) → s.log ≡ b.log → Ruled b i (on_ask_vote me s from last)
@@ -161,15 +163,15 @@ on_ack_ruled me s b i from true index e = cond_both (is_leader s.role && among (
 on_ack_ruled me s b i from false index e = cond_both (is_leader s.role && among (peers s.servers me) from) _ _ (Ruled b i) (λ z. still b i (bad_ack s from index) [] _ e tt) (λ z. still b i s [] Nobody e tt)
 
 in_turn_ruled : (voters_of : List Entry → List ℕ) (me : ℕ) (s b : Node) (m : Message) (what : What) → m.what ≡ what → s.log ≡ b.log → s.snapshot.index ≤ length s.log → Ruled b (Receive m) (on_own_term voters_of me s m.from what)
-in_turn_ruled voters_of me s b m (AskVote last) w e low = on_ask_ruled me s b (Receive m) m.from last e
+in_turn_ruled voters_of me s b m (AskVote last transfer) w e low = on_ask_ruled me s b (Receive m) m.from last e
 in_turn_ruled voters_of me s b m (Vote granted) w e low = on_vote_ruled voters_of me s b (Receive m) m.from granted e
 in_turn_ruled voters_of me s b m (Append prev commit es) w e low = on_append_ruled me s b m prev commit es w e low
 in_turn_ruled voters_of me s b m (Ack good index) w e low = on_ack_ruled me s b (Receive m) m.from good index e
 in_turn_ruled voters_of me s b m (Install last front) w e low = on_install_ruled me s b m last front w e
-in_turn_ruled voters_of me s b m TimeoutNow w e low = stand_ruled voters_of me s b (Receive m) e
+in_turn_ruled voters_of me s b m TimeoutNow w e low = stand_ruled true voters_of me s b (Receive m) e
 
 stale_ruled : (me : ℕ) (s : Node) (i : Input) (from : ℕ) (what : What) → Ruled s i (on_older_term me s from what)
-stale_ruled me s i from (AskVote last) = still s i s _ Nobody refl (tt, tt)
+stale_ruled me s i from (AskVote last transfer) = still s i s _ Nobody refl (tt, tt)
 stale_ruled me s i from (Vote granted) = still s i s [] Nobody refl tt
 stale_ruled me s i from (Append prev commit es) = still s i s _ Nobody refl (tt, tt)
 stale_ruled me s i from (Ack good index) = still s i s [] Nobody refl tt
@@ -179,7 +181,7 @@ stale_ruled me s i from TimeoutNow = still s i s [] Nobody refl tt
 on_message_ruled : (voters_of : List Entry → List ℕ) (me : ℕ) (s : Node) (m : Message) → s.snapshot.index ≤ length s.log → Ruled s (Receive m) (on_message voters_of me s m)
 unfolding on_message
 on_message_ruled voters_of me s m low =
-    cond_both (in_range m) _ _ (Ruled s (Receive m))
+    cond_both (in_range s.term m) _ _ (Ruled s (Receive m))
     (λ z. cond_both (nat_lt m.term s.term) _ _ (Ruled s (Receive m)) (λ y. stale_ruled me s (Receive m) m.from m.what)
     (λ y. cond_both (nat_lt s.term m.term) _ _ (Ruled s (Receive m)) (λ x. in_turn_ruled voters_of me (in_newer_term s m.term) s m m.what refl refl low) (λ x. in_turn_ruled voters_of me s s m m.what refl refl low)))
     (λ z. still s (Receive m) s [] Nobody refl tt)
@@ -189,9 +191,12 @@ unfolding on_propose
 on_propose_ruled s es = cond_both (is_leader s.role) _ _ (Ruled s (Local (Propose es))) (λ z. record { step = own z (proposed es refl z refl refl); bare = tt }) (λ z. still s (Local (Propose es)) s [] Nobody refl tt)
 
 rule_ruled : (voters_of : List Entry → List ℕ) (me : ℕ) (s : Node) (i : Input) → s.snapshot.index ≤ length s.log → Ruled s i (rule_of voters_of me s i)
-unfolding on_beat on_transfer on_snapped on_servers
-rule_ruled voters_of me s (Local Timeout) low = stand_ruled voters_of me s s (Local Timeout) refl
+unfolding on_beat on_yield on_transfer on_snapped on_servers
+rule_ruled voters_of me s (Local Timeout) low = stand_ruled false voters_of me s s (Local Timeout) refl
 rule_ruled voters_of me s (Local Beat) low = cond_both (is_leader s.role) _ _ (Ruled s (Local Beat)) (λ z. still s (Local Beat) s [] Everyone refl tt) (λ z. still s (Local Beat) s [] Nobody refl tt)
+rule_ruled voters_of me s (Local Yield) low =
+    cond_both (is_leader s.role && nat_lt s.term 4294967295) _ _ (Ruled s (Local Yield))
+    (λ z. still s (Local Yield) (in_newer_term s (suc s.term)) [] Nobody refl tt) (λ z. still s (Local Yield) s [] Nobody refl tt)
 rule_ruled voters_of me s (Local (Propose es)) low = on_propose_ruled s es
 rule_ruled voters_of me s (Local (Transfer to)) low = cond_both (is_leader s.role && not (to == me)) _ _ (Ruled s (Local (Transfer to))) (λ z. still s (Local (Transfer to)) s (answer me s to TimeoutNow ∷ []) Nobody refl (tt, tt)) (λ z. still s (Local (Transfer to)) s [] Nobody refl tt)
 rule_ruled voters_of me s (Local (Snapped i)) low = cond_both (nat_lt s.snapshot.index i && nat_le i s.commit) _ _ (Ruled s (Local (Snapped i))) (λ z. still s (Local (Snapped i)) _ [] Nobody refl tt) (λ z. still s (Local (Snapped i)) s [] Nobody refl tt)
@@ -252,6 +257,7 @@ raft_stepped : (voters_of : List Entry → List ℕ) (me : ℕ) (s : Node) (i : 
 unfolding raft_step
 raft_stepped voters_of me s (Local Timeout) low = finish_stepped voters_of me s _ _ (rule_ruled voters_of me s (Local Timeout) low)
 raft_stepped voters_of me s (Local Beat) low = finish_stepped voters_of me s _ _ (rule_ruled voters_of me s (Local Beat) low)
+raft_stepped voters_of me s (Local Yield) low = finish_stepped voters_of me s _ _ (rule_ruled voters_of me s (Local Yield) low)
 raft_stepped voters_of me s (Local (Propose es)) low = finish_stepped voters_of me s _ _ (rule_ruled voters_of me s (Local (Propose es)) low)
 raft_stepped voters_of me s (Local (Transfer to)) low = finish_stepped voters_of me s _ _ (rule_ruled voters_of me s (Local (Transfer to)) low)
 raft_stepped voters_of me s (Local (Snapped i)) low = finish_stepped voters_of me s _ _ (rule_ruled voters_of me s (Local (Snapped i)) low)

@@ -4,9 +4,9 @@ use Rattle.std.specs.Prelude.{◌==◌, ◌&&◌, not, nat_lt, nat_le}
 use Rattle.std.specs.List.{filter}
 use Rattle.std.proofs.lemmas.Bool.{cond_both, and_parts, or_cases, or_left, or_right, eqb-true, eqb-false, not-true, ltb-true, leb-false}
 use Rattle.raft_spec.specs.Log.{Entry, LogEnd, matches}
-use Rattle.raft_spec.specs.Node.{What, AskVote, Vote, Append, Ack, Install, TimeoutNow, Message, Node, Server, Outcome, Recipients, Nobody, Everyone, Only, among, others, peers, majority, is_leader, is_candidate, Timeout, Beat, Propose, Transfer, Snapped, UseServers, Input, Local, Receive}
+use Rattle.raft_spec.specs.Node.{What, AskVote, Vote, Append, Ack, Install, TimeoutNow, Message, Node, Server, Outcome, Recipients, Nobody, Everyone, Only, among, others, peers, majority, is_leader, is_candidate, Timeout, Beat, Yield, Propose, Transfer, Snapped, UseServers, Input, Local, Receive}
 use Rattle.raft_spec.specs.Outcomes.{quiet, in_newer_term, with_grants}
-use Rattle.raft_spec.specs.Elections.{as_candidate, grants_with, on_grants, may_start_election, start_election, grants_vote, on_ask_vote, on_vote}
+use Rattle.raft_spec.specs.Elections.{as_candidate, grants_with, on_grants, may_start_election, on_yield, start_election, grants_vote, on_ask_vote, on_vote}
 use Rattle.raft_spec.specs.Replication.{take_entries, agrees, replaces_committed, on_append, on_ack, on_propose, on_beat, on_transfer}
 use Rattle.raft_spec.specs.Snapshots.{on_install, on_snapped}
 use Rattle.raft_spec.specs.Membership.{on_servers}
@@ -76,9 +76,9 @@ stands_id voters_of me s e =
     let c : (voter && id) ≡ true = (and_parts (voter && id) role b).0 in
     ltb-true 0 me (and_parts voter id c).1
 
-stand_plain : (voters_of : List Entry → List ℕ) (me : ℕ) (s : Node) → Plain me s (start_election voters_of me s)
+stand_plain : (transfer : Bool) (voters_of : List Entry → List ℕ) (me : ℕ) (s : Node) → Plain me s (start_election voters_of me s transfer)
 unfolding start_election
-stand_plain voters_of me s =
+stand_plain transfer voters_of me s =
     cond_both (may_start_election voters_of me s) _ _ (Plain me s)
     (λ e.
     let c = counted_plain voters_of me (as_candidate me s) _ in
@@ -137,15 +137,15 @@ on_ack_plain me s from false index =
     (λ e. quiet_plain me s)
 
 in_turn_plain : (voters_of : List Entry → List ℕ) (me : ℕ) (s : Node) (from : ℕ) (w : What) → Plain me s (on_own_term voters_of me s from w)
-in_turn_plain voters_of me s from (AskVote last) = on_ask_plain me s from last
+in_turn_plain voters_of me s from (AskVote last transfer) = on_ask_plain me s from last
 in_turn_plain voters_of me s from (Vote granted) = on_vote_plain voters_of me s from granted
 in_turn_plain voters_of me s from (Append prev commit es) = on_append_plain me s from prev commit es
 in_turn_plain voters_of me s from (Ack good index) = on_ack_plain me s from good index
 in_turn_plain voters_of me s from (Install last front) = on_install_plain me s from last front
-in_turn_plain voters_of me s from TimeoutNow = stand_plain voters_of me s
+in_turn_plain voters_of me s from TimeoutNow = stand_plain true voters_of me s
 
 stale_plain : (me : ℕ) (s : Node) (from : ℕ) (w : What) → Plain me s (on_older_term me s from w)
-stale_plain me s from (AskVote last) = record { kind = logs refl refl refl; up = omega arith; far = tt }
+stale_plain me s from (AskVote last transfer) = record { kind = logs refl refl refl; up = omega arith; far = tt }
 stale_plain me s from (Append prev commit es) = record { kind = logs refl refl refl; up = omega arith; far = tt }
 stale_plain me s from (Install last front) = record { kind = logs refl refl refl; up = omega arith; far = tt }
 stale_plain me s from (Vote granted) = quiet_plain me s
@@ -165,7 +165,7 @@ from_taken me s t d lt p = record { kind = go p.kind; up = p.up; far = p.far }
 pub on_message_plain : (voters_of : List Entry → List ℕ) (me : ℕ) (s : Node) (m : Message) → Plain me s (on_message voters_of me s m)
 unfolding on_message
 on_message_plain voters_of me s m =
-    cond_both (in_range m) _ _ (Plain me s)
+    cond_both (in_range s.term m) _ _ (Plain me s)
     (λ e. cond_both (nat_lt m.term s.term) _ _ (Plain me s) (λ x. stale_plain me s m.from m.what)
     (λ x. cond_both (nat_lt s.term m.term) _ _ (Plain me s) (λ y. from_taken me s m.term _ (ltb-true _ _ y) (in_turn_plain voters_of me (in_newer_term s m.term) m.from m.what)) (λ y. in_turn_plain voters_of me s m.from m.what)))
     (λ e. quiet_plain me s)
@@ -179,8 +179,9 @@ on_servers_plain me s servers =
 
 -- the rule of an input, before the end of the step
 abbrev pub rule_of : (List Entry → List ℕ) → ℕ → Node → Input → Outcome
-rule_of voters_of me s (Local Timeout) = start_election voters_of me s
+rule_of voters_of me s (Local Timeout) = start_election voters_of me s false
 rule_of voters_of me s (Local Beat) = on_beat s
+rule_of voters_of me s (Local Yield) = on_yield s
 rule_of voters_of me s (Local (Propose es)) = on_propose s es
 rule_of voters_of me s (Local (Transfer to)) = on_transfer me s to
 rule_of voters_of me s (Local (Snapped i)) = on_snapped s i
@@ -188,9 +189,12 @@ rule_of voters_of me s (Local (UseServers servers)) = on_servers me s servers
 rule_of voters_of me s (Receive m) = on_message voters_of me s m
 
 pub rule_plain : (voters_of : List Entry → List ℕ) (me : ℕ) (s : Node) (i : Input) → Plain me s (rule_of voters_of me s i)
-unfolding on_beat on_propose on_transfer
-rule_plain voters_of me s (Local Timeout) = stand_plain voters_of me s
+unfolding on_beat on_yield on_propose on_transfer
+rule_plain voters_of me s (Local Timeout) = stand_plain false voters_of me s
 rule_plain voters_of me s (Local Beat) = cond_both (is_leader s.role) _ _ (Plain me s) (λ e. record { kind = logs refl refl refl; up = omega arith; far = tt }) (λ e. quiet_plain me s)
+rule_plain voters_of me s (Local Yield) =
+    cond_both (is_leader s.role && nat_lt s.term 4294967295) _ _ (Plain me s) (λ e. record { kind = took (omega arith) refl; up = omega arith; far = tt })
+    (λ e. quiet_plain me s)
 rule_plain voters_of me s (Local (Propose es)) = cond_both (is_leader s.role) _ _ (Plain me s) (λ e. record { kind = metas refl refl; up = omega arith; far = tt }) (λ e. quiet_plain me s)
 rule_plain voters_of me s (Local (Transfer to)) = cond_both (is_leader s.role && not (to == me)) _ _ (Plain me s) (λ e. record { kind = logs refl refl refl; up = omega arith; far = tt }) (λ e. quiet_plain me s)
 rule_plain voters_of me s (Local (Snapped i)) = on_snap_plain me s i
@@ -231,6 +235,7 @@ pub step_plain : (voters_of : List Entry → List ℕ) (me : ℕ) (s : Node) (i 
 unfolding raft_step
 step_plain voters_of me s (Local Timeout) = finish_plain voters_of me s _ (rule_plain voters_of me s (Local Timeout))
 step_plain voters_of me s (Local Beat) = finish_plain voters_of me s _ (rule_plain voters_of me s (Local Beat))
+step_plain voters_of me s (Local Yield) = finish_plain voters_of me s _ (rule_plain voters_of me s (Local Yield))
 step_plain voters_of me s (Local (Propose es)) = finish_plain voters_of me s _ (rule_plain voters_of me s (Local (Propose es)))
 step_plain voters_of me s (Local (Transfer to)) = finish_plain voters_of me s _ (rule_plain voters_of me s (Local (Transfer to)))
 step_plain voters_of me s (Local (Snapped i)) = finish_plain voters_of me s _ (rule_plain voters_of me s (Local (Snapped i)))

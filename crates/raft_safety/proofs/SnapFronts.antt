@@ -16,7 +16,7 @@ use Rattle.raft_safety.proofs.Chosens.{applied, applied_chosen_holds, cuts_appli
 use Rattle.raft_safety.proofs.Fronts.{snapshots_chosen_holds}
 
 what_front : {vs : Setup} {h : Hist} (c : List Entry) (b from to u : ℕ) (w : What) → HistOk vs h → Committed vs h c b (length c) → WithinWhat (length c) w → WhatOk vs h from to u w → WhatFront c w
-what_front c b from to u (AskVote last) ok s l a = tt
+what_front c b from to u (AskVote last transfer) ok s l a = tt
 what_front c b from to u (Vote granted) ok s l a = tt
 what_front c b from to u (Append prev commit es) ok s l a = tt
 what_front c b from to u (Ack good index) ok s l a = tt

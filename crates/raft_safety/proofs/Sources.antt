@@ -55,7 +55,7 @@ RunFit Q vs w (e ∷ es) = EventFit Q vs w e × RunFit Q vs (happens vs w e) es
 
 -- the front of its term's leader's log that a message stands for
 abbrev pub WhatFit : (List Entry → Type 0) → Hist → ℕ → What → Type 0
-WhatFit Q h u (AskVote last) = Unit {0}
+WhatFit Q h u (AskVote last transfer) = Unit {0}
 WhatFit Q h u (Vote granted) = Unit {0}
 WhatFit Q h u (Append prev commit es) = (i : ℕ) → 0 < i → i ≤ prev.index + length es → Q (take i (h.log_of u))
 WhatFit Q h u (Ack good index) = Unit {0}
@@ -85,7 +85,7 @@ KeepsFit Q (Send m ∷ acts) = KeepsFit Q acts
 
 module _ (Q : List Entry → Type 0) where
   what_fit_later : {h g : Hist} (vs : Setup) (from to u : ℕ) (w : What) → Later h g → WhatOk vs h from to u w → WhatFit Q h u w → WhatFit Q g u w
-  what_fit_later vs from to u (AskVote last) l ok a = tt
+  what_fit_later vs from to u (AskVote last transfer) l ok a = tt
   what_fit_later vs from to u (Vote granted) l ok a = tt
   what_fit_later vs from to u (Append prev commit es) l ok a = λ i pos le. let x = ok.1.piece.within in subst Q (agree_down i (omega arith) (l.logs u)).same (a i pos le)
   what_fit_later vs from to u (Ack good index) l ok a = tt
@@ -140,7 +140,7 @@ module _ (Q : List Entry → Type 0) where
       found inside e q = subst Q ((meet (sound_later l (ok.sound m.term)) snd).at j inside le (e ∙ sym is)).same q
 
       go : (what : What) → WhatOk vs h m.from m.to m.term what → WhatFit Q h m.term what → InWhat what j t → Q (take j log)
-      go (AskVote last) w a c = absurd c
+      go (AskVote last transfer) w a c = absurd c
       go (Vote granted) w a c = absurd c
       go (Ack good index) w a c = absurd c
       go TimeoutNow w a c = absurd c
@@ -189,7 +189,7 @@ module _ (Q : List Entry → Type 0) where
           subst Q (ap (take i) (sym e)) (q i pos (omega arith))
 
       go : (what : What) → WhatOk vs h m.from m.to m.term what → Bare what ⊎ ((is_leader d.role ≡ true) × (m.term ≡ d.term)) → WhatFit Q h m.term what
-      go (AskVote last) w x = tt
+      go (AskVote last transfer) w x = tt
       go (Vote granted) w x = tt
       go (Ack good index) w x = tt
       go TimeoutNow w x = tt

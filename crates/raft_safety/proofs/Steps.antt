@@ -1,9 +1,9 @@
 -- One step of a node, and the acts of its account: whatever front of them stands is fit.
 use Rattle.std.proofs.Common.{append_assoc, ◌≡◌, ℕ, zero, suc, ◌+◌, ◌-◌, ◌<◌, ◌≤◌, true, List, [], ◌∷◌, ◌++◌, length, length-append, take, refl, sym, ap, ◌∙◌, subst, ⊎_elim, inl, arith}
-use Rattle.std.specs.Prelude.{nat_lt}
+use Rattle.std.specs.Prelude.{false, nat_lt}
 use Rattle.std.proofs.lemmas.Bool.{cond_both, cases_lt, ltb-true, ltb-false}
 use Rattle.std.proofs.lemmas.List.{take-append-le}
-use Rattle.raft_spec.specs.Node.{Outcome, What, AskVote, Vote, Append, Ack, Install, TimeoutNow, Message, Node, Timeout, Beat, Propose, Transfer, Snapped, UseServers, Input, Local, Receive}
+use Rattle.raft_spec.specs.Node.{Outcome, What, AskVote, Vote, Append, Ack, Install, TimeoutNow, Message, Node, Timeout, Beat, Yield, Propose, Transfer, Snapped, UseServers, Input, Local, Receive}
 use Rattle.raft_spec.specs.Outcomes.{in_newer_term}
 use Rattle.raft_spec.specs.Receiving.{on_own_term, on_older_term, in_range, on_message}
 use Rattle.raft_spec.specs.Steps.{raft_step}
@@ -19,18 +19,18 @@ use Rattle.raft_safety.proofs.Shapes.{Apart, logs, metas, took, stood, Plain, qu
 use Rattle.raft_safety.proofs.Votes.{Fine, on_ask_fine, on_vote_fine, stand_fine}
 use Rattle.raft_safety.proofs.Appends.{on_append_fine}
 use Rattle.raft_safety.proofs.Snaps.{on_install_fine, on_snap_fine}
-use Rattle.raft_safety.proofs.Leads.{on_ack_fine, on_propose_fine, on_beat_fine, on_transfer_fine, on_servers_fine, finish_fine, serve_fine}
+use Rattle.raft_safety.proofs.Leads.{on_ack_fine, on_propose_fine, on_beat_fine, on_yield_fine, on_transfer_fine, on_servers_fine, finish_fine, serve_fine}
 
 in_turn_fine : {vs : Setup} {h : Hist} (me : ℕ) (s : Node) (from : ℕ) (w : What) → HistOk vs h → NodeOk vs h me s → WhatOk vs h from me s.term w → Fine vs h me (on_own_term (voters_after vs) me s from w)
-in_turn_fine me s from (AskVote last) ok a w = on_ask_fine me s from last ok a w
+in_turn_fine me s from (AskVote last transfer) ok a w = on_ask_fine transfer me s from last ok a w
 in_turn_fine me s from (Vote granted) ok a w = on_vote_fine me s from granted ok a w
 in_turn_fine me s from (Append prev commit es) ok a w = on_append_fine me s from prev commit es ok a w.1
 in_turn_fine me s from (Ack good index) ok a w = on_ack_fine me s from good index ok a w
 in_turn_fine me s from (Install last front) ok a w = on_install_fine me s from last front ok a w.1
-in_turn_fine me s from TimeoutNow ok a w = stand_fine me s ok a
+in_turn_fine me s from TimeoutNow ok a w = stand_fine true me s ok a
 
 stale_fine : {vs : Setup} {h : Hist} (me : ℕ) (s : Node) (from : ℕ) (w : What) → HistOk vs h → NodeOk vs h me s → Fine vs h me (on_older_term me s from w)
-stale_fine me s from (AskVote last) ok a = still s _ ok a (tt, tt)
+stale_fine me s from (AskVote last transfer) ok a = still s _ ok a (tt, tt)
 stale_fine me s from (Vote granted) ok a = still s [] ok a tt
 stale_fine me s from (Append prev commit es) ok a = still s _ ok a (tt, tt)
 stale_fine me s from (Install last front) ok a = still s _ ok a (tt, tt)
@@ -41,7 +41,7 @@ on_message_fine : {vs : Setup} {h : Hist} (s : Node) (m : Message) → HistOk vs
 unfolding on_message
 on_message_fine {vs} {h} s m ok a w =
     let F = Fine vs h m.to in
-    cond_both (in_range m) _ _ F
+    cond_both (in_range s.term m) _ _ F
     (λ e. cond_both (nat_lt m.term s.term) _ _ F (λ x. stale_fine m.to s m.from m.what ok a)
     (λ x. cond_both (nat_lt s.term m.term) _ _ F
     (λ y. in_turn_fine m.to (in_newer_term s m.term) m.from m.what ok (in_term_ok s m.term (ltb-true _ _ y) a) w)
@@ -70,8 +70,9 @@ inputs_later vs n [] l w = tt
 inputs_later vs n (i ∷ is) l w = (input_later vs n i l w.0, inputs_later vs n is l w.1)
 
 pub rule_fine : {vs : Setup} {h : Hist} (n : ℕ) (s : Node) (i : Input) → HistOk vs h → NodeOk vs h n s → InputOk vs h n i → may_take vs s i ≡ true → Fine vs h n (rule_of (voters_after vs) n s i)
-rule_fine n s (Local Timeout) ok a w m = stand_fine n s ok a
+rule_fine n s (Local Timeout) ok a w m = stand_fine false n s ok a
 rule_fine n s (Local Beat) ok a w m = on_beat_fine n s ok a
+rule_fine n s (Local Yield) ok a w m = on_yield_fine n s ok a
 rule_fine n s (Local (Propose es)) ok a w m = on_propose_fine n s es ok a m
 rule_fine n s (Local (Transfer to)) ok a w m = on_transfer_fine n s to ok a
 rule_fine n s (Local (Snapped i)) ok a w m = on_snap_fine n s i ok a
@@ -83,6 +84,7 @@ pub raft_fine : {vs : Setup} {h : Hist} (n : ℕ) (s : Node) (i : Input) → His
 unfolding raft_step
 raft_fine {vs} n s (Local Timeout) ok a w m = finish_fine n _ (rule_plain (voters_after vs) n s (Local Timeout)).far (rule_fine n s (Local Timeout) ok a w m)
 raft_fine {vs} n s (Local Beat) ok a w m = finish_fine n _ (rule_plain (voters_after vs) n s (Local Beat)).far (rule_fine n s (Local Beat) ok a w m)
+raft_fine {vs} n s (Local Yield) ok a w m = finish_fine n _ (rule_plain (voters_after vs) n s (Local Yield)).far (rule_fine n s (Local Yield) ok a w m)
 raft_fine {vs} n s (Local (Propose es)) ok a w m = finish_fine n _ (rule_plain (voters_after vs) n s (Local (Propose es))).far (rule_fine n s (Local (Propose es)) ok a w m)
 raft_fine {vs} n s (Local (Transfer to)) ok a w m = finish_fine n _ (rule_plain (voters_after vs) n s (Local (Transfer to))).far (rule_fine n s (Local (Transfer to)) ok a w m)
 raft_fine {vs} n s (Local (Snapped i)) ok a w m = finish_fine n _ (rule_plain (voters_after vs) n s (Local (Snapped i))).far (rule_fine n s (Local (Snapped i)) ok a w m)

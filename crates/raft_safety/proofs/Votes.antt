@@ -43,9 +43,10 @@ no_leader {vs} {h} {n} s z ok a e =
     let mine = ok.own s.term leads in
     l.id (sym l.who ∙ sym mine ∙ ap (λ k. h.ballot k s.term) l.who ∙ a.vote ∙ z)
 
-pub on_ask_fine : {vs : Setup} {h : Hist} (me : ℕ) (s : Node) (from : ℕ) (last : LogEnd) → HistOk vs h → NodeOk vs h me s → WhatOk vs h from me s.term (AskVote last) → Fine vs h me (on_ask_vote me s from last)
+pub on_ask_fine : (transfer : Bool) {vs : Setup} {h : Hist} (me : ℕ) (s : Node) (from : ℕ) (last : LogEnd) → HistOk vs h → NodeOk vs h me s
+    → WhatOk vs h from me s.term (AskVote last transfer) → Fine vs h me (on_ask_vote me s from last)
 unfolding on_ask_vote may_grant
-on_ask_fine {vs} {h} me s from last ok a w =
+on_ask_fine transfer {vs} {h} me s from last ok a w =
     cond_both (grants_vote s from last) _ _ (Fine vs h me)
     (λ e. let p = and_parts _ _ e in ⊎_elim (λ (x : (s.vote == 0) ≡ true). new (eqb-true _ _ x) p.1) (λ (x : (s.vote == from) ≡ true). again (eqb-true _ _ x)) (or_cases _ _ p.0))
     (λ e. still s _ ok a (tt, tt))
@@ -195,12 +196,14 @@ on_vote_fine {vs} {h} me s from true ok a w =
 may_stand_voter : (vs : Setup) (me : ℕ) (s : Node) → may_start_election (voters_after vs) me s ≡ true → me ≢ 0
 may_stand_voter vs me s e = let l : 0 < me = stands_id (voters_after vs) me s e in omega arith
 
-pub stand_fine : {vs : Setup} {h : Hist} (me : ℕ) (s : Node) → HistOk vs h → NodeOk vs h me s → Fine vs h me (start_election (voters_after vs) me s)
+pub stand_fine : (transfer : Bool) {vs : Setup} {h : Hist} (me : ℕ) (s : Node) → HistOk vs h → NodeOk vs h me s
+    → Fine vs h me (start_election (voters_after vs) me s transfer)
 unfolding start_election cast
-stand_fine {vs} {h} me s ok a =
+stand_fine transfer {vs} {h} me s ok a =
     cond_both (may_start_election (voters_after vs) me s) _ _ (Fine vs h me) (λ e. up (may_stand_voter vs me s e)) (λ e. still s [] ok a tt)
   where
-    up : me ≢ 0 → Fine vs h me (on_grants (voters_after vs) me (as_candidate me s) (map (ask_vote me (as_candidate me s)) (others (voters_after vs s.log) me)))
+    up : me ≢ 0
+        → Fine vs h me (on_grants (voters_after vs) me (as_candidate me s) (map (ask_vote me (as_candidate me s) transfer) (others (voters_after vs s.log) me)))
     up id =
         let t = suc s.term in
         let b0 : BaseOk vs h me t 0 s.log s.commit = base_term t (omega arith) (base s a) in
@@ -218,4 +221,4 @@ stand_fine {vs} {h} me s ok a =
           grants = λ v x. ⊎_elim (λ (y : (me == v) ≡ true). ap (λ k. g.ballot k t) (sym (eqb-true _ _ y)) ∙ mine) (λ (y : false ≡ true). off y) (or_cases _ _ x);
         } in
         before (cast_grows h me t me s.log cast_in) (counted_fine me (as_candidate me s) _ (cast_ok vs h me t me s.log ok cast_in) c (with_base (as_candidate me s) b (record { base = a.snaps.base; applied = a.snaps.applied; term = a.snaps.term }) (λ x. c) (λ x. off x))
-        (all_map vs g (ask_vote me (as_candidate me s)) _ (λ v. (id, mine, ap log_end log))))
+        (all_map vs g (ask_vote me (as_candidate me s) transfer) _ (λ v. (id, mine, ap log_end log))))

@@ -57,7 +57,7 @@ ChosenGrows = (setup : Setup) (events more : List Event) → take (length (chose
 -- a message's snapshot stands for no more than the index
 abbrev pub WithinWhat : ℕ → What → Type 0
 WithinWhat k (Install last front) = last.index ≤ k
-WithinWhat k (AskVote last) = Unit {0}
+WithinWhat k (AskVote last transfer) = Unit {0}
 WithinWhat k (Vote granted) = Unit {0}
 WithinWhat k (Append prev commit entries) = Unit {0}
 WithinWhat k (Ack good index) = Unit {0}

@@ -27,7 +27,7 @@ LeaderCommit =
 abbrev pub CommitBy : What → ℕ → ℕ → Type 0
 CommitBy (Append prev commit entries) old new = (new ≡ old) ⊎ (new ≡ max old (min commit (prev.index + length entries)))
 CommitBy (Install last front) old new = (new ≡ old) ⊎ ((old < last.index) × (new ≡ last.index))
-CommitBy (AskVote last) old new = new ≡ old
+CommitBy (AskVote last transfer) old new = new ≡ old
 CommitBy (Vote granted) old new = new ≡ old
 CommitBy (Ack good index) old new = new ≡ old
 CommitBy TimeoutNow old new = new ≡ old

@@ -1,7 +1,7 @@
 -- The code's nodes, which have cut their logs, make the steps of the nodes of the world, which have not.
 use Rattle.std.specs.Prelude.{◌≡◌, ℕ, true, List, [], ◌∷◌, ◌++◌, length, drop}
 use Rattle.raft_spec.specs.Log.{Entry, term_at}
-use Rattle.raft_spec.specs.Node.{Server, What, AskVote, Vote, Append, Ack, Install, TimeoutNow, Message, Node, voters, Timeout, Beat, Propose, Transfer, Snapped, UseServers, Input, Local, Receive}
+use Rattle.raft_spec.specs.Node.{Server, What, AskVote, Vote, Append, Ack, Install, TimeoutNow, Message, Node, voters, Timeout, Beat, Yield, Propose, Transfer, Snapped, UseServers, Input, Local, Receive}
 use Rattle.raft_spec.specs.Outcomes.{with_term}
 use Rattle.raft_spec.specs.Account.{steps, said}
 use Rattle.raft_spec.specs.Compaction.{with_whole_log, compact, compacted_step}
@@ -23,7 +23,7 @@ pub record Twin (s v : Node) : Type 0 where
 -- two messages that differ at most in the front that a snapshot stands for
 abbrev pub AlikeWhat : What → What → Type 0
 AlikeWhat (Install last front) w = (front' : List Entry) × (w ≡ Install last front') × Same last.index last.index front front'
-AlikeWhat (AskVote last) w = w ≡ AskVote last
+AlikeWhat (AskVote last transfer) w = w ≡ AskVote last transfer
 AlikeWhat (Vote granted) w = w ≡ Vote granted
 AlikeWhat (Append prev commit entries) w = w ≡ Append prev commit entries
 AlikeWhat (Ack good index) w = w ≡ Ack good index
@@ -57,6 +57,7 @@ ToldAt setup s (Local (UseServers servers)) = Unit {0}
 ToldAt setup s (Local (Propose es)) = voters s.servers ≡ voters_after setup (s.log ++ with_term s.term es)
 ToldAt setup s (Local Timeout) = voters s.servers ≡ voters_after setup s.log
 ToldAt setup s (Local Beat) = voters s.servers ≡ voters_after setup s.log
+ToldAt setup s (Local Yield) = voters s.servers ≡ voters_after setup s.log
 ToldAt setup s (Local (Transfer to)) = voters s.servers ≡ voters_after setup s.log
 ToldAt setup s (Local (Snapped i)) = voters s.servers ≡ voters_after setup s.log
 ToldAt setup s (Receive m) = voters s.servers ≡ voters_after setup s.log
@@ -86,6 +87,7 @@ SameVoters ids [] = Unit {0}
 SameVoters ids (Local (UseServers servers) ∷ is) = (voters servers ≡ ids) × SameVoters ids is
 SameVoters ids (Local Timeout ∷ is) = SameVoters ids is
 SameVoters ids (Local Beat ∷ is) = SameVoters ids is
+SameVoters ids (Local Yield ∷ is) = SameVoters ids is
 SameVoters ids (Local (Propose es) ∷ is) = SameVoters ids is
 SameVoters ids (Local (Transfer to) ∷ is) = SameVoters ids is
 SameVoters ids (Local (Snapped i) ∷ is) = SameVoters ids is

@@ -1,7 +1,7 @@
 -- Runs that are computed: so no law is empty, and the rule of older terms is needed.
 use Rattle.std.specs.Prelude.{◌≡◌, ℕ, Some, List, [], ◌∷◌, ◌++◌, length, map, replicate}
 use Rattle.raft_spec.specs.Log.{Entry, Command, Barrier, Change, term_at}
-use Rattle.raft_spec.specs.Node.{Role, Leader, Follower, Server, Node, Timeout, Beat, Propose, Transfer, Snapped, UseServers}
+use Rattle.raft_spec.specs.Node.{Role, Leader, Follower, Server, Node, Timeout, Beat, Yield, Propose, Transfer, Snapped, UseServers}
 use Rattle.raft_spec.specs.Progress.{commit_of}
 use Rattle.raft_safety.specs.Members.{Setup, voters_after}
 use Rattle.raft_safety.specs.World.{Event, Acts, Stops, Start, Does, Takes, run}

@@ -16,7 +16,7 @@ IsNotLost s (Append prev commit entries) = (is_leader s.role ≡ false) × (agre
 IsNotLost s (Install last front) = is_leader s.role ≡ false
 IsNotLost s (Ack true index) = is_leader s.role ≡ true → index ≤ length s.log
 IsNotLost s (Ack false index) = Unit {0}
-IsNotLost s (AskVote last) = Unit {0}
+IsNotLost s (AskVote last transfer) = Unit {0}
 IsNotLost s (Vote granted) = Unit {0}
 IsNotLost s TimeoutNow = Unit {0}
 

@@ -2,7 +2,7 @@
 use Rattle.std.specs.Prelude.{◌≡◌, ℕ, zero, suc, Bool, true, false, cond, not, ◌&&◌, ◌||◌, ◌==◌, Option, Some, None, List, [], ◌∷◌, drop}
 use Rattle.std.specs.List.{list_any}
 use Rattle.raft_spec.specs.Log.{EntryKind, Command, Barrier, Change, Entry, term_at}
-use Rattle.raft_spec.specs.Node.{Node, Server, voters, Outcome, Input, Local, Receive, Timeout, Beat, Propose, Transfer, Snapped, UseServers}
+use Rattle.raft_spec.specs.Node.{Node, Server, voters, Outcome, Input, Local, Receive, Timeout, Beat, Yield, Propose, Transfer, Snapped, UseServers}
 use Rattle.raft_spec.specs.Outcomes.{quiet}
 use Rattle.raft_spec.specs.Steps.{raft_step}
 
@@ -98,6 +98,7 @@ abbrev pub may_take : Setup → Node → Input → Bool
 may_take setup s (Local (Propose es)) = may_propose setup s es
 may_take setup s (Local Timeout) = true
 may_take setup s (Local Beat) = true
+may_take setup s (Local Yield) = true
 may_take setup s (Local (Transfer to)) = true
 may_take setup s (Local (Snapped i)) = true
 may_take setup s (Local (UseServers servers)) = true

@@ -1,7 +1,7 @@
 -- Properties of logs that every front of a log with the property has too, as that the entries of each transaction stand in one piece.
 use Rattle.std.specs.Prelude.{◌≡◌, ℕ, true, List, [], ◌∷◌, ◌++◌, take}
 use Rattle.raft_spec.specs.Log.{Entry}
-use Rattle.raft_spec.specs.Node.{Node, Input, Local, Receive, Timeout, Beat, Propose, Transfer, Snapped, UseServers, is_leader}
+use Rattle.raft_spec.specs.Node.{Node, Input, Local, Receive, Timeout, Beat, Yield, Propose, Transfer, Snapped, UseServers, is_leader}
 use Rattle.raft_spec.specs.Outcomes.{barrier, with_term}
 use Rattle.raft_safety.specs.Members.{Setup, member_step}
 use Rattle.raft_safety.specs.World.{World, Event, happens, start, run}
@@ -20,6 +20,7 @@ abbrev pub ProposalKeeps : (List Entry → Type 0) → Node → Input → Type 0
 ProposalKeeps Q s (Local (Propose es)) = is_leader s.role ≡ true → Q s.log → Q (s.log ++ with_term s.term es)
 ProposalKeeps Q s (Local Timeout) = Unit {0}
 ProposalKeeps Q s (Local Beat) = Unit {0}
+ProposalKeeps Q s (Local Yield) = Unit {0}
 ProposalKeeps Q s (Local (Transfer to)) = Unit {0}
 ProposalKeeps Q s (Local (Snapped i)) = Unit {0}
 ProposalKeeps Q s (Local (UseServers servers)) = Unit {0}

@@ -47,7 +47,7 @@ EntriesLed = (setup : Setup) (events : List Event) (n : ℕ) → AllLed setup ev
 
 -- what a message brings, and all before it, stood in the log of a leader of its term
 abbrev pub WhatLed : Setup → List Event → What → Type 0
-WhatLed setup events (AskVote last) = Unit {0}
+WhatLed setup events (AskVote last transfer) = Unit {0}
 WhatLed setup events (Vote granted) = Unit {0}
 WhatLed setup events (Append prev commit entries) = (log : List Entry) × (drop prev.index log ≡ entries) × AllLed setup events log
 WhatLed setup events (Ack good index) = Unit {0}
@@ -81,7 +81,7 @@ LeadersKeep =
 -- a message's snapshot stands for a front of these entries
 abbrev pub WhatFront : List Entry → What → Type 0
 WhatFront c (Install last front) = (last.index ≤ length c) × (front ≡ take last.index c)
-WhatFront c (AskVote last) = Unit {0}
+WhatFront c (AskVote last transfer) = Unit {0}
 WhatFront c (Vote granted) = Unit {0}
 WhatFront c (Append prev commit entries) = Unit {0}
 WhatFront c (Ack good index) = Unit {0}

@@ -3,9 +3,10 @@ use Rattle.std.proofs.Common.{◌≡◌, ◌⊎◌, inl, inr, ℕ, Bool, true, f
 use Rattle.std.specs.Prelude.{◌&&◌, nat_lt, nat_le}
 use Rattle.std.proofs.lemmas.Bool.{cond_both}
 use Rattle.raft_spec.specs.Log.{Entry, LogEnd, matches}
-use Rattle.raft_spec.specs.Node.{What, AskVote, Vote, Append, Ack, Install, TimeoutNow, Message, Node, Server, Outcome, is_leader, is_candidate, Timeout, Beat, Propose, Transfer, Snapped, UseServers, Local, Receive}
+use Rattle.raft_spec.specs.Node.{What, AskVote, Vote, Append, Ack, Install, TimeoutNow, Message, Node, Server, Outcome, is_leader, is_candidate, Timeout}
+use Rattle.raft_spec.specs.Node.{Beat, Yield, Propose, Transfer, Snapped, UseServers, Local, Receive}
 use Rattle.raft_spec.specs.Outcomes.{in_newer_term, with_grants}
-use Rattle.raft_spec.specs.Elections.{as_candidate, on_grants, may_start_election, start_election, on_ask_vote, grants_with, on_vote}
+use Rattle.raft_spec.specs.Elections.{as_candidate, on_grants, may_start_election, on_yield, start_election, on_ask_vote, grants_with, on_vote}
 use Rattle.raft_spec.specs.Replication.{agrees, replaces_committed, take_entries, on_append, on_ack, on_propose, on_beat, on_transfer}
 use Rattle.raft_spec.specs.Snapshots.{on_install, on_snapped}
 use Rattle.raft_spec.specs.Membership.{on_servers}
@@ -25,9 +26,9 @@ counted : (voters_of : List Entry → List ℕ) (me : ℕ) (s : Node) (out : Lis
 unfolding on_grants
 counted voters_of me s out = cond_both _ _ _ (Keeps s.snapshot) (λ e. refl) (λ e. refl)
 
-stood : (voters_of : List Entry → List ℕ) (me : ℕ) (s : Node) → Keeps s.snapshot (start_election voters_of me s)
+stood : (transfer : Bool) (voters_of : List Entry → List ℕ) (me : ℕ) (s : Node) → Keeps s.snapshot (start_election voters_of me s transfer)
 unfolding start_election
-stood voters_of me s = cond_both (may_start_election voters_of me s) _ _ (Keeps s.snapshot) (λ e. counted voters_of me (as_candidate me s) _) (λ e. refl)
+stood transfer voters_of me s = cond_both (may_start_election voters_of me s) _ _ (Keeps s.snapshot) (λ e. counted voters_of me (as_candidate me s) _) (λ e. refl)
 
 voted : (voters_of : List Entry → List ℕ) (me : ℕ) (s : Node) (from : ℕ) (granted : Bool) → Keeps s.snapshot (on_vote voters_of me s from granted)
 unfolding on_vote
@@ -55,15 +56,15 @@ installs me s from last front = cond_both (is_leader s.role) _ _ (Comes s.snapsh
 -- ---- messages
 
 in_turn : (voters_of : List Entry → List ℕ) (me : ℕ) (s : Node) (from : ℕ) (w : What) → Comes s.snapshot w (on_own_term voters_of me s from w)
-in_turn voters_of me s from (AskVote last) = inl (asked me s from last)
+in_turn voters_of me s from (AskVote last transfer) = inl (asked me s from last)
 in_turn voters_of me s from (Vote granted) = inl (voted voters_of me s from granted)
 in_turn voters_of me s from (Append prev commit es) = inl (appended me s from prev commit es)
 in_turn voters_of me s from (Ack good index) = inl (acked me s from good index)
 in_turn voters_of me s from (Install last front) = installs me s from last front
-in_turn voters_of me s from TimeoutNow = inl (stood voters_of me s)
+in_turn voters_of me s from TimeoutNow = inl (stood true voters_of me s)
 
 late : (me : ℕ) (s : Node) (from : ℕ) (w : What) → Keeps s.snapshot (on_older_term me s from w)
-late me s from (AskVote last) = refl
+late me s from (AskVote last transfer) = refl
 late me s from (Vote granted) = refl
 late me s from (Append prev commit es) = refl
 late me s from (Ack good index) = refl
@@ -73,15 +74,16 @@ late me s from TimeoutNow = refl
 -- so of each message
 pub message_snapshot : (voters_of : List Entry → List ℕ) (me : ℕ) (s : Node) (m : Message) → ((on_message voters_of me s m).node.snapshot ≡ s.snapshot) ⊎ BringsSnapshot m.what (on_message voters_of me s m).node.snapshot
 unfolding on_message
-message_snapshot voters_of me s m = cond_both (in_range m) _ _ (Comes s.snapshot m.what)
+message_snapshot voters_of me s m = cond_both (in_range s.term m) _ _ (Comes s.snapshot m.what)
     (λ e. cond_both (nat_lt m.term s.term) _ _ (Comes s.snapshot m.what) (λ o. inl (late me s m.from m.what))
     (λ o. cond_both (nat_lt s.term m.term) _ _ (Comes s.snapshot m.what) (λ n. in_turn voters_of me (in_newer_term s m.term) m.from m.what) (λ n. in_turn voters_of me s m.from m.what)))
     (λ e. inl refl)
 
 -- ---- other rules
 
-pub stands_snapshot : (voters_of : List Entry → List ℕ) (me : ℕ) (s : Node) → (start_election voters_of me s).node.snapshot ≡ s.snapshot
-stands_snapshot voters_of me s = stood voters_of me s
+pub stands_snapshot : (transfer : Bool) (voters_of : List Entry → List ℕ) (me : ℕ) (s : Node)
+    → (start_election voters_of me s transfer).node.snapshot ≡ s.snapshot
+stands_snapshot transfer voters_of me s = stood transfer voters_of me s
 
 pub proposes_snapshot : (s : Node) (es : List Entry) → (on_propose s es).node.snapshot ≡ s.snapshot
 unfolding on_propose
@@ -90,6 +92,10 @@ proposes_snapshot s es = cond_both _ _ _ (Keeps s.snapshot) (λ e. refl) (λ e. 
 pub beats_snapshot : (s : Node) → (on_beat s).node.snapshot ≡ s.snapshot
 unfolding on_beat
 beats_snapshot s = cond_both _ _ _ (Keeps s.snapshot) (λ e. refl) (λ e. refl)
+
+pub yields_snapshot : (s : Node) → (on_yield s).node.snapshot ≡ s.snapshot
+unfolding on_yield
+yields_snapshot s = cond_both _ _ _ (Keeps s.snapshot) (λ e. refl) (λ e. refl)
 
 pub hands_snapshot : (me : ℕ) (s : Node) (to : ℕ) → (on_transfer me s to).node.snapshot ≡ s.snapshot
 unfolding on_transfer
@@ -119,8 +125,9 @@ unfolding raft_step
 snapshots_come_holds voters_of me s (Receive m) =
     let e = ends_snapshot voters_of me (on_message voters_of me s m) in
     ⊎_elim (λ (x : (on_message voters_of me s m).node.snapshot ≡ s.snapshot). inl (e ∙ x)) (λ (x : BringsSnapshot m.what (on_message voters_of me s m).node.snapshot). inr (subst (BringsSnapshot m.what) (sym e) x)) (message_snapshot voters_of me s m)
-snapshots_come_holds voters_of me s (Local Timeout) = inl (ends_snapshot voters_of me (start_election voters_of me s) ∙ stood voters_of me s)
+snapshots_come_holds voters_of me s (Local Timeout) = inl (ends_snapshot voters_of me (start_election voters_of me s false) ∙ stood false voters_of me s)
 snapshots_come_holds voters_of me s (Local Beat) = inl (ends_snapshot voters_of me (on_beat s) ∙ beats_snapshot s)
+snapshots_come_holds voters_of me s (Local Yield) = inl (ends_snapshot voters_of me (on_yield s) ∙ yields_snapshot s)
 snapshots_come_holds voters_of me s (Local (Propose es)) = inl (ends_snapshot voters_of me (on_propose s es) ∙ proposes_snapshot s es)
 snapshots_come_holds voters_of me s (Local (Transfer to)) = inl (ends_snapshot voters_of me (on_transfer me s to) ∙ hands_snapshot me s to)
 snapshots_come_holds voters_of me s (Local (Snapped i)) =

@@ -3,9 +3,9 @@ use Rattle.std.proofs.Common.{◌≡◌, ◌≢◌, ℕ, suc, ◌<◌, ◌≤◌
 use Rattle.std.specs.Prelude.{◌&&◌, not, nat_lt, nat_le}
 use Rattle.std.proofs.lemmas.Bool.{cond_both, and_parts, ltb-true}
 use Rattle.raft_spec.specs.Log.{Entry, LogEnd, matches}
-use Rattle.raft_spec.specs.Node.{Role, Leader, Candidate, Follower, What, AskVote, Vote, Append, Ack, Install, TimeoutNow, Message, Node, Server, Outcome, voters, among, is_leader, is_candidate, Timeout, Beat, Propose, Transfer, Snapped, UseServers, Local, Receive}
+use Rattle.raft_spec.specs.Node.{Role, Leader, Candidate, Follower, What, AskVote, Vote, Append, Ack, Install, TimeoutNow, Message, Node, Server, Outcome, voters, among, is_leader, is_candidate, Timeout, Beat, Yield, Propose, Transfer, Snapped, UseServers, Local, Receive}
 use Rattle.raft_spec.specs.Outcomes.{in_newer_term, with_grants}
-use Rattle.raft_spec.specs.Elections.{as_candidate, on_grants, may_start_election, start_election, on_ask_vote, grants_with, on_vote}
+use Rattle.raft_spec.specs.Elections.{as_candidate, on_grants, may_start_election, on_yield, start_election, on_ask_vote, grants_with, on_vote}
 use Rattle.raft_spec.specs.Replication.{agrees, replaces_committed, take_entries, on_append, on_ack, on_propose, on_beat, on_transfer}
 use Rattle.raft_spec.specs.Snapshots.{on_install, on_snapped}
 use Rattle.raft_spec.specs.Membership.{on_servers}
@@ -39,9 +39,9 @@ counted voters_of me s out le = cond_both _ _ _ Short (λ e n. le) (λ e n. le)
 raised : (a b : Bool) (term : ℕ) → (a && nat_lt term 4294967295 && b) ≡ true → suc term ≤ 4294967295
 raised a b term e = let lt : term < 4294967295 = ltb-true _ _ (and_parts a (nat_lt term 4294967295) (and_parts (a && nat_lt term 4294967295) b e).0).1 in omega arith
 
-stood : (voters_of : List Entry → List ℕ) (me : ℕ) (s : Node) → HasShortTerm s → Short (start_election voters_of me s)
+stood : (transfer : Bool) (voters_of : List Entry → List ℕ) (me : ℕ) (s : Node) → HasShortTerm s → Short (start_election voters_of me s transfer)
 unfolding start_election may_start_election
-stood voters_of me s h = cond_both (may_start_election voters_of me s) _ _ Short
+stood transfer voters_of me s h = cond_both (may_start_election voters_of me s) _ _ Short
     (λ e. counted voters_of me (as_candidate me s) _ (raised (among (voters_of s.log) me && nat_lt 0 me && not (is_leader s.role)) (nat_lt (length s.log) 4294900000) s.term e))
     (λ e. h)
 
@@ -82,6 +82,10 @@ beats : (s : Node) → HasShortTerm s → Short (on_beat s)
 unfolding on_beat
 beats s h = cond_both _ _ _ Short (λ e. h) (λ e. h)
 
+yields : (s : Node) → HasShortTerm s → Short (on_yield s)
+unfolding on_yield
+yields s h = cond_both _ _ _ Short (λ e n. none n) (λ e. h)
+
 hands : (me : ℕ) (s : Node) (to : ℕ) → HasShortTerm s → Short (on_transfer me s to)
 unfolding on_transfer
 hands me s to h = cond_both _ _ _ Short (λ e. h) (λ e. h)
@@ -97,15 +101,15 @@ hears me s servers h = cond_both _ _ _ Short (λ e. h) (λ e. h)
 -- ---- messages
 
 in_turn : (voters_of : List Entry → List ℕ) (me : ℕ) (s : Node) (from : ℕ) (w : What) → HasShortTerm s → Short (on_own_term voters_of me s from w)
-in_turn voters_of me s from (AskVote last) h = asked me s from last h
+in_turn voters_of me s from (AskVote last transfer) h = asked me s from last h
 in_turn voters_of me s from (Vote granted) h = voted voters_of me s from granted h
 in_turn voters_of me s from (Append prev commit es) h = appended me s from prev commit es h
 in_turn voters_of me s from (Ack good index) h = acked me s from good index h
 in_turn voters_of me s from (Install last front) h = installs me s from last front h
-in_turn voters_of me s from TimeoutNow h = stood voters_of me s h
+in_turn voters_of me s from TimeoutNow h = stood true voters_of me s h
 
 late : (me : ℕ) (s : Node) (from : ℕ) (w : What) → HasShortTerm s → Short (on_older_term me s from w)
-late me s from (AskVote last) h = h
+late me s from (AskVote last transfer) h = h
 late me s from (Vote granted) h = h
 late me s from (Append prev commit es) h = h
 late me s from (Ack good index) h = h
@@ -114,7 +118,7 @@ late me s from TimeoutNow h = h
 
 comes : (voters_of : List Entry → List ℕ) (me : ℕ) (s : Node) (m : Message) → HasShortTerm s → Short (on_message voters_of me s m)
 unfolding on_message
-comes voters_of me s m h = cond_both (in_range m) _ _ Short
+comes voters_of me s m h = cond_both (in_range s.term m) _ _ Short
     (λ e. cond_both (nat_lt m.term s.term) _ _ Short (λ o. late me s m.from m.what h)
     (λ o. cond_both (nat_lt s.term m.term) _ _ Short (λ n. in_turn voters_of me (in_newer_term s m.term) m.from m.what (follows (in_newer_term s m.term) refl)) (λ n. in_turn voters_of me s m.from m.what h)))
     (λ e. h)
@@ -132,8 +136,9 @@ serves me d h = cond_both _ _ _ Short (λ e. h) (λ e. h)
 pub terms_stay_short_holds : TermsStayShort
 unfolding raft_step
 terms_stay_short_holds voters_of me s (Receive m) h = ends voters_of me _ (comes voters_of me s m h)
-terms_stay_short_holds voters_of me s (Local Timeout) h = ends voters_of me _ (stood voters_of me s h)
+terms_stay_short_holds voters_of me s (Local Timeout) h = ends voters_of me _ (stood false voters_of me s h)
 terms_stay_short_holds voters_of me s (Local Beat) h = ends voters_of me _ (beats s h)
+terms_stay_short_holds voters_of me s (Local Yield) h = ends voters_of me _ (yields s h)
 terms_stay_short_holds voters_of me s (Local (Propose es)) h = ends voters_of me _ (proposes s es h)
 terms_stay_short_holds voters_of me s (Local (Transfer to)) h = ends voters_of me _ (hands me s to h)
 terms_stay_short_holds voters_of me s (Local (Snapped i)) h = ends voters_of me _ (snaps s i h)

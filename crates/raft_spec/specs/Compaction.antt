@@ -46,7 +46,7 @@ compact s = with_whole_log s (compacted s.snapshot s.base ++ drop s.base s.log)
 -- What a message says, where a snapshot tells only its end.
 abbrev pub compact_what : What → What
 compact_what (Install last front) = Install last (compacted last last.index)
-compact_what (AskVote last) = AskVote last
+compact_what (AskVote last transfer) = AskVote last transfer
 compact_what (Vote granted) = Vote granted
 compact_what (Append prev commit es) = Append prev commit es
 compact_what (Ack good index) = Ack good index

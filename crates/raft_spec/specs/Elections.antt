@@ -2,7 +2,7 @@
 use Rattle.std.specs.Prelude.{ℕ, suc, Bool, true, false, cond, not, ◌&&◌, ◌||◌, ◌==◌, nat_lt, List, [], ◌∷◌, ◌++◌, length, map}
 use Rattle.raft_spec.specs.Log.{Entry, LogEnd, log_end, is_up_to_date}
 use Rattle.raft_spec.specs.Node.{AskVote, Vote, Message, Leader, Candidate, Node, among, others, peers, majority, is_leader, is_candidate, Nobody, Everyone, Outcome}
-use Rattle.raft_spec.specs.Outcomes.{quiet, says, answer, with_log, with_vote, with_grants, barrier}
+use Rattle.raft_spec.specs.Outcomes.{quiet, says, answer, in_newer_term, with_log, with_vote, with_grants, barrier}
 
 -- A node stands in the next term, with its own vote.
 abbrev pub as_candidate : ℕ → Node → Node
@@ -19,18 +19,23 @@ on_grants voters_of me s out = cond (majority (voters_of s.log) (among s.grants)
     (record { node = s; out = out; recipients = Nobody })
 
 -- A candidate's request for a vote, with the end of its log.
-abbrev pub ask_vote : ℕ → Node → ℕ → Message
-ask_vote me s to = record { from = me; to = to; term = s.term; what = AskVote (log_end s.log) }
+abbrev pub ask_vote : ℕ → Node → Bool → ℕ → Message
+ask_vote me s transfer to = record { from = me; to = to; term = s.term; what = AskVote (log_end s.log) transfer }
 
 -- Who may stand: a voter that doesn't lead, below the last term, 4,294,967,295, and the last index for it, 4,294,900,000.
 unfoldable pub may_start_election : (List Entry → List ℕ) → ℕ → Node → Bool
 may_start_election voters_of me s = among (voters_of s.log) me && nat_lt 0 me && not (is_leader s.role) && nat_lt s.term 4294967295 && nat_lt (length s.log) 4294900000
 
--- A timeout: who may stand does, and asks every other voter; an only voter wins at once. At others nothing happens.
-unfoldable pub start_election : (List Entry → List ℕ) → ℕ → Node → Outcome
-start_election voters_of me s = cond (may_start_election voters_of me s)
-    (on_grants voters_of me (as_candidate me s) (map (ask_vote me (as_candidate me s)) (others (voters_of s.log) me)))
+-- A timeout: who may stand does, and asks every other voter; an only voter wins at once. At others nothing happens. With transfer
+-- it is a leader that handed its leadership over, and the AskVotes say so.
+unfoldable pub start_election : (List Entry → List ℕ) → ℕ → Node → Bool → Outcome
+start_election voters_of me s transfer = cond (may_start_election voters_of me s)
+    (on_grants voters_of me (as_candidate me s) (map (ask_vote me (as_candidate me s) transfer) (others (voters_of s.log) me)))
     (quiet s)
+
+-- A leader gives up: it takes the next term, as if it had heard of it. At the last term, and at other nodes, nothing happens.
+unfoldable pub on_yield : Node → Outcome
+on_yield s = cond (is_leader s.role && nat_lt s.term 4294967295) (quiet (in_newer_term s (suc s.term))) (quiet s)
 
 -- The rule of votes: one vote a term, to a node whose log is at least as up to date as the own one.
 unfoldable pub may_grant : ℕ → ℕ → LogEnd → LogEnd → Bool

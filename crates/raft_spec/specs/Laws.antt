@@ -1,7 +1,7 @@
 -- What the rules of logs and of the commit index mean.
 use Rattle.std.specs.Prelude.{◌≡◌, ◌≢◌, ◌⊎◌, ℕ, suc, ◌+◌, ◌<◌, ◌≤◌, true, false, List, length, take}
 use Rattle.raft_spec.specs.Log.{Entry, LogEnd, nth_term, term_at, accept}
-use Rattle.raft_spec.specs.Node.{Follower, What, AskVote, Vote, Append, Ack, Install, TimeoutNow, Node, Input, Local, Receive, Timeout, Beat, Propose, Transfer, Snapped, UseServers}
+use Rattle.raft_spec.specs.Node.{Follower, What, AskVote, Vote, Append, Ack, Install, TimeoutNow, Node, Input, Local, Receive, Timeout, Beat, Yield, Propose, Transfer, Snapped, UseServers}
 use Rattle.raft_spec.specs.Commitment.{is_stored_by_majority, commit_up_to}
 use Rattle.raft_spec.specs.Steps.{raft_step}
 use Rattle.raft_spec.specs.Compaction.{compacted_step}
@@ -49,7 +49,7 @@ CutTermsStayShort = (me : ℕ) (s : Node) (i : Input) → HasShortTerm s → Has
 -- The message brings a snapshot that ends there.
 abbrev pub BringsSnapshot : What → LogEnd → Type 0
 BringsSnapshot (Install end front) last = last ≡ end
-BringsSnapshot (AskVote end) last = ⊥
+BringsSnapshot (AskVote end transfer) last = ⊥
 BringsSnapshot (Vote granted) last = ⊥
 BringsSnapshot (Append prev commit entries) last = ⊥
 BringsSnapshot (Ack good index) last = ⊥
@@ -61,6 +61,7 @@ TellsSnapshot (Receive m) last = BringsSnapshot m.what last
 TellsSnapshot (Local (Snapped i)) last = last.index ≡ i
 TellsSnapshot (Local Timeout) last = ⊥
 TellsSnapshot (Local Beat) last = ⊥
+TellsSnapshot (Local Yield) last = ⊥
 TellsSnapshot (Local (Propose es)) last = ⊥
 TellsSnapshot (Local (Transfer to)) last = ⊥
 TellsSnapshot (Local (UseServers servers)) last = ⊥

@@ -5,8 +5,8 @@ use Rattle.raft_spec.specs.Log.{Entry, LogEnd}
 
 -- What a message says. In the thesis AskVote is RequestVote, Append is AppendEntries and Install is InstallSnapshot; Vote and Ack are their answers.
 pub data What : Type 0 where
-  -- a candidate asks for a vote, with the end of its log
-  AskVote : (last : LogEnd) → What
+  -- a candidate asks for a vote, with the end of its log; transfer: a leader handed its leadership to it. No grant depends on that.
+  AskVote : (last : LogEnd) (transfer : Bool) → What
   Vote : (granted : Bool) → What
   -- entries that follow a place of the leader's log, and the leader's commit index
   Append : (prev : LogEnd) (commit : ℕ) (entries : List Entry) → What
@@ -110,6 +110,8 @@ pub data LocalEvent : Type 0 where
   Timeout : LocalEvent
   -- it is time for a leader's heartbeat
   Beat : LocalEvent
+  -- a leader is to give up its leadership
+  Yield : LocalEvent
   -- a leader is to append these entries
   Propose : (entries : List Entry) → LocalEvent
   -- a leader is to hand its office over

@@ -1,9 +1,9 @@
 -- One step of a node: a rule, and then what a leader does at the end of each step.
-use Rattle.std.specs.Prelude.{ℕ, ◌-◌, cond, nat_lt, List, [], ◌++◌, take, drop, map}
+use Rattle.std.specs.Prelude.{ℕ, ◌-◌, false, cond, nat_lt, List, [], ◌++◌, take, drop, map}
 use Rattle.raft_spec.specs.Log.{Entry, term_at}
-use Rattle.raft_spec.specs.Node.{Append, Install, Message, Node, peers, is_leader, Recipients, Nobody, Everyone, Only, Outcome, LocalEvent, Timeout, Beat, Propose, Transfer, Snapped, UseServers, Input, Local, Receive}
+use Rattle.raft_spec.specs.Node.{Append, Install, Message, Node, peers, is_leader, Recipients, Nobody, Everyone, Only, Outcome, LocalEvent, Timeout, Beat, Yield, Propose, Transfer, Snapped, UseServers, Input, Local, Receive}
 use Rattle.raft_spec.specs.Outcomes.{with_log}
-use Rattle.raft_spec.specs.Elections.{start_election}
+use Rattle.raft_spec.specs.Elections.{start_election, on_yield}
 use Rattle.raft_spec.specs.Replication.{on_propose, on_beat, on_transfer}
 use Rattle.raft_spec.specs.Snapshots.{on_snapped, needs_snapshot}
 use Rattle.raft_spec.specs.Membership.{on_servers}
@@ -49,8 +49,9 @@ serve me d = cond (is_leader d.node.role) (sends me d) d
 
 -- A step of something that happens at the node, with the step's end.
 abbrev pub on_local_event : (List Entry → List ℕ) → ℕ → Node → LocalEvent → Outcome
-on_local_event voters_of me s Timeout = finish voters_of me (start_election voters_of me s)
+on_local_event voters_of me s Timeout = finish voters_of me (start_election voters_of me s false)
 on_local_event voters_of me s Beat = finish voters_of me (on_beat s)
+on_local_event voters_of me s Yield = finish voters_of me (on_yield s)
 on_local_event voters_of me s (Propose es) = finish voters_of me (on_propose s es)
 on_local_event voters_of me s (Transfer to) = finish voters_of me (on_transfer me s to)
 on_local_event voters_of me s (Snapped i) = finish voters_of me (on_snapped s i)

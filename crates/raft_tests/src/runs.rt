@@ -71,10 +71,11 @@ fn happens(
 fn again(alloc: Global, message: &RaftMessage) -> Result<RaftMessage, Fail> {
     let bytes = write_message(alloc, message)?;
     let kind = bytes.as_slice().get(4).copied().unwrap_or(0);
+    let schema = bytes.as_slice().get(5).copied().unwrap_or(0);
     let body = Vec::from_slice(alloc, bytes.as_slice().get(8..).unwrap_or(&[]))?;
     let whole = Message {
         kind,
-        schema: 0,
+        schema,
         body: WireBytes::new(body),
     };
     Ok(read_message(alloc, &whole, message.to)?)

@@ -11,6 +11,7 @@ use wire_words::WireBytes;
 enum Row {
     Fresh(u64, &'static [u64]),
     Timeout,
+    Yield,
     Propose(&'static [u64]),
     Transfer(u64),
     Snapped(u64),
@@ -26,7 +27,7 @@ enum Row {
 fn first_sent(todo: &Todo) -> (u64, u8, bool, u64) {
     match todo.sends.as_slice() {
         [Outgoing::Message(message), ..] => match &message.what {
-            MessageBody::AskVote { last } => (message.to, 1, false, last.index),
+            MessageBody::AskVote { last, transfer } => (message.to, 1, *transfer, last.index),
             MessageBody::Vote { granted } => (message.to, 2, *granted, 0),
             MessageBody::Append { prev, .. } => (message.to, 3, false, prev.index),
             MessageBody::Ack { good, index } => (message.to, 4, *good, *index),
@@ -43,6 +44,7 @@ fn event_of(alloc: Global, row: Row) -> Result<RaftEvent, AllocError> {
     let (from, term, what) = match row {
         Row::Fresh(..) => return Ok(RaftEvent::Beat),
         Row::Timeout => return Ok(RaftEvent::Timeout),
+        Row::Yield => return Ok(RaftEvent::Yield),
         Row::Propose(terms) => return Ok(RaftEvent::Propose(entries(alloc, terms)?)),
         Row::Transfer(to) => return Ok(RaftEvent::Transfer(to)),
         Row::Snapped(index) => {
@@ -52,7 +54,8 @@ fn event_of(alloc: Global, row: Row) -> Result<RaftEvent, AllocError> {
         }
         Row::AskVote(from, term, index, last) => {
             let last = LogEnd { index, term: last };
-            (from, term, MessageBody::AskVote { last })
+            let transfer = false;
+            (from, term, MessageBody::AskVote { last, transfer })
         }
         Row::Vote(from, term, granted) => (from, term, MessageBody::Vote { granted }),
         Row::Append(from, term, index, prev, commit, terms) => {
@@ -129,6 +132,24 @@ const STEPS: &[(Row, Seen)] = &[
     (Row::Fresh(3, THREE), (0, 0, 0, 0, 0, NONE)),
     (Row::AskVote(1, 1, 0, 0), (0, 1, 0, 0, 1, (1, 2, true, 0))),
     (Row::AskVote(2, 1, 0, 0), (0, 1, 0, 0, 1, (2, 2, false, 0))),
+    // A term that is 1,000,001 above the own one isn't taken; one that is 1,000,000 above is.
+    (Row::AskVote(1, 1_000_002, 0, 0), (0, 1, 0, 0, 0, NONE)),
+    (
+        Row::Append(1, 1_000_002, 0, 0, 0, &[1]),
+        (0, 1, 0, 0, 0, NONE),
+    ),
+    (Row::Install(1, 1_000_002, 3, 1), (0, 1, 0, 0, 0, NONE)),
+    (Row::TimeoutNow(1, 1_000_002), (0, 1, 0, 0, 0, NONE)),
+    (
+        Row::AskVote(2, 1_000_001, 0, 0),
+        (0, 1_000_001, 0, 0, 1, (2, 2, true, 0)),
+    ),
+    (
+        Row::AskVote(1, 2_000_002, 0, 0),
+        (0, 1_000_001, 0, 0, 0, NONE),
+    ),
+    (Row::Fresh(3, THREE), (0, 0, 0, 0, 0, NONE)),
+    (Row::AskVote(1, 1, 0, 0), (0, 1, 0, 0, 1, (1, 2, true, 0))),
     // A short Append that comes late leaves the four entries of the longer one.
     (
         Row::Append(1, 1, 0, 0, 0, &[1, 1, 1, 1]),
@@ -144,8 +165,8 @@ const STEPS: &[(Row, Seen)] = &[
         (0, 1, 4, 2, 1, (1, 4, false, 4)),
     ),
     (Row::Append(2, 2, 1, 1, 4, &[2]), (0, 2, 4, 2, 0, NONE)),
-    // TimeoutNow makes a voter a candidate of the next term.
-    (Row::TimeoutNow(2, 2), (1, 3, 4, 2, 2, (1, 1, false, 4))),
+    // TimeoutNow makes a voter a candidate of the next term, and its AskVotes say so.
+    (Row::TimeoutNow(2, 2), (1, 3, 4, 2, 2, (1, 1, true, 4))),
     (Row::Vote(2, 3, false), (1, 3, 4, 2, 0, NONE)),
     (Row::Vote(1, 3, true), (2, 3, 5, 2, 2, (1, 3, false, 4))),
     // A leader of one of five nodes: an entry of an older term isn't committed by counting.
@@ -167,6 +188,12 @@ const STEPS: &[(Row, Seen)] = &[
     (Row::Ack(2, 3, true, 3), (2, 3, 3, 1, 0, NONE)),
     (Row::Ack(3, 3, true, 3), (2, 3, 3, 3, 4, (2, 3, false, 3))),
     (Row::Transfer(2), (2, 3, 3, 3, 1, (2, 6, false, 0))),
+    // A leader that yields follows in the next term, and may be a candidate again; a follower or a candidate stays as it is.
+    (Row::Yield, (0, 4, 3, 3, 0, NONE)),
+    (Row::Yield, (0, 4, 3, 3, 0, NONE)),
+    (Row::Propose(&[4]), (0, 4, 3, 3, 0, NONE)),
+    (Row::Timeout, (1, 5, 3, 3, 4, (2, 1, false, 3))),
+    (Row::Yield, (1, 5, 3, 3, 0, NONE)),
     // A standby's Ack isn't counted; an only voter commits at once, and its snapshot goes to a peer that is behind.
     (Row::Fresh(1, &[0, 1]), (0, 0, 0, 0, 0, NONE)),
     (Row::Timeout, (2, 1, 1, 1, 1, (2, 3, false, 0))),

@@ -18,9 +18,9 @@ fn message(alloc: Global, kind: u8, schema: u8, words: &[u64]) -> Result<Message
     Ok(Message { kind, schema, body })
 }
 
-// What is written of the message that was read of this type and this body.
-fn written(alloc: Global, kind: u8, words: &[u64]) -> Result<WireBytes, Fail> {
-    let message = message(alloc, kind, 0, words)?;
+// What is written of the message that was read of this type, this schema byte and this body.
+fn written(alloc: Global, kind: u8, schema: u8, words: &[u64]) -> Result<WireBytes, Fail> {
+    let message = message(alloc, kind, schema, words)?;
     let read = read_message(alloc, &message, 2)?;
     Ok(write_message(alloc, &read)?)
 }
@@ -31,21 +31,23 @@ fn reads_back(alloc: Global, kind: u8, header: u64, words: &[u64]) -> Result<boo
     for word in words {
         wanted.extend_from_slice(&word.to_le_bytes())?;
     }
-    let written = written(alloc, kind, words)?;
+    let written = written(alloc, kind, header.to_le_bytes()[5], words)?;
     Ok(written.as_slice() == wanted.as_slice())
 }
 
 const MESSAGES: &[(u8, u64, &[u64])] = &[
-    (1, 0x1_0000_0004, &[1, 4, 3, 2]),
-    (2, 0x2_0000_0003, &[1, 4, 1]),
+    (1, 0x201_0000_0004, &[1, 4, 3, 2]),
+    // With the mark of a transfer.
+    (1, 0x8201_0000_0004, &[1, 4, 3, 2]),
+    (2, 0x202_0000_0003, &[1, 4, 1]),
     (
         3,
-        0x3_0000_0009,
+        0x203_0000_0009,
         &[1, 4, 3, 2, 1, 1, 4, 0x3_0000_0001, 0x63_6261],
     ),
-    (4, 0x4_0000_0004, &[1, 4, 0, 7]),
-    (5, 0x5_0000_0006, &[1, 4, 5, 2, 2, 0x6968]),
-    (6, 0x6_0000_0002, &[1, 4]),
+    (4, 0x204_0000_0004, &[1, 4, 0, 7]),
+    (5, 0x205_0000_0006, &[1, 4, 5, 2, 2, 0x6968]),
+    (6, 0x206_0000_0002, &[1, 4]),
 ];
 
 #[test]
@@ -63,7 +65,7 @@ fn is_refused_cut(alloc: Global, kind: u8, words: &[u64]) -> Result<bool, Fail> 
         let body = WireBytes::new(Vec::from_slice(alloc, &whole[..end])?);
         let cut = Message {
             kind,
-            schema: 0,
+            schema: 2,
             body,
         };
         if read_message(alloc, &cut, 2).is_ok() {
@@ -92,21 +94,26 @@ fn fault(
 }
 
 const MESSAGE_FAULTS: &[(u8, u8, &[u64], PeerFault)] = &[
-    (7, 0, &[], PeerFault::Kind),
+    (7, 2, &[], PeerFault::Kind),
+    // For another node, or for none.
     (2, 1, &[1, 4, 1], PeerFault::Kind),
-    (2, 0, &[1, 4], PeerFault::Word(WordFault::Short(16))),
-    (2, 0, &[1, 4, 2, 0], PeerFault::Range),
-    (6, 0, &[1, 0x1_0000_0000], PeerFault::Range),
-    (6, 0, &[1, 4, 0], PeerFault::Tail),
+    (2, 0, &[1, 4, 1], PeerFault::Kind),
+    // The mark of a transfer at a message that isn't an AskVote, or for another node.
+    (2, 130, &[1, 4, 1], PeerFault::Kind),
+    (1, 129, &[1, 4, 3, 2], PeerFault::Kind),
+    (2, 2, &[1, 4], PeerFault::Word(WordFault::Short(16))),
+    (2, 2, &[1, 4, 2, 0], PeerFault::Range),
+    (6, 2, &[1, 0x1_0000_0000], PeerFault::Range),
+    (6, 2, &[1, 4, 0], PeerFault::Tail),
     (
         3,
-        0,
+        2,
         &[1, 4, 0, 0, 0, 1, 1, 0x104],
         PeerFault::Word(WordFault::BadCode(56, 4)),
     ),
     (
         3,
-        0,
+        2,
         &[1, 4, 0, 0, 0, 1, 1, 0x101],
         PeerFault::Word(WordFault::Pad(56)),
     ),

@@ -52,7 +52,7 @@ abbrev pub message : ℕ → ℕ → MessageBody → RaftMessage
 message from to what = record { from = from; to = to; term = 1; what = what }
 
 abbrev pub ask : ℕ → ℕ → RaftMessage
-ask from to = message from to (whats.AskVote (record { index = 0; term = 0 }))
+ask from to = message from to (whats.AskVote (record { index = 0; term = 0 }) false)
 
 -- ---- two candidates
 

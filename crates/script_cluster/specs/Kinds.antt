@@ -11,7 +11,7 @@ use Rattle.script_cluster.specs.declared.cluster_line.DownCause.{DownCause}
 use Rattle.script_cluster.specs.declared.cluster_line.DownCause.TheVariants as causes
 
 abbrev pub kind_of : MessageBody → MessageKind
-kind_of (whats.AskVote last) = kinds.AskVote
+kind_of (whats.AskVote last transfer) = kinds.AskVote
 kind_of (whats.Vote granted) = kinds.Vote
 kind_of (whats.Append prev commit entries) = kinds.Append
 kind_of (whats.Ack good index) = kinds.Ack

@@ -83,7 +83,7 @@ impl DownCause {
 pub(crate) const NODE_DOWN: u64 = 4;
 
 /// Something that a cluster says.
-#[derive(Debug, Drop)]
+#[derive(Drop)]
 pub enum ClusterLine {
     /// A whole response went to the client of a connection.
     Reply {

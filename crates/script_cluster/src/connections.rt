@@ -12,7 +12,7 @@ use std::collections::BTreeMap;
 use std::marker::Model;
 
 /// To which node a connection leads, and whether it is open.
-#[derive(Clone, Copy, Debug)]
+#[derive(Clone, Copy)]
 pub(crate) struct Endpoint {
     pub(crate) node: u64,
     pub(crate) is_open: bool,

@@ -12,7 +12,7 @@ use store_format::Kept;
 use wire_words::WireBytes;
 
 /// What happens at a node that runs.
-#[derive(Debug, Drop)]
+#[derive(Drop)]
 pub enum NodeEvent {
     /// It has heard of no leader for too long.
     Timeout,
@@ -64,7 +64,7 @@ pub struct EventResult {
 }
 
 /// How a node stands that runs.
-#[derive(Clone, Copy, Debug)]
+#[derive(Clone, Copy)]
 pub struct NodeLine {
     /// Its term.
     pub term: u64,

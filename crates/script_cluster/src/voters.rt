@@ -3,7 +3,7 @@
 use std::marker::Model;
 
 /// With how many voters a cluster is opened: from 1 to 7. Contracts see it as its number.
-#[derive(Clone, Copy, Debug)]
+#[derive(Clone, Copy)]
 pub struct VoterCount {
     count: u32,
 }

@@ -22,8 +22,8 @@ use Rattle.session_spec.specs.Engines.{Answer, no_pages, takes, Ending, Lacking,
 use Rattle.session_spec.specs.Sessions.{Reply, Refusal, Single, Rows, result, empty, Prepared, Kind, Opening, Configuring, Writing, Committing, Querying, Flight, Transaction, Lent, Session, Gateway, View, Note, Nothing, Began, Inside, Outside, Turned, Refused, Lacks, Answers, Proposes, Lends, Affects, responses_of, in_tx}
 use Rattle.session_spec.specs.Limits.{is_write, writes_to, holds_write_lock, holds, other_holds, configures, is_configuring, change_in_flight, opens, opened_by, with_names, all_names, one_too_many, flown_by, most, pending_pages, held_pages, pages_with, pages_full, too_full, first_cause, change_refusal, hinders_in, write_hindrance, log_full}
 use Rattle.session_spec.specs.Statements.{prepared_at, free_id, with_prepared, without_prepared}
-use Rattle.session_spec.specs.Asking.{Asked, Never, Tells, Sets, Opens, Creates, Prepares, Drops, Begins, Commits, RollsBack, Changes, Runs, Reads, at_leader, in_database, asks_add, asks_assign, asks_remove, asks_text, asks_rows, asks_exec, asks_prepared_query, has_database, is_name, barriers_asked, asked_by}
-use Rattle.session_spec.specs.Requests.{with_session, without_later, with_tx, with_statements, with_later, with_barriers, worked, begun, begun_over, flying, unless, row_cause, reply_of, change_of, outside_write, outside, inside, run_in, has_nothing, committed, commit_in, waits_first, barrier_first, job_of, was_cut, read_in, does, on_request, on_later, handed_for, handed, handed_later}
+use Rattle.session_spec.specs.Asking.{Asked, Never, Tells, Sets, Opens, Creates, Prepares, Drops, Forgets, Begins, Commits, RollsBack, Changes, Runs, Reads, at_leader, in_database, asks_add, asks_assign, asks_remove, asks_text, asks_rows, asks_exec, asks_prepared_query, has_database, is_name, barriers_asked, asks_lost, unless_lost, asked_unless_lost, asked_by}
+use Rattle.session_spec.specs.Requests.{with_session, without_later, with_tx, with_statements, with_lost, with_later, with_barriers, worked, begun, begun_over, flying, unless, row_cause, reply_of, change_of, outside_write, outside, inside, run_in, has_nothing, committed, commit_in, waits_first, barrier_first, job_of, was_cut, read_in, does, on_request, on_later, handed_for, handed, handed_later}
 use Rattle.node_core.specs.Plain.{plain_reply, plain_kind, plain_flight, plain_session, plain_gate}
 
 -- what comes of a request, without them
@@ -54,7 +54,7 @@ flight_twice None = refl
 flight_twice (Some f) = ap (λ (k : Kind). Some (record { name = f.name; first = f.first; last = f.last; term = f.term; pages = f.pages; kind = k })) (kind_twice f.kind)
 
 pub session_twice : (s : Session) → plain_session (plain_session s) ≡ plain_session s
-session_twice s = ap (λ (o : Option Flight). record { there = s.there; hung = s.hung; database = s.database; barriers = s.barriers; later = s.later; statements = s.statements; tx = s.tx; flight = o }) (flight_twice s.flight)
+session_twice s = ap (λ (o : Option Flight). record { there = s.there; hung = s.hung; database = s.database; barriers = s.barriers; later = s.later; statements = s.statements; tx = s.tx; lost = s.lost; flight = o }) (flight_twice s.flight)
 
 pub responses_plain : (r : Reply) → responses_of (plain_reply r) ≡ responses_of r
 responses_plain (Refusal cause) = refl
@@ -163,23 +163,35 @@ write_hindrance_plain m g conn s = hinders_plain m g conn s s.tx
 
 -- ---- what is asked
 
-asked_plain : (v : View) (m : Machine) (g : Gateway) (conn : ℕ) (s : Session) (r : Request) → asked_by v m (plain_gate g) conn (plain_session s) r ≡ asked_by v m g conn s r
-unfolding asked_by
-asked_plain v m g conn s (requests.Open name flags vfs) =
+unlost_plain : (v : View) (m : Machine) (g : Gateway) (conn : ℕ) (s : Session) (r : Request) → asked_unless_lost v m (plain_gate g) conn (plain_session s) r ≡ asked_unless_lost v m g conn s r
+unfolding asked_unless_lost
+unlost_plain v m g conn s (requests.Open name flags vfs) =
     ap (λ (b : Bool). at_leader v (cond (has_database s) (Never DatabaseOpen) (cond (not (is_name name)) (Never BadName) (cond (is_named m.names name) (Opens name (barriers_asked flags))
     (cond b (Never TooManyDatabases) (cond (log_full v) (Never LogFull) (Creates name (barriers_asked flags)))))))) (many_plain m g name)
-asked_plain v m g conn s (requests.Exec db id params wide) =
+unlost_plain v m g conn s (requests.Exec db id params wide) =
     ap (λ (o : Option Cause). at_leader v (in_database s db (asks_exec o (in_tx s) (prepared_at s.statements id) params))) (write_hindrance_plain m g conn s)
-asked_plain v m g conn s (requests.Query db id params wide) =
+unlost_plain v m g conn s (requests.Query db id params wide) =
     ap (λ (o : Option Cause). at_leader v (in_database s db (asks_prepared_query o (prepared_at s.statements id) params))) (write_hindrance_plain m g conn s)
-asked_plain v m g conn s (requests.ExecSql db sql params wide) =
+unlost_plain v m g conn s (requests.ExecSql db sql params wide) =
     ap (λ (o : Option Cause). at_leader v (in_database s db (asks_text o (in_tx s) sql (scan_of sql) params))) (write_hindrance_plain m g conn s)
-asked_plain v m g conn s (requests.QuerySql db sql params wide) =
+unlost_plain v m g conn s (requests.QuerySql db sql params wide) =
     ap (λ (o : Option Cause). at_leader v (in_database s db (asks_rows o sql (scan_of sql) params))) (write_hindrance_plain m g conn s)
-asked_plain v m g conn s (requests.Add id address) = ap (λ (b : Bool). at_leader v (cond b (Never ChangeInFlight) (asks_add v.servers id address))) (change_plain g)
-asked_plain v m g conn s (requests.Assign id role) = ap (λ (b : Bool). at_leader v (cond b (Never ChangeInFlight) (asks_assign v id role))) (change_plain g)
-asked_plain v m g conn s (requests.Remove id) = ap (λ (b : Bool). at_leader v (cond b (Never ChangeInFlight) (asks_remove v id))) (change_plain g)
-asked_plain v m g conn s r = refl
+unlost_plain v m g conn s (requests.Add id address) = ap (λ (b : Bool). at_leader v (cond b (Never ChangeInFlight) (asks_add v.servers id address))) (change_plain g)
+unlost_plain v m g conn s (requests.Assign id role) = ap (λ (b : Bool). at_leader v (cond b (Never ChangeInFlight) (asks_assign v id role))) (change_plain g)
+unlost_plain v m g conn s (requests.Remove id) = ap (λ (b : Bool). at_leader v (cond b (Never ChangeInFlight) (asks_remove v id))) (change_plain g)
+unlost_plain v m g conn s r = refl
+
+-- what is asked while a transaction is lost is of the session's database and statements
+lost_plain : (s : Session) (r : Request) → asks_lost (plain_session s) r ≡ asks_lost s r
+lost_plain s (requests.Exec db id params wide) = refl
+lost_plain s (requests.ExecSql db sql params wide) = refl
+lost_plain s r = refl
+
+asked_plain : (v : View) (m : Machine) (g : Gateway) (conn : ℕ) (s : Session) (r : Request) → asked_by v m (plain_gate g) conn (plain_session s) r ≡ asked_by v m g conn s r
+unfolding asked_by
+asked_plain v m g conn s r =
+    ap (λ (o : Option Asked). unless_lost s.lost o (asked_unless_lost v m (plain_gate g) conn (plain_session s) r)) (lost_plain s r)
+    ∙ ap (unless_lost s.lost (asks_lost s r)) (unlost_plain v m g conn s r)
 
 pub handed_plain : (v : View) (m : Machine) (g : Gateway) (conn : ℕ) (r : Request) → handed v m (plain_gate g) conn r ≡ handed v m g conn r
 unfolding handed
@@ -216,6 +228,9 @@ tx_twice s tx reply note = ap (λ (z : Session). Answers (with_tx z tx) (plain_r
 
 statements_twice : (s : Session) (ps : List (Option Prepared)) (reply : Reply) (note : Note) → plain_turned (Answers (with_statements (plain_session s) ps) reply note) ≡ plain_turned (Answers (with_statements s ps) reply note)
 statements_twice s ps reply note = ap (λ (z : Session). Answers (with_statements z ps) (plain_reply reply) note) (session_twice s)
+
+lost_twice : (s : Session) (lost : Bool) (reply : Reply) (note : Note) → plain_turned (Answers (with_lost (plain_session s) lost) reply note) ≡ plain_turned (Answers (with_lost s lost) reply note)
+lost_twice s lost reply note = ap (λ (z : Session). Answers (with_lost z lost) (plain_reply reply) note) (session_twice s)
 
 lends_twice : (m : Machine) (s : Session) (statement : Statement)
     → plain_turned (Lends (with_later (plain_session s) (Some (Lent statement))) (job_of m (plain_session s) statement)) ≡ plain_turned (Lends (with_later s (Some (Lent statement))) (job_of m s statement))
@@ -308,6 +323,7 @@ module _ (v : View) (m : Machine) (g : Gateway) (conn : ℕ) (s : Session) where
       (Refused DatabaseFull) (Proposes (flying v (with_barriers s barriers) name (Does (OpenDb name) ∷ []) 0 Opening) (Does (OpenDb name) ∷ []) Nothing) (full_plain m g name empty_image) refl refl
   does_at (Prepares p tail) a = statements_twice s (with_prepared p s.statements) (Single (responses.Stmt 0 (free_id s.statements) p.params tail)) Nothing
   does_at (Drops id) a = statements_twice s (without_prepared id s.statements) empty Nothing
+  does_at (Forgets response) a = lost_twice s false (Single response) Nothing
   does_at (Begins at_once) a =
       either (at_once && other_holds (plain_gate g) conn s.database) (at_once && other_holds g conn s.database) (Refused Locked) (Answers (begun m (plain_session s) at_once) (result 0) Began)
       (Refused Locked) (Answers (begun m s at_once) (result 0) Began) (ap (λ (b : Bool). at_once && b) (other_plain g conn s.database)) refl

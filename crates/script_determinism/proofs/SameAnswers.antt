@@ -13,7 +13,7 @@ use Rattle.session_spec.specs.Causes.{NotLeader}
 use Rattle.session_spec.specs.Machine.{Machine}
 use Rattle.session_spec.specs.Engines.{Answer, Handed, Lacking, TooLarge, takes, no_answer, runs, used, used_for, AllowsAll, AllowsFor}
 use Rattle.session_spec.specs.Sessions.{Transaction, Session, Gateway, View, Refused}
-use Rattle.session_spec.specs.Asking.{Asked, Never, Tells, Sets, Opens, Creates, Prepares, Drops, Begins, Commits, RollsBack, Changes, Runs, Reads, asked}
+use Rattle.session_spec.specs.Asking.{Asked, Never, Tells, Sets, Opens, Creates, Prepares, Drops, Forgets, Begins, Commits, RollsBack, Changes, Runs, Reads, asked}
 use Rattle.session_spec.specs.Requests.{run_in, read_in, waits_first, barrier_first, does, on_request, on_later, ground, handed_over, handed_for, handed, handed_later}
 use Rattle.session_safety.specs.Alone.{lacks}
 use Rattle.node_core.specs.Plain.{plain_ran}
@@ -133,6 +133,7 @@ module _ (v : View) (m : Machine) (g : Gateway) (conn : ℕ) (a b : List Answer)
   does_alike s (Creates name barriers) p q e f l r = none_alike a b e f
   does_alike s (Prepares prepared tail) p q e f l r = none_alike a b e f
   does_alike s (Drops id) p q e f l r = none_alike a b e f
+  does_alike s (Forgets response) p q e f l r = none_alike a b e f
   does_alike s (Begins at_once) p q e f l r = none_alike a b e f
   does_alike s Commits p q e f l r = none_alike a b e f
   does_alike s RollsBack p q e f l r = none_alike a b e f

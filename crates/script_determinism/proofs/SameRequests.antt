@@ -10,7 +10,7 @@ use Rattle.sql_engine.specs.Cells.{cells}
 use Rattle.session_spec.specs.Machine.{Machine}
 use Rattle.session_spec.specs.Engines.{Answer, Handed, Ending, Lacking, no_answer, runs, AllowsAll, AllowsFor}
 use Rattle.session_spec.specs.Sessions.{Lent, Gateway, Session, Transaction, View, Lends}
-use Rattle.session_spec.specs.Asking.{Asked, Never, Tells, Sets, Opens, Creates, Prepares, Drops, Begins, Commits, RollsBack, Changes, Runs, Reads, asked}
+use Rattle.session_spec.specs.Asking.{Asked, Never, Tells, Sets, Opens, Creates, Prepares, Drops, Forgets, Begins, Commits, RollsBack, Changes, Runs, Reads, asked}
 use Rattle.session_spec.specs.Requests.{with_later, outside, inside, run_in, waits_first, barrier_first, job_of, read_outside, read_in, does, on_request, ground, handed_over, handed_for, handed}
 use Rattle.session_safety.specs.Alone.{lacks}
 use Rattle.script_determinism.specs.CoreSteps.{IsAmple}
@@ -68,6 +68,7 @@ module _ (v : View) (m : Machine) (g : Gateway) (conn : ℕ) (a b : List Answer)
   does_same s (Creates name barriers) p q n k l r = refl
   does_same s (Prepares prepared tail) p q n k l r = refl
   does_same s (Drops id) p q n k l r = refl
+  does_same s (Forgets response) p q n k l r = refl
   does_same s (Begins at_once) p q n k l r = refl
   does_same s Commits p q n k l r = refl
   does_same s RollsBack p q n k l r = refl

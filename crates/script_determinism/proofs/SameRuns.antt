@@ -62,6 +62,7 @@ runs_in_alone (suc turns) w v a alone p = runs_in_alone turns p.0 v p.2 (turn_al
 begins_same : (event : Event) (w v u : Core) (a b : List Answer) → IsUnread event → IsAlone w → ExactBegin event w v a → ExactBegin event w u b → (v ≡ u) × AreAlike a b
 begins_same events.Timeout w v u a b here alone p q = (raft_same due.Timeout w v u p.0 q.0, ap (map plain_answer) (p.1 ∙ sym q.1))
 begins_same events.Beat w v u a b here alone p q = (raft_same due.Beat w v u p.0 q.0, ap (map plain_answer) (p.1 ∙ sym q.1))
+begins_same events.Yield w v u a b here alone p q = (raft_same due.Yield w v u p.0 q.0, ap (map plain_answer) (p.1 ∙ sym q.1))
 begins_same (events.Peer message) w v u a b here alone p q = (raft_same (due.Message message) w v u p.0 q.0, ap (map plain_answer) (p.1 ∙ sym q.1))
 begins_same (events.Connect conn) w v u a b here alone p q = (p.0 alone.links ∙ sym (q.0 alone.links), ap (map plain_answer) (p.1 ∙ sym q.1))
 begins_same (events.Bytes conn bytes) w v u a b here alone p q = (p.0 alone.links ∙ sym (q.0 alone.links), ap (map plain_answer) (p.1 ∙ sym q.1))
@@ -84,6 +85,7 @@ gone_beside (Some stream) conn w = refl
 begins_beside : (event : Event) (w v : Core) (a : List Answer) → IsUnread event → IsAlone w → ExactBegin event w v a → beside v ≡ beside w
 begins_beside events.Timeout w v a here alone p = raft_beside due.Timeout w v p.0
 begins_beside events.Beat w v a here alone p = raft_beside due.Beat w v p.0
+begins_beside events.Yield w v a here alone p = raft_beside due.Yield w v p.0
 begins_beside (events.Peer message) w v a here alone p = raft_beside (due.Message message) w v p.0
 begins_beside (events.Connect conn) w v a here alone p = ap beside (p.0 alone.links) ∙ joined_beside (joining w.sessions conn) conn w
 begins_beside (events.Bytes conn bytes) w v a here alone p = ap beside (p.0 alone.links) ∙ heard_beside (w.streams conn) conn bytes (record w { heard = Some conn })

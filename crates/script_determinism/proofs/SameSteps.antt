@@ -30,7 +30,7 @@ snapshot_of s = record { index = s.index; term = s.term; bytes = s.bytes }
 
 -- what a message of the rules says, with this snapshot
 abbrev back_what : Snap → rules.What → MessageBody
-back_what kept (rules.AskVote last) = whats.AskVote last
+back_what kept (rules.AskVote last transfer) = whats.AskVote last transfer
 back_what kept (rules.Vote granted) = whats.Vote granted
 back_what kept (rules.Append prev commit entries) = whats.Append prev commit entries
 back_what kept (rules.Ack good index) = whats.Ack good index
@@ -41,7 +41,7 @@ abbrev back : Snap → rules.Message → RaftMessage
 back kept m = record { from = m.from; to = m.to; term = m.term; what = back_what kept m.what }
 
 what_back : (kept : Snap) (w : MessageBody) → Carries kept w → back_what kept (what_value w) ≡ w
-what_back kept (whats.AskVote last) e = refl
+what_back kept (whats.AskVote last transfer) e = refl
 what_back kept (whats.Vote granted) e = refl
 what_back kept (whats.Append prev commit entries) e = refl
 what_back kept (whats.Ack good index) e = refl

@@ -20,7 +20,8 @@ use Rattle.session_spec.specs.Servers.{has_server}
 use Rattle.session_spec.specs.Sessions.{Prepared, Transaction, Session, Gateway, View, JoinsPeer, HandsOver, Weighs, Turned, Refused, Lacks, Answers, Proposes, Lends, Affects, in_tx}
 use Rattle.session_spec.specs.Statements.{prepared_from, prepared_at, prepared_count, is_left_out, is_write_word, any_barred, any_write, wrong_params, with_params, with_all}
 use Rattle.session_spec.specs.Asking as asking
-use Rattle.session_spec.specs.Asking.{Asked, Never, Tells, Sets, Opens, Creates, Prepares, Drops, Begins, Commits, RollsBack, Changes, Runs, Reads, has_database, barriers_asked, asked_by}
+use Rattle.session_spec.proofs.Losing.{asked_both}
+use Rattle.session_spec.specs.Asking.{Asked, Never, Tells, Sets, Opens, Creates, Prepares, Drops, Forgets, Begins, Commits, RollsBack, Changes, Runs, Reads, has_database, barriers_asked, asked_unless_lost, asked_by}
 use Rattle.session_spec.specs.Requests.{unless, outside_write, outside, inside, run_in, committed, commit_in, waits_first, was_cut, read_in, does, on_request, on_later}
 
 -- ---- what is asked
@@ -36,6 +37,7 @@ Stays (Opens name barriers) = Unit {0}
 Stays (Creates name barriers) = Unit {0}
 Stays (Prepares p tail) = Unit {0}
 Stays (Drops id) = Unit {0}
+Stays (Forgets response) = Unit {0}
 Stays (Begins at_once) = Unit {0}
 Stays Commits = Unit {0}
 Stays RollsBack = Unit {0}
@@ -143,27 +145,30 @@ connect_stays : (b c : Bool) (id : ℕ) → b ≡ false → Stays (cond (b && c)
 connect_stays true c id e = absurd (true≢false e)
 connect_stays false c id e = tt
 
+unlost_stays : (v : View) (m : Machine) (g : Gateway) (conn : ℕ) (s : Session) (r : Request) → v.links ≡ false → Stays (asked_unless_lost v m g conn s r)
+unfolding asked_unless_lost
+unlost_stays v m g conn s requests.Leader e = tt
+unlost_stays v m g conn s (requests.Client id) e = tt
+unlost_stays v m g conn s (requests.Open name flags vfs) e = leading v _ (open_stays v m g s name (barriers_asked flags))
+unlost_stays v m g conn s (requests.Prepare db sql wide) e = leading v _ (opened s db _ (prepare_stays s sql wide (scan_of sql)))
+unlost_stays v m g conn s (requests.Exec db id params wide) e = leading v _ (opened s db _ (exec_stays (write_hindrance m g conn s) (in_tx s) (prepared_at s.statements id) params))
+unlost_stays v m g conn s (requests.Query db id params wide) e = leading v _ (opened s db _ (prepared_stays (write_hindrance m g conn s) (prepared_at s.statements id) params))
+unlost_stays v m g conn s (requests.Finalize db id) e = opened s db _ (finalize_stays (prepared_at s.statements id) id)
+unlost_stays v m g conn s (requests.ExecSql db sql params wide) e = leading v _ (opened s db _ (text_stays (write_hindrance m g conn s) (in_tx s) sql (scan_of sql) params))
+unlost_stays v m g conn s (requests.QuerySql db sql params wide) e = leading v _ (opened s db _ (rows_stay (write_hindrance m g conn s) sql (scan_of sql) params))
+unlost_stays v m g conn s (requests.Interrupt db) e = opened s db (Tells responses.Empty) tt
+unlost_stays v m g conn s (requests.Connect id address) e = connect_stays v.links (asking.is_other_node v id) id e
+unlost_stays v m g conn s (requests.Add id address) e = leading v _ (settled g _ (by (asking.is_barred_node v.servers id address) _ _ tt tt))
+unlost_stays v m g conn s (requests.Assign id role) e = leading v _ (settled g _ (assign_stays v id role))
+unlost_stays v m g conn s (requests.Remove id) e = leading v _ (settled g _ (remove_stays v id))
+unlost_stays v m g conn s (requests.Dump name) e = by (is_named m.names name) _ _ (by (nat_lt 16777216 (asking.body_size (asking.files_of name (m.base name).image))) _ _ tt tt) tt
+unlost_stays v m g conn s (requests.Cluster format) e = by (nat_le format 1) _ _ tt tt
+unlost_stays v m g conn s (requests.Transfer id) e = leading v _ (by (among (voters v.servers) id) _ _ (by (asking.may_take_over v id) _ _ tt tt) tt)
+unlost_stays v m g conn s (requests.Describe format) e = by (format == 0) _ _ tt tt
+unlost_stays v m g conn s (requests.Weight weight) e = tt
+
 asked_stays : (v : View) (m : Machine) (g : Gateway) (conn : ℕ) (s : Session) (r : Request) → v.links ≡ false → Stays (asked_by v m g conn s r)
-unfolding asked_by
-asked_stays v m g conn s requests.Leader e = tt
-asked_stays v m g conn s (requests.Client id) e = tt
-asked_stays v m g conn s (requests.Open name flags vfs) e = leading v _ (open_stays v m g s name (barriers_asked flags))
-asked_stays v m g conn s (requests.Prepare db sql wide) e = leading v _ (opened s db _ (prepare_stays s sql wide (scan_of sql)))
-asked_stays v m g conn s (requests.Exec db id params wide) e = leading v _ (opened s db _ (exec_stays (write_hindrance m g conn s) (in_tx s) (prepared_at s.statements id) params))
-asked_stays v m g conn s (requests.Query db id params wide) e = leading v _ (opened s db _ (prepared_stays (write_hindrance m g conn s) (prepared_at s.statements id) params))
-asked_stays v m g conn s (requests.Finalize db id) e = opened s db _ (finalize_stays (prepared_at s.statements id) id)
-asked_stays v m g conn s (requests.ExecSql db sql params wide) e = leading v _ (opened s db _ (text_stays (write_hindrance m g conn s) (in_tx s) sql (scan_of sql) params))
-asked_stays v m g conn s (requests.QuerySql db sql params wide) e = leading v _ (opened s db _ (rows_stay (write_hindrance m g conn s) sql (scan_of sql) params))
-asked_stays v m g conn s (requests.Interrupt db) e = opened s db (Tells responses.Empty) tt
-asked_stays v m g conn s (requests.Connect id address) e = connect_stays v.links (asking.is_other_node v id) id e
-asked_stays v m g conn s (requests.Add id address) e = leading v _ (settled g _ (by (asking.is_barred_node v.servers id address) _ _ tt tt))
-asked_stays v m g conn s (requests.Assign id role) e = leading v _ (settled g _ (assign_stays v id role))
-asked_stays v m g conn s (requests.Remove id) e = leading v _ (settled g _ (remove_stays v id))
-asked_stays v m g conn s (requests.Dump name) e = by (is_named m.names name) _ _ (by (nat_lt 16777216 (asking.body_size (asking.files_of name (m.base name).image))) _ _ tt tt) tt
-asked_stays v m g conn s (requests.Cluster format) e = by (nat_le format 1) _ _ tt tt
-asked_stays v m g conn s (requests.Transfer id) e = leading v _ (by (among (voters v.servers) id) _ _ (by (asking.may_take_over v id) _ _ tt tt) tt)
-asked_stays v m g conn s (requests.Describe format) e = by (format == 0) _ _ tt tt
-asked_stays v m g conn s (requests.Weight weight) e = tt
+asked_stays v m g conn s r e = asked_both Stays v m g conn s r tt (λ response ends. tt) (unlost_stays v m g conn s r e)
 
 -- ---- what comes of it
 
@@ -231,6 +236,7 @@ module _ (v : View) (m : Machine) (g : Gateway) (conn : ℕ) (s : Session) where
   does_told (Creates name barriers) a unread h = search (on)
   does_told (Prepares p tail) a unread h = tt
   does_told (Drops id) a unread h = tt
+  does_told (Forgets response) a unread h = tt
   does_told (Begins at_once) a unread h = on (at_once && other_holds g conn s.database) _ _ tt tt
   does_told Commits a unread h = commit_told s.tx
   does_told RollsBack a unread h = tt

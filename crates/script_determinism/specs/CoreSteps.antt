@@ -38,6 +38,7 @@ abbrev pub IsUnread : Event → Type 0
 IsUnread (events.ReadDone conn read) = ⊥
 IsUnread events.Timeout = Unit {0}
 IsUnread events.Beat = Unit {0}
+IsUnread events.Yield = Unit {0}
 IsUnread (events.Connect conn) = Unit {0}
 IsUnread (events.Bytes conn bytes) = Unit {0}
 IsUnread (events.Hangup conn) = Unit {0}

@@ -1,7 +1,7 @@
 //! What machines say.
 
 /// Something that machines say.
-#[derive(Debug, Drop)]
+#[derive(Drop)]
 pub enum MachineLine {
     /// Bytes were no command, or the list of commands could not take it.
     Refused,

@@ -1,14 +1,16 @@
 -- In a script's world a message that arrives was sent.
-use Rattle.std.proofs.Common.{◌≡◌, ◌⊎◌, inl, inr, ℕ, zero, suc, Bool, true, false, List, [], ◌∷◌, ◌++◌, map, refl, sym, ap, ◌∙◌, subst, append-nil, append_assoc}
+use Rattle.std.proofs.Common.{◌≡◌, ◌≤◌, ◌⊎◌, inl, inr, ℕ, zero, suc, Bool, true, false, List, [], ◌∷◌, ◌++◌, map, refl, sym, ap, ◌∙◌, subst, append-nil}
+use Rattle.std.proofs.Common.{append_assoc}
 use Rattle.std.specs.Prelude.{◌-◌, ◌+◌, Option, Some, None, Result, Ok, Err, slice_get, nat_le, if◌then◌else◌}
 use Rattle.std.specs.List.{AllByRecursion}
+use Rattle.std.proofs.lemmas.Bool.{cases_lt}
 use Rattle.std.proofs.lemmas.List.{map-append}
 use Rattle.raft_messages.specs.declared.message.RaftMessage.{RaftMessage}
 use Rattle.raft_messages.specs.declared.fault.PeerFault.{PeerFault}
-use Rattle.raft_messages.specs.declared.fault.PeerFault.TheVariants.{Range}
-use Rattle.raft_messages.specs.Messages.{what_number, body_bytes, numbers_fit}
+use Rattle.raft_messages.specs.declared.fault.PeerFault.TheVariants.{Kind, Range}
+use Rattle.raft_messages.specs.Messages.{message_bytes, numbers_fit}
 use Rattle.raft_messages.specs.Reading.{peer_message_of}
-use Rattle.raft_messages.proofs.MessageLaws.{message_read, message_refused}
+use Rattle.raft_messages.proofs.MessageLaws.{schema_is, message_read, message_refused, far_refuse}
 use Rattle.script_grammar.specs.declared.events.Event.{Event}
 use Rattle.script_grammar.specs.declared.events.Event.TheVariants as event
 use Rattle.script_grammar.specs.declared.grammar.FaultTarget.{FaultTarget}
@@ -48,11 +50,11 @@ no_err a x f p q = inner (sym p ∙ q)
 
 reads_back : (m : RaftMessage) → CanHold m → ReadsBack m
 unfolding ReadsBack
-reads_back m h other e = by (numbers_fit m) refl
+reads_back m h other e = elim (cases_lt 127 m.to) [ inl far ↦ absurd (no_err (arriving (letter_of m)) other Kind (far_refuse m.to (wire_message (message_bytes m)) far) e) | inr low ↦ by low (numbers_fit m) refl ]
   where
-    by : (b : Bool) → numbers_fit m ≡ b → other ≡ m
-    by true fit = ok_is (arriving (letter_of m)) (arriving (letter_of m)) m other (message_read (record { kind = what_number m.what; schema = 0; body = body_bytes m }) m (record { kind = refl; schema = refl; holds = h; body = refl; in_range = fit })) e refl
-    by false fit = absurd (no_err (arriving (letter_of m)) other Range (message_refused m.to m h fit) e)
+    by : m.to ≤ 127 → (b : Bool) → numbers_fit m ≡ b → other ≡ m
+    by low true fit = ok_is (arriving (letter_of m)) (arriving (letter_of m)) m other (message_read (wire_message (message_bytes m)) m (record { kind = refl; schema = schema_is m low; receiver = low; holds = h; body = refl; in_range = fit })) e refl
+    by low false fit = absurd (no_err (arriving (letter_of m)) other Range (message_refused m low h fit) e)
 
 -- ---- what was sent
 

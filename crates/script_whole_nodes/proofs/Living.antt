@@ -1,6 +1,6 @@
 -- How the life of a node at its place goes on, and that it leads where its turns do.
 use Rattle.std.proofs.Common.{inl, inr, ◌≡◌, ◌⊎◌, ◌≤◌, ℕ, zero, suc, Bool, true, false, leb, List, [], ◌∷◌, ◌++◌, length, take, drop, Option, Some, None, refl, sym, ap, subst, ◌∙◌, arith}
-use Rattle.std.proofs.lemmas.List.{append_assoc, append-nil, length-append, take_all}
+use Rattle.std.proofs.lemmas.List.{append_assoc, append-nil, length-append, take_all, drop_at}
 use Rattle.std.proofs.lemmas.Bool.{leb-true, le-leb, true≢false}
 use Rattle.sql_engine.specs.declared.kind.EngineKind.{EngineKind}
 use Rattle.sql_engine.specs.Meanings.{Meaning}
@@ -34,11 +34,16 @@ whole_front xs = take_all (length xs) xs (omega arith)
 meta_rests : (f : Format) (side : _) (h : Held) (c : List ℕ) → h.bytes ≡ c → MetaGenuine f side h c
 meta_rests f side h c same = record { whole = λ some. record { why = inl (ap (λ (xs : List ℕ). take (length c) xs) same ∙ whole_front c) } }
 
+-- what follows a front of a file, read at the end of that front
+stood : (front rest xs : List ℕ) (n : ℕ) → xs ≡ front ++ rest → take (length (take n rest)) (drop (length front) xs) ≡ take n rest
+stood front rest xs n is =
+    ap (λ (ys : List ℕ). take (length (take n rest)) (drop (length front) ys)) is
+    ∙ ap (take (length (take n rest))) (drop_at front rest (length front) refl)
+    ∙ same_front rest n
+
 batches_rest : (f : Format) (h : Held) (c : List ℕ) → h.bytes ≡ c → BatchesGenuine f h c
 batches_rest f h c same = record {
-  each = λ p some. record {
-    why = inl (ap (λ (xs : List ℕ). take (length (take (reader f c (drop p c)).size (drop p c))) (drop p xs)) same ∙ same_front (drop p c) (reader f c (drop p c)).size);
-  };
+  each = λ front rest is whole some. record { why = inl (stood front rest h.bytes (reader f c rest).size (same ∙ is)) };
 }
 
 snapshot_rests : (f : Format) (j : ℕ) (h : Held) (c : List ℕ) → h.bytes ≡ c → SnapGenuine f j h c

@@ -32,12 +32,12 @@ use Rattle.segment_store.proofs.Joints.{settled_none, kept_top, one_up, until_no
 use Rattle.segment_store.proofs.NoTwoAlike.{no_two_alike}
 use Rattle.segment_store.proofs.Listing.{numbers_more, numbers_written, snapshots_same}
 
-pub word_format : format_in segment_word ≡ 2
+pub word_format : format_in segment_word ≡ 3
 unfolding format_in
 word_format = refl
 
--- what follows bytes in format 2 leaves their format
-pub format_stays : (x y : List ℕ) → format_in x ≡ 2 → format_in (x ++ y) ≡ 2
+-- what follows bytes in format 3 leaves their format
+pub format_stays : (x y : List ℕ) → format_in x ≡ 3 → format_in (x ++ y) ≡ 3
 format_stays x y e =
     let long : 8 ≤ length x = is_lawful.opens_long x (ap (nat_lt 0) e) in
     is_lawful.version_front x y long ∙ e
@@ -53,7 +53,7 @@ module _ (k : Kept) (b : Log) (fits : Fits b) (can : CanAppend k b) where
   w = batches_read_back b fits
 
   -- a batch in segment n, over a settled disk with none above it
-  module _ (n : ℕ) (D : NodeDisk) (s : Settled node_format (suc n) D) (is_k : kept node_format (suc n) D.read ≡ Loaded k) (same : (D.read (Segment n)).there ≡ true → format_in (D.read (Segment n)).bytes ≡ 2) where
+  module _ (n : ℕ) (D : NodeDisk) (s : Settled node_format (suc n) D) (is_k : kept node_format (suc n) D.read ≡ Loaded k) (same : (D.read (Segment n)).there ≡ true → format_in (D.read (Segment n)).bytes ≡ 3) where
     abbrev calls : List NodeCall
     calls = append_calls n (D.read (Segment n)).there (length (D.read (Segment n)).bytes) segment_word enc
 
@@ -71,7 +71,7 @@ module _ (k : Kept) (b : Log) (fits : Fits b) (can : CanAppend k b) where
 
     -- the store then, with its other facts as they were
     pub opened : suc n ≤ 10000000000000000 → (e : NodeDisk) → Done calls D e → (version count : ℕ) (first second : Option ℕ) (snapshots : List ℕ)
-        → next_stamp (meta_of node_format D.read) ≡ suc (suc version) → HasSize first (D.read First) → HasSize second (D.read Second) → length (bytes ++ enc) ≡ count → format_in bytes ≡ 2 → HasSnapshots snapshots D.read
+        → next_stamp (meta_of node_format D.read) ≡ suc (suc version) → HasSize first (D.read First) → HasSize second (D.read Second) → length (bytes ++ enc) ≡ count → format_in bytes ≡ 3 → HasSnapshots snapshots D.read
         → HasNew (record { version = version; first = first; second = second; next = suc n; size = Some count; segments = segment_numbers n D.read ++ n ∷ []; snapshots = snapshots }) new e
     opened small e u version count first second snapshots stamp f1 f2 long format listed =
         let c = law.1 e u in
@@ -105,7 +105,7 @@ module _ (k : Kept) (b : Log) (fits : Fits b) (can : CanAppend k b) (s : Open) (
   count = length (batch_bytes b)
 
   -- in the segment that is there
-  module _ (l n : ℕ) (before : s.next ≡ suc n) (size : HasSize (Some l) (D.read (Segment n))) (format : format_in (D.read (Segment n)).bytes ≡ 2) where
+  module _ (l n : ℕ) (before : s.next ≡ suc n) (size : HasSize (Some l) (D.read (Segment n))) (format : format_in (D.read (Segment n)).bytes ≡ 3) where
     settled : Settled node_format (suc n) D
     settled = subst (λ (t : ℕ). Settled node_format t D) before o.settled
 
@@ -138,7 +138,7 @@ module _ (k : Kept) (b : Log) (fits : Fits b) (can : CanAppend k b) (s : Open) (
   none_there : (D.read (Segment s.next)).there ≡ false
   none_there = o.settled.above s.next (omega arith)
 
-  no_format : (D.read (Segment s.next)).there ≡ true → format_in (D.read (Segment s.next)).bytes ≡ 2
+  no_format : (D.read (Segment s.next)).there ≡ true → format_in (D.read (Segment s.next)).bytes ≡ 3
   no_format t = let z : false ≡ true = sym none_there ∙ t in absurd cc
 
   room : Settled node_format (suc s.next) D × (kept node_format (suc s.next) D.read ≡ kept node_format s.next D.read)

@@ -32,3 +32,4 @@ pub mod KeepStore
 pub mod Joints
 pub mod CountedCalls
 pub mod Restarting
+pub mod Halves

@@ -13,11 +13,11 @@ pub not_gone : (b : Bool) → cond b Sure Absent ≡ Gone → ⊥
 not_gone true e = absurd cc
 not_gone false e = absurd cc
 
-done_both : (cs ds : List (Call Text)) (d m e : Disk Text) → Done cs d m → Done ds m e → Done (cs ++ ds) d e
+pub done_both : (cs ds : List (Call Text)) (d m e : Disk Text) → Done cs d m → Done ds m e → Done (cs ++ ds) d e
 done_both [] ds d m e q done = subst (λ (x : Disk Text). Done ds x e) q done
 done_both (c ∷ cs) ds d m e (p, (did, rest)) done = (p, (did, done_both cs ds p m e rest done))
 
-until_both : (cs ds : List (Call Text)) (d m e : Disk Text) → Done cs d m → Until ds m e → Until (cs ++ ds) d e
+pub until_both : (cs ds : List (Call Text)) (d m e : Disk Text) → Done cs d m → Until ds m e → Until (cs ++ ds) d e
 until_both [] ds d m e q u = subst (λ (x : Disk Text). Until ds x e) q u
 until_both (c ∷ cs) ds d m e (p, (did, rest)) u = inr (inr (p, (did, until_both cs ds p m e rest u)))
 
@@ -25,7 +25,7 @@ until_none : (ds : List (Call Text)) (d e : Disk Text) → e ≡ d → Until ds 
 until_none [] d e q = q
 until_none (c ∷ ds) d e q = inl q
 
-until_front : (cs ds : List (Call Text)) (d e : Disk Text) → Until cs d e → Until (cs ++ ds) d e
+pub until_front : (cs ds : List (Call Text)) (d e : Disk Text) → Until cs d e → Until (cs ++ ds) d e
 until_front [] ds d e q = until_none ds d e q
 until_front (c ∷ cs) ds d e (inl q) = inl q
 until_front (c ∷ cs) ds d e (inr (inl broke)) = inr (inl broke)

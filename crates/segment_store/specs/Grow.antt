@@ -30,5 +30,17 @@ abbrev pub appended_to : Option ℕ → ℕ → Open → Open
 appended_to (Some n) count s = record { version = s.version; first = s.first; second = s.second; next = s.next; size = Some (n + count); segments = s.segments; snapshots = s.snapshots }
 appended_to None count s = record { version = s.version; first = s.first; second = s.second; next = suc s.next; size = Some (8 + count); segments = s.segments ++ s.next ∷ []; snapshots = s.snapshots }
 
+-- the store whose last segment is this long
+abbrev pub grown_to : ℕ → Open → Open
+grown_to size s = record {
+  version = s.version;
+  first = s.first;
+  second = s.second;
+  next = s.next;
+  size = Some size;
+  segments = s.segments;
+  snapshots = s.snapshots;
+}
+
 abbrev pub with_appended : ℕ → Open → Open
 with_appended count s = appended_to (room_in s.size) count s

@@ -14,3 +14,4 @@ pub mod MadeCalls
 pub mod Keeping
 pub mod Restarts
 pub mod Plans
+pub mod Halves

@@ -36,7 +36,7 @@ pub record Grows (next n : ℕ) (d : NodeDisk) : Type 0 where
   pub last : ℕ
   pub before : next ≡ suc last
   pub size : HasSize (Some n) (d.read (Segment last))
-  pub format : format_in (d.read (Segment last)).bytes ≡ 2
+  pub format : format_in (d.read (Segment last)).bytes ≡ 3
 
 abbrev pub MayGrow : ℕ → Option ℕ → NodeDisk → Type 0
 MayGrow next None d = Unit {0}

@@ -11,9 +11,11 @@ mod names;
 mod segment;
 mod starts;
 mod store;
+mod unsynced;
 
 pub use fault::StoreFault;
 pub use load_fault::LoadFault;
 pub use starts::{kept_starts, load_starts, old_or_kept_starts, old_or_new_starts};
 pub use store::Store;
 pub use store_format::{Kept, crc32, sum8};
+pub use unsynced::UnsyncedBatch;

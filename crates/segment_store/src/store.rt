@@ -1,5 +1,5 @@
-ghost use Rattle.std.specs.Prelude.{◌≡◌, ◌==◌, ◌%◌, ◌<◌, ◌^◌, ◌-◌, ◌++◌, ◌∷◌, [], suc, length, MatchOption, Some, None, IfOk, OnOk};
-ghost use Rattle.disk_model.specs.Calls.{MayWrite};
+ghost use Rattle.std.specs.Prelude.{◌≡◌, ◌==◌, ◌%◌, ◌<◌, ◌≤◌, ◌^◌, ◌+◌, ◌-◌, ◌++◌, ◌∷◌, [], suc, length, MatchOption, Some, None, IfOk, OnOk};
+ghost use Rattle.disk_model.specs.Calls.{MayWrite, Sync, WriteAt};
 ghost use Rattle.disk_model.specs.Trait.{Known, MakesCalls};
 ghost use Rattle.store_laws.specs.Names.{Segment};
 ghost use Rattle.store_laws.specs.Store.{Kept, Log};
@@ -10,7 +10,8 @@ ghost use Rattle.store_format.specs.Snapshots.{snapshot_bytes};
 ghost use Rattle.store_format.specs.Batches.{batch_bytes};
 ghost use Rattle.store_format.specs.BatchesWritten.{segment_word, Fits};
 ghost use Rattle.segment_store.specs.FileNames.{file_name};
-ghost use Rattle.segment_store.specs.Grow.{grow_calls, begin_calls, IsFree, room_in, appended_to, with_appended};
+ghost use Rattle.segment_store.specs.Grow.{begin_calls, IsFree, room_in, appended_to, grown_to, with_appended};
+ghost use Rattle.segment_store.specs.Halves.{BeginsAppend, EndsAppend, HasBegun, HasFailed, WentTo};
 ghost use Rattle.segment_store.specs.Faults.{DiskCause, StaysUnlessFailed};
 ghost use Rattle.segment_store.specs.Open.{HaveDigits, size_for, with_version};
 ghost use Rattle.segment_store.specs.Keeps.{Keeps, Went, block_calls};
@@ -23,7 +24,8 @@ use crate::fault::StoreFault;
 use crate::keep_files::follow;
 use crate::keep_plan::{KeepPlan, kept_indices, new_segment, new_snapshot, old_files};
 use crate::names::{File, NUMBER_END, file_name, metadata_file};
-use crate::segment::{begin_segment, grow_segment};
+use crate::segment::{begin_segment, write_unsynced};
+use crate::unsynced::UnsyncedBatch;
 use disk_model::Disk;
 use raft_messages::{Entry, Snapshot};
 use std::alloc::{AllocError, Global};
@@ -85,23 +87,32 @@ fn write_metadata<D: Disk>(
     Ok(())
 }
 
-// Writes a batch at the end of the segment of this number, which has this size.
-fn grow_batch<D: Disk>(
+// Writes a batch at the end of the segment of this number, which has this size, and leaves the sync to the caller.
+fn write_batch<D: Disk>(
     alloc: Global,
     disk: &mut D,
     number: u64,
     size: u64,
     batch: &[u8],
-) -> Result<(), StoreFault>
-    requires { number < 10000000000000000 }
-    ensures went { Known D.tells (D.states disk.old) (MayWrite (file_name (Segment number)) size) → Went (grow_calls (file_name (Segment number)) size batch.now) (D.states disk.old) (D.states disk.new) result }
+) -> Result<UnsyncedBatch, StoreFault>
+    requires number { number < 10000000000000000 }
+    requires room { size < 8388608 }
+    ensures unsynced { IfOk result (λ u. (u.name ≡ file_name (Segment number)) × (u.size ≡ size + length batch.now)) }
+    ensures went { Known D.tells (D.states disk.old) (MayWrite (file_name (Segment number)) size) →
+        WentTo (WriteAt (file_name (Segment number)) size batch.now ∷ []) (D.states disk.old) (D.states disk.new) result }
     ensures cause { DiskCause (D.faults disk.old) (D.faults disk.new) result }
+    ensures wants { D.wants disk.old ≤ D.wants disk.new }
     ensures stays { StaysUnlessFailed disk.old disk.new (D.faults disk.old) (D.faults disk.new) (D.wants disk.old) (D.wants disk.new) result }
-    ensures count { MakesCalls 2 (D.made disk.old) (D.made disk.new) result }
+    ensures count { MakesCalls 1 (D.made disk.old) (D.made disk.new) result }
 {
     let name = file_name(alloc, File::Segment(number))?;
-    grow_segment(disk, name.as_str(), size, batch)?;
-    Ok(())
+    let is_begun = write_unsynced(disk, name.as_str(), size, batch)?;
+    let size = size + batch.len() as u64;
+    Ok(UnsyncedBatch {
+        name,
+        size,
+        is_begun,
+    })
 }
 
 /// Begins the segment of this number with a batch.
@@ -183,7 +194,7 @@ impl Store {
         }
     }
 
-    /// Keeps a term and a vote; 0 is no vote. Writes one file of 40 bytes, in format 2. A version past the last number of
+    /// Keeps a term and a vote; 0 is no vote. Writes one file of 40 bytes, in format 3. A version past the last number of
     /// 64 bits is answered as out of memory, with nothing written.
     pub fn set_meta<D: Disk>(
         &mut self,
@@ -238,11 +249,11 @@ impl Store {
         }
     }
 
-    fn note_grown(&mut self, size: u64, batch: &[u8])
-        requires { size < 8388608 }
-        ensures { self.new ≡ appended_to (Some size) (length batch.now) self.old }
+    // The last segment is this long now.
+    fn note_grown(&mut self, size: u64)
+        ensures { self.new ≡ grown_to size self.old }
     {
-        self.size = Some(size + batch.len() as u64);
+        self.size = Some(size);
     }
 
     fn note_begun(&mut self, segments: Vec<u64>, batch: &[u8])
@@ -266,9 +277,8 @@ impl Store {
         ensures stays { StaysUnlessFailed disk.old disk.new (D.faults disk.old) (D.faults disk.new) (D.wants disk.old) (D.wants disk.new) result }
         ensures count { MakesCalls 2 (D.made disk.old) (D.made disk.new) result }
     {
-        grow_batch(self.alloc, disk, self.last(), size, batch)?;
-        self.note_grown(size, batch);
-        Ok(())
+        let unsynced = write_batch(self.alloc, disk, self.last(), size, batch)?;
+        self.end_append(disk, unsynced)
     }
 
     // Begins a segment with a batch.
@@ -288,6 +298,42 @@ impl Store {
         begin_batch(self.alloc, disk, number, batch)?;
         self.note_begun(segments, batch);
         Ok(())
+    }
+
+    // Writes a batch to the segment that has room for it, and leaves the sync.
+    fn begin_grow<D: Disk>(
+        &self,
+        disk: &mut D,
+        size: u64,
+        batch: &[u8],
+    ) -> Result<Option<UnsyncedBatch>, StoreFault>
+        requires { size < 8388608 }
+        ensures begun { room_in self.now.size ≡ Some size → IfOk result (HasBegun self.now self.now batch.now) }
+        ensures kept { (k : Kept) (b : Log) → batch.now ≡ batch_bytes b → Fits b → CanAppend k b → room_in self.now.size ≡ Some size →
+            BeginsAppend D.tells (D.states disk.old) (D.states disk.new) self.now self.now k b result }
+        ensures cause { DiskCause (D.faults disk.old) (D.faults disk.new) result }
+        ensures stays { StaysUnlessFailed disk.old disk.new (D.faults disk.old) (D.faults disk.new) (D.wants disk.old) (D.wants disk.new) result }
+        ensures wants { IfOk result (λ left. MatchOption left (Unit {0}) (λ u. D.wants disk.old ≤ D.wants disk.new)) }
+    {
+        let unsynced = write_batch(self.alloc, disk, self.last(), size, batch)?;
+        Ok(Some(unsynced))
+    }
+
+    // Begins a segment with a batch, and leaves nothing.
+    fn begin_whole<D: Disk>(
+        &mut self,
+        disk: &mut D,
+        batch: &[u8],
+    ) -> Result<Option<UnsyncedBatch>, StoreFault>
+        ensures begun { room_in self.old.size ≡ None → IfOk result (HasBegun self.old self.new batch.now) }
+        ensures kept { (k : Kept) (b : Log) → batch.now ≡ batch_bytes b → Fits b → CanAppend k b → room_in self.old.size ≡ None →
+            BeginsAppend D.tells (D.states disk.old) (D.states disk.new) self.old self.new k b result }
+        ensures cause { DiskCause (D.faults disk.old) (D.faults disk.new) result }
+        ensures stays { StaysUnlessFailed disk.old disk.new (D.faults disk.old) (D.faults disk.new) (D.wants disk.old) (D.wants disk.new) result }
+        ensures wants { IfOk result (λ left. MatchOption left (Unit {0}) (λ u. D.wants disk.old ≤ D.wants disk.new)) }
+    {
+        self.begin(disk, batch)?;
+        Ok(None)
     }
 
     /// Replaces the log from the index `first` on by these entries. `first` lies past the kept snapshot and at most one
@@ -315,6 +361,52 @@ impl Store {
             Some(size) => self.grow(disk, size, batch.as_slice()),
             None => self.begin(disk, batch.as_slice()),
         }
+    }
+
+    /// The first half of `append`, with its conditions and faults: writes the batch. If it went to the segment that is there, its
+    /// sync is left to `end_append`, which is to be the next call; the store is as it was, and a crash leaves what a crash in
+    /// `append` does. If it began a new segment it is kept, and nothing is left to be done.
+    pub fn begin_append<D: Disk>(
+        &mut self,
+        disk: &mut D,
+        first: u64,
+        entries: &[Entry],
+    ) -> Result<Option<UnsyncedBatch>, StoreFault>
+        ensures begun { IfOk result (HasBegun self.old self.new (batch_bytes (record { first = first; entries = entries.now }))) }
+        ensures kept { (k : Kept) → CanAppend k (record { first = first; entries = entries.now }) →
+            BeginsAppend D.tells (D.states disk.old) (D.states disk.new) self.old self.new k (record { first = first; entries = entries.now }) result }
+        ensures cause { DiskCause (D.faults disk.old) (D.faults disk.new) result }
+        ensures stays { StaysUnlessFailed disk.old disk.new (D.faults disk.old) (D.faults disk.new) (D.wants disk.old) (D.wants disk.new) result }
+        ensures wants { IfOk result (λ left. MatchOption left (Unit {0}) (λ u. D.wants disk.old ≤ D.wants disk.new)) }
+    {
+        let batch = batch_bytes(self.alloc, first, entries)?;
+        match self.room() {
+            Some(size) => self.begin_grow(disk, size, batch.as_slice()),
+            None => self.begin_whole(disk, batch.as_slice()),
+        }
+    }
+
+    /// The second half of `append`: syncs the batch that `begin_append` has written, by one call of the disk. Then it is kept. After
+    /// an `Err` the disk has failed or run out of memory, and what is kept is the state before `begin_append` or the one with
+    /// the batch.
+    pub fn end_append<D: Disk>(
+        &mut self,
+        disk: &mut D,
+        batch: UnsyncedBatch,
+    ) -> Result<(), StoreFault>
+        requires { batch.name ≡ file_name (Segment (self.old.next - 1)) }
+        ensures store { OnOk result (self.new ≡ grown_to batch.size self.old) }
+        ensures kept { (k : Kept) (b : Log) → EndsAppend D.tells (D.states disk.old) (D.states disk.new) self.old self.new k b batch.size result }
+        ensures went { WentTo (Sync (file_name (Segment (self.old.next - 1))) ∷ []) (D.states disk.old) (D.states disk.new) result }
+        ensures cause { DiskCause (D.faults disk.old) (D.faults disk.new) result }
+        ensures failed { HasFailed (D.faults disk.old) (D.faults disk.new) (D.wants disk.old) (D.wants disk.new) result }
+        ensures count { MakesCalls 1 (D.made disk.old) (D.made disk.new) result }
+    {
+        // It shows the prover that numbers of segments have sixteen digits.
+        let _ = &self.segments;
+        disk.sync(batch.name.as_str())?;
+        self.note_grown(batch.size);
+        Ok(())
     }
 
     // What keeping a snapshot writes and removes. Nothing is left for the store's own memory to refuse later.

@@ -13,6 +13,7 @@ use Rattle.node_core.specs.declared.fault.NodeFault.TheVariants as node
 abbrev pub event_of : LoopEvent Read → Event
 event_of loops.Timeout = happens.Timeout
 event_of loops.Beat = happens.Beat
+event_of loops.Yield = happens.Yield
 event_of (loops.Connect conn) = happens.Connect conn
 event_of (loops.Bytes conn bytes) = happens.Bytes conn bytes
 event_of (loops.Hangup conn) = happens.Hangup conn

@@ -8,6 +8,7 @@ use Rattle.serve_traits.specs.declared.event.Event.TheVariants as loops
 abbrev pub speaker_of : Event Read → Option ℕ
 speaker_of loops.Timeout = None
 speaker_of loops.Beat = None
+speaker_of loops.Yield = None
 speaker_of (loops.Connect conn) = None
 speaker_of (loops.Bytes conn bytes) = Some conn
 speaker_of (loops.Hangup conn) = None

@@ -15,6 +15,7 @@ pub(crate) fn event_of(event: serve_traits::Event<Read>) -> Event
     match event {
         serve_traits::Event::Timeout => Event::Timeout,
         serve_traits::Event::Beat => Event::Beat,
+        serve_traits::Event::Yield => Event::Yield,
         serve_traits::Event::Connect(conn) => Event::Connect(conn),
         serve_traits::Event::Bytes(conn, bytes) => Event::Bytes(conn, bytes),
         serve_traits::Event::Hangup(conn) => Event::Hangup(conn),

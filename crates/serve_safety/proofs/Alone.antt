@@ -43,6 +43,7 @@ module _ (m : Meaning) (kind : EngineKind) (r : Run) (n : ℕ) (jobs : ℕ → O
   first_arrives (events.ReadDone conn read) h = told_there conn (read_named read) (tells_there conn (read_named read) h)
   first_arrives events.Timeout h = tt
   first_arrives events.Beat h = tt
+  first_arrives events.Yield h = tt
   first_arrives (events.Connect conn) h = tt
   first_arrives (events.Bytes conn bytes) h = tt
   first_arrives (events.Hangup conn) h = tt

@@ -1,7 +1,6 @@
 -- A start finds what the disk's files stood for, which is nothing where there are none; and what is served from there on is a run.
-use Rattle.std.proofs.Common.{◌≡◌, ◌≤◌, ℕ, [], length, sym, ap, ◌∙◌, subst, arith}
-use Rattle.std.specs.Prelude.{Bool, true, false, drop, Option}
-use Rattle.std.proofs.lemmas.List.{length-drop}
+use Rattle.std.proofs.Common.{◌≡◌, ◌≤◌, ℕ, ◌+◌, List, [], ◌++◌, length, sym, ap, ◌∙◌, subst, arith, length-append}
+use Rattle.std.specs.Prelude.{Bool, true, false, Option}
 use Rattle.disk_model.specs.Disk.{Disk, no_files}
 use Rattle.disk_model.specs.Trait.{Text, told}
 use Rattle.sql_engine.specs.declared.kind.EngineKind.{EngineKind}
@@ -24,14 +23,17 @@ use Rattle.serve_safety.proofs.Stepped.{serves_by_rules_hold}
 
 -- ---- nothing is read by chance where there is nothing
 
-no_batch : (f : Format) → Lawful f → (p : ℕ) → (reader f [] (drop p [])).size ≡ 0
-no_batch f lawful p = let e : (reader f [] (drop p [])).size ≤ length (drop p []) = (lawful.batches (f.version [])).size_within (drop p []) in omega (arith, length-drop {A = ℕ} p [])
+no_batch : (f : Format) → Lawful f → (front rest : List ℕ) → [] ≡ front ++ rest → (reader f [] rest).size ≡ 0
+no_batch f lawful front rest is =
+    let e : (reader f [] rest).size ≤ length rest = (lawful.batches (f.version [])).size_within rest in
+    let long : 0 ≡ length front + length rest = ap length is ∙ length-append front rest in
+    omega (arith, e, long)
 
 no_chance : (f : Format) → Lawful f → NoChance f (folder no_files) (folder no_files).read
 no_chance f lawful = record {
   first = record { whole = λ h. absurd (h (lawful.meta_nil true)) };
   second = record { whole = λ h. absurd (h (lawful.meta_nil false)) };
-  segment = λ k. record { each = λ p h. absurd (h (no_batch f lawful p)) };
+  segment = λ k. record { each = λ front rest is whole h. absurd (h (no_batch f lawful front rest is)) };
   snapshot = λ j. record { whole = λ h. absurd (h (lawful.snap_nil j)) };
 }
 

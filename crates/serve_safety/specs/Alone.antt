@@ -33,6 +33,7 @@ ComesAlone m kind jobs (events.Peer message) = ⊥
 ComesAlone m kind jobs (events.ReadDone conn read) = TellsOver m kind (jobs conn) (read_named read)
 ComesAlone m kind jobs events.Timeout = Unit {0}
 ComesAlone m kind jobs events.Beat = Unit {0}
+ComesAlone m kind jobs events.Yield = Unit {0}
 ComesAlone m kind jobs (events.Connect conn) = Unit {0}
 ComesAlone m kind jobs (events.Bytes conn bytes) = Unit {0}
 ComesAlone m kind jobs (events.Hangup conn) = Unit {0}

@@ -16,7 +16,7 @@ use std::thread::Threads;
 use std::time::Clock;
 
 /// A call of a host that failed.
-#[derive(Debug, Drop)]
+#[derive(Drop)]
 pub struct HostFault {
     /// What was called: `listen`, `accept` for a second end of a listener, `dial`, `start a thread` or
     /// `take`.

@@ -5,7 +5,7 @@ use Rattle.raft_messages.specs.declared.message.MessageBody.TheVariants.{AskVote
 
 -- whether it answers a leader, or gives a vote
 abbrev pub is_heard : MessageBody → Bool
-is_heard (AskVote last) = false
+is_heard (AskVote last transfer) = false
 is_heard (Vote granted) = granted
 is_heard (Append prev commit entries) = false
 is_heard (Ack good index) = true

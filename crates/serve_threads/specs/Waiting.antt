@@ -6,7 +6,7 @@ use Rattle.raft_messages.specs.declared.message.MessageBody.TheVariants.{AskVote
 
 -- whether it is an Append or an Install
 abbrev pub is_bulk : MessageBody → Bool
-is_bulk (AskVote last) = false
+is_bulk (AskVote last transfer) = false
 is_bulk (Vote granted) = false
 is_bulk (Append prev commit entries) = true
 is_bulk (Ack good index) = false

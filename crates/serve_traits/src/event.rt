@@ -4,12 +4,14 @@ use dq_base::Bytes;
 use raft_messages::RaftMessage;
 
 /// What happens at a node whose readers tell this of a query.
-#[derive(Debug, Drop)]
+#[derive(Drop)]
 pub enum Event<T> {
     /// It has heard of no leader for too long.
     Timeout,
     /// It is time for a leader's heartbeat.
     Beat,
+    /// A leader is to give up its leadership. At a node that doesn't lead nothing happens.
+    Yield,
     /// A client connects by this number, which no client had before.
     Connect(u64),
     /// Bytes come on the connection of this number, the next ones of its stream.

@@ -76,6 +76,7 @@ fn letter<T>(event: &Event<T>) -> u8 {
     match event {
         Event::Timeout => b't',
         Event::Beat => b'b',
+        Event::Yield => b'l',
         Event::Connect(_) => b'c',
         Event::Bytes(_, _) => b'y',
         Event::Hangup(_) => b'h',

@@ -17,7 +17,7 @@ use wire_words::WireText;
 const GREETING: &[u8; 16] = b"\x01\0\0\0\0\0\0\0\x02\0\0\0\x0b\0\0\0";
 
 /// The bytes of node 1's TimeoutNow in term 3: a header of two words and type 6, the sender, the term.
-const MESSAGE: &[u8; 24] = b"\x02\0\0\0\x06\0\0\0\x01\0\0\0\0\0\0\0\x03\0\0\0\0\0\0\0";
+const MESSAGE: &[u8; 24] = b"\x02\0\0\0\x06\x02\0\0\x01\0\0\0\0\0\0\0\x03\0\0\0\0\0\0\0";
 
 /// Whether a reader's thread tells what comes of a query that is lent.
 fn reads<H: Host<u8>>(host: &mut H, alloc: Global) -> Option<bool> {

@@ -11,13 +11,14 @@ use Rattle.raft_spec.specs.Node.{Server, among, voters}
 use Rattle.raft_messages.specs.Servers.{Ascend, IsServer, IsConfiguration, votes_as}
 use Rattle.raft_messages.proofs.ServerLaws.{voters_cons}
 use Rattle.session_spec.specs.Asking as asking
-use Rattle.session_spec.specs.Asking.{Asked, Never, Changes, fits_one_voter, asked_by, is_barred_node, is_promotion, is_taken}
+use Rattle.session_spec.specs.Asking.{Asked, Never, Changes, fits_one_voter, asked_unless_lost, asked_by, is_barred_node, is_promotion, is_taken}
 use Rattle.session_spec.specs.Limits.{change_in_flight, one_too_many, log_full}
 use Rattle.session_spec.specs.Machine.{Machine, is_named}
 use Rattle.session_spec.specs.Servers.{has_server, has_address, with_server, with_role, without_server}
 use Rattle.session_spec.specs.Sessions.{Session, Gateway, View}
 use Rattle.session_spec.specs.Allowed.{IsAllowed}
 use Rattle.session_spec.proofs.Asked.{all_allowed}
+use Rattle.session_spec.proofs.Losing.{asked_both}
 use Rattle.session_requests.specs.declared.wanted.RequestPlan.{RequestPlan}
 use Rattle.session_requests.specs.declared.wanted.RequestPlan.TheVariants as wanted
 use Rattle.session_requests.specs.Meant.{meant}
@@ -314,6 +315,7 @@ module _ (v : View) (m : Machine) (g : Gateway) (conn : ℕ) (s : Session) (c : 
   plain_may request (asking.Creates name barriers) fits is = tt
   plain_may request (asking.Prepares prepared tail) fits is = tt
   plain_may request (asking.Drops id) fits is = tt
+  plain_may request (asking.Forgets response) fits is = tt
   plain_may request (asking.Begins at_once) fits is = tt
   plain_may request asking.Commits fits is = tt
   plain_may request asking.RollsBack fits is = tt
@@ -324,21 +326,33 @@ module _ (v : View) (m : Machine) (g : Gateway) (conn : ℕ) (s : Session) (c : 
   by_law : (request : Request) → fits_one_voter request ≡ true → May (asked_by v m g conn s request)
   by_law request fits = plain_may request (asked_by v m g conn s request) fits (all_allowed v m g conn s request)
 
+  open_unlost : (name vfs : List ℕ) (flags : ℕ) → May (asked_unless_lost v m g conn s (requests.Open name flags vfs))
+  unfolding asked_unless_lost
+  open_unlost name vfs flags = at_leader_may v g c (asking.asks_open v m g s name (asking.barriers_asked flags)) (open_may name (asking.barriers_asked flags))
+
   open_asked : (name vfs : List ℕ) (flags : ℕ) → May (asked_by v m g conn s (requests.Open name flags vfs))
-  unfolding asked_by
-  open_asked name vfs flags = at_leader_may v g c (asking.asks_open v m g s name (asking.barriers_asked flags)) (open_may name (asking.barriers_asked flags))
+  open_asked name vfs flags = asked_both May v m g conn s (requests.Open name flags vfs) tt (λ response ends. tt) (open_unlost name vfs flags)
+
+  add_unlost : (id : ℕ) (address : List ℕ) → has_nul address ≡ false → May (asked_unless_lost v m g conn s (requests.Add id address))
+  unfolding asked_unless_lost
+  add_unlost id address text = at_leader_may v g c (asking.if_settled g (asking.asks_add v.servers id address)) (settled_may v g c (asking.asks_add v.servers id address) (add_may v g c id address text))
 
   add_asked : (id : ℕ) (address : List ℕ) → has_nul address ≡ false → May (asked_by v m g conn s (requests.Add id address))
-  unfolding asked_by
-  add_asked id address text = at_leader_may v g c (asking.if_settled g (asking.asks_add v.servers id address)) (settled_may v g c (asking.asks_add v.servers id address) (add_may v g c id address text))
+  add_asked id address text = asked_both May v m g conn s (requests.Add id address) tt (λ response ends. tt) (add_unlost id address text)
+
+  assign_unlost : (id role : ℕ) → May (asked_unless_lost v m g conn s (requests.Assign id role))
+  unfolding asked_unless_lost
+  assign_unlost id role = at_leader_may v g c (asking.if_settled g (asking.asks_assign v id role)) (settled_may v g c (asking.asks_assign v id role) (assign_may v g c id role))
 
   assign_asked : (id role : ℕ) → May (asked_by v m g conn s (requests.Assign id role))
-  unfolding asked_by
-  assign_asked id role = at_leader_may v g c (asking.if_settled g (asking.asks_assign v id role)) (settled_may v g c (asking.asks_assign v id role) (assign_may v g c id role))
+  assign_asked id role = asked_both May v m g conn s (requests.Assign id role) tt (λ response ends. tt) (assign_unlost id role)
+
+  remove_unlost : (id : ℕ) → May (asked_unless_lost v m g conn s (requests.Remove id))
+  unfolding asked_unless_lost
+  remove_unlost id = at_leader_may v g c (asking.if_settled g (asking.asks_remove v id)) (settled_may v g c (asking.asks_remove v id) (remove_may v g c id))
 
   remove_asked : (id : ℕ) → May (asked_by v m g conn s (requests.Remove id))
-  unfolding asked_by
-  remove_asked id = at_leader_may v g c (asking.if_settled g (asking.asks_remove v id)) (settled_may v g c (asking.asks_remove v id) (remove_may v g c id))
+  remove_asked id = asked_both May v m g conn s (requests.Remove id) tt (λ response ends. tt) (remove_unlost id)
 
   all_may : (request : Request) → AddressHasNoNul request → May (asked_by v m g conn s request)
   unfolding fits_one_voter
@@ -372,6 +386,7 @@ configured v m g conn s request params (wanted.Opens name barriers) c text is = 
 configured v m g conn s request params (wanted.Creates name barriers) c text is = tt
 configured v m g conn s request params (wanted.Prepares prepared tail) c text is = tt
 configured v m g conn s request params (wanted.Drops id) c text is = tt
+configured v m g conn s request params (wanted.Forgets response) c text is = tt
 configured v m g conn s request params (wanted.Begins at_once) c text is = tt
 configured v m g conn s request params wanted.Commits c text is = tt
 configured v m g conn s request params wanted.RollsBack c text is = tt

@@ -1,5 +1,6 @@
 -- The sessions that code holds.
-use Rattle.std.proofs.Common.{◌≡◌, ℕ, Bool, false, cond, List, [], get_or, Result, Ok, Err, IfOk, OnOk, sym, ap, subst, ◌∙◌}
+use Rattle.std.proofs.Common.{◌≡◌, ℕ, Bool, false, cond, List, [], length, get_or, Result, Ok, Err, IfOk, OnOk, sym, ap, subst, ◌∙◌}
+use Rattle.std.proofs.lemmas.List.{length-map}
 use Rattle.std.specs.declared.alloc.AllocError.{AllocError}
 use Rattle.database_state.specs.declared.database.Database.{Database}
 use Rattle.session_spec.specs.Sessions.{Gateway, no_sessions, is_busy}
@@ -23,6 +24,12 @@ none_seen held databases none weightless =
 pub none_pinned : (held : Held) → held.sessions ≡ [] → pins_of held ≡ []
 unfolding pins_of
 none_pinned held none = ap (λ (ss : List Session). tables.pins_of ss) none
+
+-- ---- how many there are
+
+pub sessions_counted : (held : Held) (databases : List Database) (count : ℕ) → count ≡ length held.sessions → count ≡ length (seen held databases).conns
+unfolding seen table_of
+sessions_counted held databases count is = is ∙ sym (length-map held.sessions (λ (s : Session). s.conn))
 
 -- ---- the session of a connection
 

@@ -9,7 +9,7 @@ use Rattle.sql_engine.specs.declared.kind.EngineKind.{EngineKind}
 use Rattle.sql_engine.specs.Meanings.{Meaning, Told}
 use Rattle.sql_engine.specs.Replies.{Statement}
 use Rattle.database_state.specs.Files.{empty_image}
-use Rattle.session_spec.specs.Asking.{Asked, Never, Tells, Sets, Opens, Creates, Prepares, Drops, Begins, Commits, RollsBack, Changes, Runs, Reads, asked}
+use Rattle.session_spec.specs.Asking.{Asked, Never, Tells, Sets, Opens, Creates, Prepares, Drops, Forgets, Begins, Commits, RollsBack, Changes, Runs, Reads, asked}
 use Rattle.session_spec.specs.Causes.{Cause, DatabaseFull}
 use Rattle.session_spec.specs.Engines.{Answer, no_pages, Ending, Lacking, TooLarge, Stopped, Ended, runs, no_answer}
 use Rattle.session_spec.specs.Limits.{other_holds, pages_full, log_full}
@@ -82,6 +82,7 @@ module _ (v : View) (m : Machine) (g : Gateway) (conn : ℕ) (s : Session) where
   does_listed (Creates name barriers) answers h = cond_both (pages_full m g name empty_image) _ _ StaysListed (λ e. tt) (λ e. h)
   does_listed (Prepares p tail) answers h = h
   does_listed (Drops id) answers h = h
+  does_listed (Forgets response) answers h = h
   does_listed (Begins at_once) answers h = cond_both (at_once && other_holds g conn s.database) _ _ StaysListed (λ e. tt) (λ e. begun_listed m s at_once)
   does_listed Commits answers h = commit_listed s.tx h
   does_listed RollsBack answers h = tt

@@ -4,7 +4,7 @@ use Rattle.wire_msgs.specs.declared.request.Request.{Request}
 use Rattle.wire_msgs.specs.declared.response.Response.{Response}
 use Rattle.wire_msgs.specs.declared.response.Response.TheVariants as responses
 use Rattle.sql_engine.specs.Replies.{Statement}
-use Rattle.session_spec.specs.Causes.{NotADatabase, code, failure}
+use Rattle.session_spec.specs.Causes.{NotLeader, NotADatabase, code, failure}
 use Rattle.session_spec.specs.Engines.{Answer}
 use Rattle.session_spec.specs.Allowed.{IsFailure}
 use Rattle.session_spec.specs.Laws.{IsRefusal}
@@ -73,13 +73,17 @@ rows_differ (p ∷ ps) n x e = (cc)
 one_failure : (response : Response) (n : ℕ) (x : List ℕ) → acts.Reply (response ∷ []) ≡ acts.Reply (responses.Failure n x ∷ []) → responses.Failure n x ≡ response
 one_failure response n x e = (cc)
 
-no_failure : (reply : Reply) → (IsRefusal reply → ⊥) → acts.Reply (responses_of reply) ≡ acts.Reply (failure NotADatabase ∷ []) → ⊥
-no_failure (Refusal cause) plain e = plain tt
-no_failure (Single response) plain e = plain (subst IsFailure (one_failure response (code NotADatabase) _ e) tt)
+no_failure : (reply : Reply) → (IsRefusal reply → reply ≡ Single (failure NotLeader)) → acts.Reply (responses_of reply) ≡ acts.Reply (failure NotADatabase ∷ []) → ⊥
+no_failure (Refusal cause) plain e = let other : Refusal cause ≡ Single (failure NotLeader) = plain tt in (cc)
+no_failure (Single response) plain e =
+    let same : Single response ≡ Single (failure NotLeader) = plain (subst IsFailure (one_failure response (code NotADatabase) _ e) tt) in
+    let told : acts.Reply (failure NotLeader ∷ []) ≡ acts.Reply (failure NotADatabase ∷ []) = subst (λ (r : Reply). acts.Reply (responses_of r) ≡ acts.Reply (failure NotADatabase ∷ [])) same e in
+    let codes : 10250 ≡ 26 = code_of (failure NotLeader) (failure NotADatabase) _ _ _ _ told in
+    absurd (omega arith)
 no_failure (Rows answer) plain e = rows_differ _ _ _ e
 
--- where no answer at once is a refusal
-module _ (v : View) (m : Machine) (g : Gateway) (conn : ℕ) (outcome : Turned) (plain : (to : Session) (reply : Reply) (note : Note) → outcome ≡ Answers to reply note → IsRefusal reply → ⊥) (now : Gateway) (act : Act) (is : act ≡ acts.Reply (failure NotADatabase ∷ [])) where
+-- where no answer at once is a refusal, except for that of a COMMIT of a lost transaction
+module _ (v : View) (m : Machine) (g : Gateway) (conn : ℕ) (outcome : Turned) (plain : (to : Session) (reply : Reply) (note : Note) → outcome ≡ Answers to reply note → IsRefusal reply → reply ≡ Single (failure NotLeader)) (now : Gateway) (act : Act) (is : act ≡ acts.Reply (failure NotADatabase ∷ [])) where
   answered : (turned : Turned) (decision : Decision) → outcome ≡ turned → MatchesOutcome v m (g.session conn) turned decision → Carries m g conn decision now act → decision ≡ decisions.Refused told.NotADatabase
   answered turned (decisions.Refused cause) e comes carries = ap decisions.Refused (by_code cause (code_of (failure NotADatabase) (failure NotADatabase) _ _ _ _ (sym carries.1 ∙ is)))
   answered (Refused cause) (decisions.Answers change reply) e comes carries = absurd comes
@@ -109,4 +113,4 @@ unopened_turn v m g conn request answers now act is = unopened_outcome v m g con
 -- of a query that is run later
 pub unopened_later : (v : View) (m : Machine) (g : Gateway) (conn : ℕ) (statement : Statement) (answers : List Answer) (now : Gateway) (act : Act) → act ≡ acts.Reply (failure NotADatabase ∷ []) → (decision : Decision)
     → MatchesOutcome v m (g.session conn) (on_later v m g conn statement answers) decision → Carries m g conn decision now act → decision ≡ decisions.Refused told.NotADatabase
-unopened_later v m g conn statement answers now act is = unopened_outcome v m g conn (on_later v m g conn statement answers) (later_answers_plain v m g conn statement answers) now act is
+unopened_later v m g conn statement answers now act is = unopened_outcome v m g conn (on_later v m g conn statement answers) (λ to reply note e h. absurd (later_answers_plain v m g conn statement answers to reply note e h)) now act is

@@ -4,7 +4,7 @@ use session_outcomes::ReadJob;
 use wire_msgs::Response;
 
 /// What a node has to do for a request.
-#[derive(Debug, Drop)]
+#[derive(Drop)]
 pub enum Act {
     /// Tell the connection these responses.
     Reply(Items<Response>),

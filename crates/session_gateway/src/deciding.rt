@@ -28,8 +28,8 @@ use crate::params::into_params;
 use database_state::Machine;
 use dq_base::Items;
 use session_outcomes::{
-    Decision, DecisionContext, beginning, changing, committing, creating, finalizing, opened,
-    preparing, read_statement, run_script, run_single, telling,
+    Decision, DecisionContext, beginning, changing, committing, creating, finalizing, forgetting,
+    opened, preparing, read_statement, run_script, run_single, telling,
 };
 use session_requests::{RequestPlan, wanted_by};
 use session_table::{Cause, Session};
@@ -91,6 +91,7 @@ fn decision_of<E: Engine>(
         RequestPlan::Changes(servers) => changing(alloc, view, &servers),
         RequestPlan::Prepares(prepared, tail) => Ok(preparing(session, prepared, tail)),
         RequestPlan::Drops(id) => Ok(finalizing(session, id)),
+        RequestPlan::Forgets(response) => Ok(forgetting(response)),
         RequestPlan::Begins(at_once) => Ok(beginning(known, session.conn, session, at_once)),
         RequestPlan::Commits => committing(alloc, view, machine, known, session),
         RequestPlan::RollsBack => Ok(Decision::Ends),

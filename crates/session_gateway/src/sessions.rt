@@ -1,6 +1,6 @@
 //! The gateway and its calls.
 
-ghost use Rattle.std.specs.Prelude.{◌≡◌, ◌<◌, ◌≤◌, ◌+◌, true, false, [], ◌∷◌, ℕ, Some, IsSome, OnOk, OnErr, IfOk, MatchOption, if◌then◌else◌};
+ghost use Rattle.std.specs.Prelude.{◌≡◌, ◌<◌, ◌≤◌, ◌+◌, true, false, [], ◌∷◌, ℕ, Some, IsSome, OnOk, OnErr, IfOk, MatchOption, length, if◌then◌else◌};
 ghost use Rattle.sql_engine.specs.Meanings.{Stays};
 ghost use Rattle.std.specs.Prelude.{List};
 ghost use Rattle.sql_engine.specs.Known.{Known};
@@ -310,6 +310,14 @@ impl Gateway {
             Some(place) => is_busy(&self.sessions[place]),
             None => false,
         }
+    }
+
+    /// The number of sessions, with those of clients that have gone while a proposal of theirs is pending.
+    #[tactic(auto, using(crate::proofs::Holding::sessions_counted))]
+    pub fn session_count(&self) -> u64
+        ensures { (databases : List Database) → result ≡ length (seen self.now databases).conns }
+    {
+        self.sessions.len() as u64
     }
 
     /// How many bytes the sessions keep of what their clients have said, and of what they are to be told, as `kept_size` of

@@ -134,6 +134,7 @@ no_change (changes.Creates flight barriers) = refl
 no_change (changes.Lends query) = refl
 no_change (changes.Prepares prepared) = refl
 no_change (changes.Drops id) = refl
+no_change changes.Forgets = refl
 no_change (changes.Works pages number) = refl
 no_change (changes.Flies flight) = refl
 

@@ -6,7 +6,7 @@ use session_requests::ClusterEffect;
 use session_table::{Cause, Change, PendingProposal, Query, Reply};
 
 /// What comes of a request. Nothing has changed yet.
-#[derive(Debug, Drop)]
+#[derive(Drop)]
 pub enum Decision {
     /// It is refused, and nothing changes.
     Refused(Cause),

@@ -23,7 +23,7 @@ use std::sync::Arc;
 
 /// A query that a reader runs: over this image, which was the newest one of the database of this name when the query was asked.
 /// Image and query are shared by count with the node. Clauses see it as the rules' job.
-#[derive(Debug, Drop)]
+#[derive(Drop)]
 pub struct ReadJob {
     /// The name of the database.
     pub name: Name,
@@ -45,7 +45,7 @@ impl Model for ReadJob {
 }
 
 /// What a reader tells of its job.
-#[derive(Debug, Drop)]
+#[derive(Drop)]
 pub enum Read {
     /// The rows that answer the query.
     Answers(ToldRows),

@@ -23,7 +23,7 @@ pub use commit::committing;
 pub use decision::Decision;
 pub use decision_context::DecisionContext;
 pub use job::{Read, ReadJob, answer_read};
-pub use plain::{beginning, creating, finalizing, opened, preparing, telling};
+pub use plain::{beginning, creating, finalizing, forgetting, opened, preparing, telling};
 pub use reading::read_statement;
 pub use running::{run_script, run_single};
 pub use sole::changing;

@@ -165,6 +165,16 @@ pub fn opened(name: Name, barriers: bool) -> Decision
     )
 }
 
+/// What comes of a COMMIT or ROLLBACK that ends a lost transaction, and gets a response.
+#[tactic(auto, unfolding(session_spec::specs::Requests::does))]
+pub fn forgetting(response: Response) -> Decision
+    ensures works { (tx : Option TransactionValue) → work_in result tx ≡ [] }
+    ensures comes { (v : RuleView) (m : RuleMachine) (g : Gateway) (conn : ℕ) (s : RuleSession) (answers : List Answer)
+        → MatchesOutcome v m s (does v m g conn s (asking.Forgets response) answers) result }
+{
+    Decision::Answers(Change::Forgets, Reply::Single(response))
+}
+
 /// What comes of a request that is told a response, and nothing else.
 #[tactic(auto, unfolding(session_spec::specs::Requests::does))]
 pub fn telling(response: Response) -> Decision

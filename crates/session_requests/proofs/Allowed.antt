@@ -1,17 +1,19 @@
 -- The rules ask for what can be done.
-use Rattle.std.proofs.Common.{ℕ, Result, Ok, Err}
+use Rattle.std.proofs.Common.{◌≡◌, ℕ, List, Option, Some, None, Result, Ok, Err, sym}
+use Rattle.wire_words.specs.declared.value.Value.{Value}
 use Rattle.std.specs.Prelude.{IfOk}
 use Rattle.wire_msgs.specs.declared.request.Request.{Request}
 use Rattle.session_spec.specs.Allowed as rules
 use Rattle.session_spec.specs.Allowed.{IsEarlyCause}
 use Rattle.session_spec.specs.Asking as asking
-use Rattle.session_spec.specs.Asking.{Asked, asked_by}
+use Rattle.session_spec.specs.Asking.{Asked, asks_lost, unless_lost, asked_unless_lost, asked_by}
 use Rattle.session_spec.specs.Causes as causes
 use Rattle.session_spec.specs.Causes.{Cause}
 use Rattle.session_spec.specs.Machine.{Machine}
 use Rattle.session_spec.specs.Sessions.{Session, Gateway, View}
 use Rattle.session_spec.proofs.Asked as walk
-use Rattle.session_requests.specs.Meant.{IsPlainCause, IsAllowed}
+use Rattle.session_requests.specs.Meant.{IsPlainCause, IsAllowed, meant, planned_or}
+use Rattle.session_requests.specs.declared.wanted.RequestPlan.{RequestPlan}
 
 pub both_ok : {X E : Type 0} (r : Result X E) (P Q R : X → Type 0) → ((x : X) → P x → Q x → R x) → IfOk r P → IfOk r Q → IfOk r R
 both_ok {X} {E} (Ok x) P Q R f p q = f x p q
@@ -65,12 +67,25 @@ allowed_of v g s r (asking.Opens name barriers) h = tt
 allowed_of v g s r (asking.Creates name barriers) h = h.1
 allowed_of v g s r (asking.Prepares p tail) h = tt
 allowed_of v g s r (asking.Drops id) h = tt
+allowed_of v g s r (asking.Forgets response) h = tt
 allowed_of v g s r (asking.Begins at_once) h = h
 allowed_of v g s r asking.Commits h = h
 allowed_of v g s r asking.RollsBack h = tt
 allowed_of v g s r (asking.Changes servers) h = (h.0, h.3)
 allowed_of v g s r (asking.Runs statements) h = h
 allowed_of v g s r (asking.Reads statement) h = h
+
+-- what is wanted at a session whose transaction is lost is what is asked for
+pub wanted_lost : (v : View) (m : Machine) (g : Gateway) (conn : ℕ) (s : Session) (r : Request) (params : List Value) (w : RequestPlan)
+    → ((asked : Asked) → unless_lost s.lost (asks_lost s r) asked ≡ planned_or params (Some w) asked) → meant params w ≡ asked_by v m g conn s r
+unfolding asked_by
+wanted_lost v m g conn s r params w e = sym (e (asked_unless_lost v m g conn s r))
+
+-- and if nothing is wanted for that, what is wanted otherwise is
+pub wanted_otherwise : (v : View) (m : Machine) (g : Gateway) (conn : ℕ) (s : Session) (r : Request) (params : List Value)
+    → ((asked : Asked) → unless_lost s.lost (asks_lost s r) asked ≡ planned_or params None asked) → asked_unless_lost v m g conn s r ≡ asked_by v m g conn s r
+unfolding asked_by
+wanted_otherwise v m g conn s r params e = sym (e (asked_unless_lost v m g conn s r))
 
 pub all_allowed : (v : View) (m : Machine) (g : Gateway) (conn : ℕ) (s : Session) (r : Request) → IsAllowed v s (asked_by v m g conn s r)
 all_allowed v m g conn s r = allowed_of v g s r (asked_by v m g conn s r) (walk.all_allowed v m g conn s r)

@@ -13,3 +13,4 @@ pub mod Changing
 pub mod Opening
 pub mod Allowed
 pub mod Hindered
+pub mod LostWants

@@ -2,9 +2,13 @@
 use Rattle.std.proofs.Common.{◌≡◌, Bool, true, false, cond, ℕ, List, Option, subst, sym, rules}
 use Rattle.wire_words.specs.declared.value.Value.{Value}
 use Rattle.wire_msgs.specs.declared.response.Response.TheVariants as responses
-use Rattle.session_spec.specs.Asking.{Asked, Never, Tells, Sets, Opens, Creates, Prepares, Drops, Begins, Commits, RollsBack, Changes, Runs, Reads, at_leader, in_database, asks_open, if_settled, asks_add, asks_assign, asks_remove}
+use Rattle.session_spec.specs.Asking.{Asked, Never, Tells, Sets, Opens, Creates, Prepares, Drops, Forgets, Begins, Commits, RollsBack, Changes, Runs, Reads, at_leader, in_database, asks_open, if_settled, asks_add, asks_assign, asks_remove}
 use Rattle.session_spec.specs.Machine.{Machine}
 use Rattle.session_spec.specs.Sessions.{Prepared, Session, Gateway, View}
+use Rattle.wire_msgs.specs.declared.request.Request.{Request}
+use Rattle.session_spec.specs.Causes.{NotLeader}
+use Rattle.session_spec.specs.Asking.{asks_lost, unless_lost}
+use Rattle.session_spec.proofs.Losing.{lost_so, unless_so}
 use Rattle.session_requests.specs.declared.wanted.RequestPlan.{RequestPlan}
 use Rattle.session_requests.specs.declared.wanted.RequestPlan.TheVariants as wanted
 use Rattle.session_requests.specs.Meant.{meant, FitsStatements}
@@ -18,6 +22,7 @@ Plain (Opens name barriers) = Unit {0}
 Plain (Creates name barriers) = Unit {0}
 Plain (Prepares p tail) = ⊥
 Plain (Drops id) = ⊥
+Plain (Forgets response) = Unit {0}
 Plain (Begins at_once) = ⊥
 Plain Commits = ⊥
 Plain RollsBack = ⊥
@@ -34,6 +39,7 @@ plain_can statements params none (wanted.Creates name barriers) asked e h = tt
 plain_can statements params none (wanted.Changes servers) asked e h = tt
 plain_can statements params none (wanted.Prepares p tail) asked e h = absurd (subst Plain (sym e) h)
 plain_can statements params none (wanted.Drops id) asked e h = absurd (subst Plain (sym e) h)
+plain_can statements params none (wanted.Forgets response) asked e h = tt
 plain_can statements params none (wanted.Begins at_once) asked e h = tt
 plain_can statements params none wanted.Commits asked e h = tt
 plain_can statements params none wanted.RollsBack asked e h = tt
@@ -59,3 +65,10 @@ remove_plain v g id = search (rules, either)
 
 pub interrupt_plain : (s : Session) (db : ℕ) → Plain (in_database s db (Tells responses.Empty))
 interrupt_plain s db = search (rules, either)
+
+-- what is wanted at a session whose transaction is lost
+pub lost_can : (statements : List (Option Prepared)) (params : List Value) (w : RequestPlan) (s : Session) (r : Request)
+    → unless_lost s.lost (asks_lost s r) (Never NotLeader) ≡ meant params w → FitsStatements statements params w
+lost_can statements params w s r e =
+    plain_can statements params params w (unless_lost s.lost (asks_lost s r) (Never NotLeader)) (sym e)
+    (unless_so Plain s.lost (asks_lost s r) (Never NotLeader) (λ lost. lost_so Plain s tt tt tt r) tt)

@@ -39,12 +39,18 @@ meant params (wanted.Creates name barriers) = rules.Creates name barriers
 meant params (wanted.Changes servers) = rules.Changes servers
 meant params (wanted.Prepares prepared tail) = rules.Prepares prepared tail
 meant params (wanted.Drops id) = rules.Drops id
+meant params (wanted.Forgets response) = rules.Forgets response
 meant params (wanted.Begins at_once) = rules.Begins at_once
 meant params wanted.Commits = rules.Commits
 meant params wanted.RollsBack = rules.RollsBack
 meant params (wanted.RunsOne prepared) = rules.Runs (with_all prepared params ∷ [])
 meant params (wanted.RunsAll script) = rules.Runs (assigned script.text script.pieces params)
 meant params (wanted.Reads prepared) = rules.Reads (with_all prepared params)
+
+-- what is asked for, if nothing else is wanted before
+abbrev pub planned_or : List Value → Option RequestPlan → Asked → Asked
+planned_or params None asked = asked
+planned_or params (Some wanted) asked = meant params wanted
 
 -- The statements of a text, which stand in it; or the cause for which it can't be cut into statements.
 abbrev pub CutInto : List ℕ → Result (List StatementSpan) Cause → Type 0

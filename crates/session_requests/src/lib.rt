@@ -4,6 +4,7 @@
 mod changes;
 mod cluster;
 mod databases;
+mod lost_requests;
 mod names;
 mod pages;
 mod prepare_requests;

@@ -13,6 +13,7 @@ use crate::cluster::{
     wanted_by_cluster, wanted_by_connect, wanted_by_describe, wanted_by_leader, wanted_by_transfer,
 };
 use crate::databases::{wanted_by_dump, wanted_by_open};
+use crate::lost_requests::wanted_if_lost;
 use crate::statement_requests::{
     executes, executes_text, finalizes, interrupts, prepares, queries, queries_text,
 };
@@ -141,8 +142,8 @@ fn transfers(view: &View, id: u64) -> RequestPlan
     wanted_by_transfer(view, id)
 }
 
-/// The same as `wanted_by`, by the type of the request.
-#[tactic(auto, unfolding(session_spec::specs::Asking::asked_by))]
+/// The same as `wanted_by` of a session without a lost transaction, by the type of the request.
+#[tactic(auto, unfolding(session_spec::specs::Asking::asked_unless_lost))]
 fn ask(
     alloc: Global,
     view: &View,
@@ -155,7 +156,7 @@ fn ask(
     requires apart { AreApart sessions.now }
     requires name { NameHasNoNul request.now }
     ensures wants { IfOk result (λ wanted. meant (params_of request.now) wanted ≡
-        rules.asked_by view.now (machine_of machine.now) (table_of machine.now sessions.now weight) session.now.conn
+        rules.asked_unless_lost view.now (machine_of machine.now) (table_of machine.now sessions.now weight) session.now.conn
         (session_of machine.now session.now) request.now) }
     ensures fits { IfOk result (FitsStatements session.now.statements.items (params_of request.now)) }
 {
@@ -256,5 +257,9 @@ pub fn wanted_by(
         (session_of machine.now session.now) request.now) }
     ensures can { IfOk result (CanBeDone view.now (session_of machine.now session.now) (params_of request.now)) }
 {
-    ask(alloc, view, machine, sessions, weight, session, request)
+    let lost = wanted_if_lost(alloc, session, request)?;
+    match lost {
+        Some(wanted) => Ok(wanted),
+        None => ask(alloc, view, machine, sessions, weight, session, request),
+    }
 }

@@ -14,7 +14,7 @@ use sql_scan::WordKind;
 use wire_words::Value;
 
 /// Whether a statement wants another number of parameters than there are.
-fn wrong_params(prepared: &Prepared, params: &[Value]) -> bool
+pub(crate) fn wrong_params(prepared: &Prepared, params: &[Value]) -> bool
     ensures { result ≡ statements.wrong_params (prepared.now ∷ []) params.now }
 {
     let wants = prepared.params;

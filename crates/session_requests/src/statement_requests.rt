@@ -23,7 +23,7 @@ use wire_msgs::Response;
 use wire_words::{Value, WireText};
 
 /// Whether a number is not that of the session's database.
-fn no_database(session: &Session, db: u64) -> bool
+pub(crate) fn no_database(session: &Session, db: u64) -> bool
     ensures { (databases : List Database) → result ≡ rules.no_database (session_of databases session.now) db }
 {
     if !has_database(session) {
@@ -66,7 +66,11 @@ fn copied(alloc: Global, prepared: &Prepared) -> Result<Prepared, AllocError>
 }
 
 /// The prepared statement of a number, copied.
-fn statement_at(alloc: Global, session: &Session, id: u32) -> Result<Option<Prepared>, AllocError>
+pub(crate) fn statement_at(
+    alloc: Global,
+    session: &Session,
+    id: u32,
+) -> Result<Option<Prepared>, AllocError>
     ensures { IfOk result (λ statement. statement ≡ statements.prepared_at session.now.statements.items id) }
 {
     match prepared_at(session.statements.as_slice(), id) {
@@ -102,7 +106,7 @@ pub(crate) fn prepares(
     }
 }
 
-/// What EXEC wants, where this hinders a write.
+/// What EXEC wants, if this hinders a write.
 pub(crate) fn executes(
     alloc: Global,
     view: &View,
@@ -126,7 +130,7 @@ pub(crate) fn executes(
     }
 }
 
-/// What QUERY wants, where this hinders a write.
+/// What QUERY wants, if this hinders a write.
 pub(crate) fn queries(
     alloc: Global,
     view: &View,
@@ -150,7 +154,7 @@ pub(crate) fn queries(
     }
 }
 
-/// What EXEC_SQL wants, where this hinders a write.
+/// What EXEC_SQL wants, if this hinders a write.
 pub(crate) fn executes_text(
     alloc: Global,
     view: &View,
@@ -171,7 +175,7 @@ pub(crate) fn executes_text(
     }
 }
 
-/// What QUERY_SQL wants, where this hinders a write.
+/// What QUERY_SQL wants, if this hinders a write.
 pub(crate) fn queries_text(
     alloc: Global,
     view: &View,

@@ -10,7 +10,7 @@ use std::marker::Model;
 
 /// How many steps statements may take, where there is a limit; an engine gives up one that would take more. Clauses see none of
 /// it: which answers an engine may give they say for any limit.
-#[derive(Clone, Copy, Debug)]
+#[derive(Clone, Copy)]
 pub struct StepLimits {
     /// A query outside a transaction, where a reader can take it over.
     pub query: Option<u64>,
@@ -32,7 +32,7 @@ impl StepLimits {
 }
 
 /// What a node is at the moment, as its sessions see it. Clauses see it as the rules' one.
-#[derive(Debug, Drop)]
+#[derive(Drop)]
 pub struct View {
     /// The node's id.
     pub id: u64,

@@ -6,7 +6,7 @@ use wire_msgs::Response;
 use wire_words::WireText;
 
 /// The statements of a text, none or several.
-#[derive(Debug, Drop)]
+#[derive(Drop)]
 pub struct Script {
     /// The text.
     pub text: WireText,
@@ -26,7 +26,7 @@ pub enum ClusterEffect {
 }
 
 /// What a request wants of a session, once it has passed the refusals that come before the engine.
-#[derive(Debug, Drop)]
+#[derive(Drop)]
 pub enum RequestPlan {
     /// Nothing: it is refused.
     Never(Cause),
@@ -44,6 +44,8 @@ pub enum RequestPlan {
     Prepares(Prepared, Option<u64>),
     /// A prepared statement is to be let go.
     Drops(u32),
+    /// A lost transaction ends, and its client gets this response.
+    Forgets(Response),
     /// A transaction begins, at once with the turn to write or not.
     Begins(bool),
     /// The transaction ends with its changes.

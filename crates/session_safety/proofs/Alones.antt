@@ -13,7 +13,7 @@ use Rattle.session_spec.specs.Entries.{Does, Other, Entry, entries_of}
 use Rattle.session_spec.specs.Machine.{files, base_at, act}
 use Rattle.session_spec.specs.Engines.{Answer}
 use Rattle.session_spec.specs.Sessions.{Reply, Flight, later_query, lent_query, Turned, Refused, Lacks, Answers, Proposes, Lends, Affects, may_ask}
-use Rattle.session_spec.specs.Asking.{Asked, Never, Tells, Sets, Opens, Creates, Prepares, Drops, Begins, Commits, RollsBack, Changes, Runs, Reads, asked_by}
+use Rattle.session_spec.specs.Asking.{Asked, Never, Tells, Sets, Opens, Creates, Prepares, Drops, Forgets, Begins, Commits, RollsBack, Changes, Runs, Reads, asked_by}
 use Rattle.session_spec.specs.Requests.{does, on_request}
 use Rattle.session_spec.specs.Events.{connects}
 use Rattle.session_safety.specs.Woven.{Woven}
@@ -111,6 +111,7 @@ idle_log w c standing (Opens name barriers) answers h = absurd h
 idle_log w c standing (Creates name barriers) answers h = absurd h
 idle_log w c standing (Prepares p tail) answers h = absurd h
 idle_log w c standing (Drops id) answers h = refl
+idle_log w c standing (Forgets response) answers h = refl
 idle_log w c standing (Begins at_once) answers h = absurd h
 idle_log w c standing Commits answers h = absurd h
 idle_log w c standing RollsBack answers h = absurd h
@@ -229,7 +230,8 @@ steady_event w (Connect c) h = steady_same w (happens w (Connect c)) (join_same 
 steady_event w (Hangup c) h = record { applied = omega arith; term = refl; leads = refl }
 steady_event w (Call c standing r answers) h = steady_same w (happens w (Call c standing r answers)) (call_same w c standing r answers)
 steady_event w (Resume c standing answers) h = steady_same w (resumed w c standing answers (later_query (w.gate.session c).later)) (resumed_same w c standing answers (later_query (w.gate.session c).later))
-steady_event w (Done c answers) h = steady_same w (read w c answers (lent_query (w.gate.session c).later)) (read_same w c answers (lent_query (w.gate.session c).later))
+steady_event w (Done c answers) h =
+    steady_same w (read w c answers (lent_query (w.gate.session c).later)) (read_same w c answers (lent_query (w.gate.session c).later))
 steady_event w Apply h = record { applied = omega arith; term = refl; leads = refl }
 steady_event w (Lose t) h = absurd h
 steady_event w (Lead t) h = absurd h
@@ -340,7 +342,8 @@ module _ (mean : Meaning) (kind : EngineKind) where
       }
 
   turn_ok : (w : Node) (t : Turn) → AllowsTurn mean kind w t → Rests mean w → Rests mean (takes_turn w t)
-  turn_ok w Timeout h a = cond_both w.leads [] (Lead 1 ∷ Append (Other ∷ []) ∷ Apply ∷ Serve ∷ []) (λ es. Rests mean (run_from w es)) (λ e. a) (λ e. elected w e a)
+  turn_ok w Timeout h a =
+      cond_both w.leads [] (Lead 1 ∷ Append (Other ∷ []) ∷ Apply ∷ Serve ∷ []) (λ es. Rests mean (run_from w es)) (λ e. a) (λ e. elected w e a)
   turn_ok w (Join c) h a = let s = join_same w c in still_rests w (happens w (Connect c)) a (happens_ok mean kind w (Connect c) tt a.node) s.0 s.1
   turn_ok w (Leave c) h a = let s = leave_same w c in still_rests w (happens w (Hangup c)) a (happens_ok mean kind w (Hangup c) tt a.node) s.0 s.1
   turn_ok w (Ask c standing r answers) h a = cond_both w.leads _ (Call c standing r answers ∷ []) (λ es. Rests mean (run_from w es))
@@ -406,7 +409,8 @@ module _ (mean : Meaning) (kind : EngineKind) where
   turn_tells w Timeout h a = cond_both w.leads [] (Lead 1 ∷ Append (Other ∷ []) ∷ Apply ∷ Serve ∷ []) (λ es. SaysInTime w (run_from w es)) (λ e. tells_none w) (λ e. elected_tells w e a)
   turn_tells w (Join c) h a = (steady_tells (Connect c ∷ []) w (tt, tt) (tt, tt) a.node).0
   turn_tells w (Leave c) h a = (steady_tells (Hangup c ∷ []) w (tt, tt) (tt, tt) a.node).0
-  turn_tells w (Ask c standing r answers) h a = (steady_tells (events_of w (Ask c standing r answers)) w (steady_ask w c standing r answers) (turn_fits w (Ask c standing r answers) h a) a.node).0
+  turn_tells w (Ask c standing r answers) h a =
+      (steady_tells (events_of w (Ask c standing r answers)) w (steady_ask w c standing r answers) (turn_fits w (Ask c standing r answers) h a) a.node).0
 
   pub turns_say_hold : TurnsSay mean kind
   turns_say_hold ts t h x = turn_tells (alone ts) t x (rests_alone ts h)
@@ -416,11 +420,13 @@ module _ (mean : Meaning) (kind : EngineKind) where
   sees_turns d u w (t ∷ ts) h n a g = sees_turns d u (takes_turn w t) ts h.1 n.1 (turn_ok w t h.0 a) (along mean kind d u w (events_of w t) (turn_fits w t h.0 a) (none_turn d w t n.0) a.node g)
 
   pub turns_see_hold : TurnsSee mean kind
-  turns_see_hold ts us d h x n = gone_sees d (alone ts) (alone_from (alone ts) us) (sees_turns d (alone ts) (alone ts) us x n (rests_alone ts h) (gone_none d (alone ts)))
+  turns_see_hold ts us d h x n =
+      gone_sees d (alone ts) (alone_from (alone ts) us) (sees_turns d (alone ts) (alone ts) us x n (rests_alone ts h) (gone_none d (alone ts)))
 
   mild_turns : (ts : List Turn) (w : Node) → AllowsTurns mean kind w ts → Rests mean w → Mild w → Mild (alone_from w ts)
   mild_turns [] w h a m = m
-  mild_turns (t ∷ ts) w h a m = mild_turns ts (takes_turn w t) h.1 (turn_ok w t h.0 a) (mild_run mean kind w (events_of w t) (lone_turn mean kind w t h.0) (turn_fits w t h.0 a) a.node m)
+  mild_turns (t ∷ ts) w h a m =
+      mild_turns ts (takes_turn w t) h.1 (turn_ok w t h.0 a) (mild_run mean kind w (events_of w t) (lone_turn mean kind w t h.0) (turn_fits w t h.0 a) a.node m)
 
   mild_alone : (ts : List Turn) → AllowsTurns mean kind (started [] 0 0) ts → Mild (alone ts)
   unfolding alone

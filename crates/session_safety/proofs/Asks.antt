@@ -23,8 +23,8 @@ use Rattle.session_spec.specs.Engines.{Answer, no_pages, Ending, Lacking, TooLar
 use Rattle.session_spec.specs.Sessions.{Reply, Single, result, empty, db, Kind, Opening, Configuring, Writing, Committing, Querying, Flight, Lent, is_due, Transaction, Session, Gateway, View, Nothing, Began, Inside, Outside, Effect, HandsOver, JoinsPeer, Weighs, Turned, Refused, Answers, Proposes, Affects}
 use Rattle.session_spec.specs.Statements.{with_prepared, without_prepared, free_id}
 use Rattle.session_spec.specs.Limits.{other_holds, pages_full, log_full, first_cause, change_refusal}
-use Rattle.session_spec.specs.Asking.{Asked, Never, Tells, Sets, Opens, Creates, Prepares, Drops, Begins, Commits, RollsBack, Changes, Runs, Reads, asked_by}
-use Rattle.session_spec.specs.Requests.{with_tx, with_statements, with_database, with_barriers, begun, worked, flying, row_cause, reply_of, outside_write, outside, inside, ground, run_in, with_later, job_of, read_in, waits_first, barrier_first, has_nothing, committed, commit_in, does, on_request, handed_over, handed_for, handed, on_later, handed_later}
+use Rattle.session_spec.specs.Asking.{Asked, Never, Tells, Sets, Opens, Creates, Prepares, Drops, Forgets, Begins, Commits, RollsBack, Changes, Runs, Reads, asked_by}
+use Rattle.session_spec.specs.Requests.{with_tx, with_statements, with_lost, with_database, with_barriers, begun, worked, flying, row_cause, reply_of, outside_write, outside, inside, ground, run_in, with_later, job_of, read_in, waits_first, barrier_first, has_nothing, committed, commit_in, does, on_request, handed_over, handed_for, handed, on_later, handed_later}
 use Rattle.session_spec.specs.Allowed.{IsAllowed}
 use Rattle.session_spec.proofs.Asked.{all_allowed}
 use Rattle.session_spec.proofs.Images.{changed_same}
@@ -63,6 +63,7 @@ IsIdle (Opens name barriers) = ⊥
 IsIdle (Creates name barriers) = ⊥
 IsIdle (Prepares p tail) = ⊥
 IsIdle (Drops id) = Unit {0}
+IsIdle (Forgets response) = Unit {0}
 IsIdle (Begins at_once) = ⊥
 IsIdle Commits = ⊥
 IsIdle RollsBack = ⊥
@@ -79,6 +80,7 @@ idle_of v g s r (Opens name barriers) off h = no (sym off ∙ h.0)
 idle_of v g s r (Creates name barriers) off h = no (sym off ∙ h.0)
 idle_of v g s r (Prepares p tail) off h = no (sym off ∙ h.serves)
 idle_of v g s r (Drops id) off h = tt
+idle_of v g s r (Forgets response) off h = tt
 idle_of v g s r (Begins at_once) off h = no (sym off ∙ h.0.serves)
 idle_of v g s r Commits off h = no (sym off ∙ h.0.serves)
 idle_of v g s r RollsBack off h = no (sym off ∙ h.0.serves)
@@ -261,7 +263,9 @@ module _ (mean : Meaning) (standing : Standing) (w : Node) (a : NodeOk mean w) (
   does_ok kind (Opens name barriers) answers serves h = plain_ok (with_barriers (with_database (w.gate.session c) name) barriers) db refl rest here refl tt
   does_ok kind (Creates name barriers) answers serves h = cond_both (pages_full (databases w) w.gate name empty_image) _ _ (λ t. NodeOk mean (called w c t)) (λ e. refuse DatabaseFull) (λ e. other_ok (with_barriers (w.gate.session c) barriers) name (Does (OpenDb name)) Opening here refl rest serves (λ n. refl) tt (λ l t f. tt) refl (λ o. tt))
   does_ok kind (Prepares p tail) answers serves h = plain_ok (with_statements (w.gate.session c) (with_prepared p (w.gate.session c).statements)) (Single (responses.Stmt 0 (free_id (w.gate.session c).statements) p.params tail)) free rest here refl tt
-  does_ok kind (Drops id) answers serves h = plain_ok (with_statements (w.gate.session c) (without_prepared id (w.gate.session c).statements)) empty free rest here refl tt
+  does_ok kind (Drops id) answers serves h =
+      plain_ok (with_statements (w.gate.session c) (without_prepared id (w.gate.session c).statements)) empty free rest here refl tt
+  does_ok kind (Forgets response) answers serves h = plain_ok (with_lost (w.gate.session c) false) (Single response) free rest here refl tt
   does_ok kind (Begins at_once) answers serves h = cond_both (at_once && other_holds w.gate c (w.gate.session c).database) _ _ (λ t. NodeOk mean (called w c t)) (λ e. refuse Locked) (λ e. begin_ok at_once serves)
   does_ok kind Commits answers serves h = commit_ok (w.gate.session c).tx serves refl
   does_ok kind RollsBack answers serves h = roll_ok serves
@@ -286,6 +290,7 @@ module _ (mean : Meaning) (standing : Standing) (w : Node) (a : NodeOk mean w) (
   idle_ok (Creates name barriers) answers h = absurd h
   idle_ok (Prepares p tail) answers h = absurd h
   idle_ok (Drops id) answers h = plain_ok (with_statements (w.gate.session c) (without_prepared id (w.gate.session c).statements)) empty free rest here refl tt
+  idle_ok (Forgets response) answers h = plain_ok (with_lost (w.gate.session c) false) (Single response) free rest here refl tt
   idle_ok (Begins at_once) answers h = absurd h
   idle_ok Commits answers h = absurd h
   idle_ok RollsBack answers h = absurd h

@@ -56,7 +56,8 @@ module _ (log : List Entry) (w : Woven log) where
       true≢false (commit_same log i name other tx tx true false term late pages z.0 x z.1)
 
   pub one_commit : (i j : ℕ) (name other : List ℕ) (tx term late : ℕ) (b : Bool) (pages more : List NumberedPage) → 0 < i → Bears log i name tx true term pages → Bears log j other tx b late more → j ≤ i
-  one_commit i j name other tx term late b pages more pos x y = ⊎_elim (λ (h : i < j). absurd (no_later i j name other tx term late b pages more pos x y h)) (λ (h : j ≤ i). h) (cases_lt i j)
+  one_commit i j name other tx term late b pages more pos x y =
+      ⊎_elim (λ (h : i < j). absurd (no_later i j name other tx term late b pages more pos x y h)) (λ (h : j ≤ i). h) (cases_lt i j)
 
 pub one_commit_holds : OneCommit
 one_commit_holds log w i j name other tx term late b pages more pos x y = one_commit log w i j name other tx term late b pages more pos x y
@@ -73,7 +74,8 @@ base_next log k n e q = ap (λ l. (files l).base n) (take_next log k e q) ∙ ap
 
 pages_append : (xs ys : List Entry) → pages_in (xs ++ ys) ≡ pages_in xs ++ pages_in ys
 pages_append [] ys = refl
-pages_append (x ∷ xs) ys = ap (λ l. content_pages x.content ++ l) (pages_append xs ys) ∙ sym (append_assoc (content_pages x.content) (pages_in xs) (pages_in ys))
+pages_append (x ∷ xs) ys =
+    ap (λ l. content_pages x.content ++ l) (pages_append xs ys) ∙ sym (append_assoc (content_pages x.content) (pages_in xs) (pages_in ys))
 
 -- the pending pages of a transaction after an entry: none, as before, or its own
 Pends : Machine → Content → List ℕ → ℕ → Type 0
@@ -85,7 +87,8 @@ same_pending false d e tx h = refl
 
 undone_for : (tx uv : ℕ) (o : Option PageSet) → (pending_of tx (pending_without uv o) ≡ []) ⊎ (pending_of tx (pending_without uv o) ≡ pending_of tx o)
 undone_for tx uv None = inl refl
-undone_for tx uv (Some p) = cond_both (p.tx == uv) None (Some p) (λ x. (pending_of tx x ≡ []) ⊎ (pending_of tx x ≡ pending_of tx (Some p))) (λ e. inl refl) (λ e. inr refl)
+undone_for tx uv (Some p) =
+    cond_both (p.tx == uv) None (Some p) (λ x. (pending_of tx x ≡ []) ⊎ (pending_of tx x ≡ pending_of tx (Some p))) (λ e. inl refl) (λ e. inr refl)
 
 pends : (m : Machine) (c : Content) (n : List ℕ) (tx : ℕ) → Pends m c n tx
 unfolding Pends act framed
@@ -220,16 +223,19 @@ module _ (log : List Entry) (w : Woven log) (i : ℕ) (name : List ℕ) (first t
       ∙ ap (λ x. image_after (image_at log (first - 1) name) (x ++ pages)) g.mine ∙ ap (image_after (image_at log (first - 1) name)) (sym all))
 
 pub commits_apply_hold : CommitsApply
-commits_apply_hold log w i first term name pages pos small x = (from_first log w i name first term pages pos small x, applies log w i name first term pages pos small x)
+commits_apply_hold log w i first term name pages pos small x =
+    (from_first log w i name first term pages pos small x, applies log w i name first term pages pos small x)
 
 -- an entry and the image of a database
 image_by : (m : Machine) (c : Content) (n : List ℕ) → (((done m c).base n).image ≡ (m.base n).image) ⊎ ((tx u : ℕ) × (pages : List NumberedPage) × (c ≡ Does (Frames n tx u true pages)))
 unfolding act framed
 image_by m (Does (OpenDb name)) n = inl refl
 image_by m (Does (Frames name tx u true pages)) n = cond_both (bytes_eq n name) (framed tx true pages (m.base n)) (m.base n) (λ (d : Base). (d.image ≡ (m.base n).image) ⊎ ((uv v : ℕ) × (ps : List NumberedPage) × (Does (Frames name tx u true pages) ≡ Does (Frames n uv v true ps)))) (λ e. inr (tx, u, pages, ap (λ k. Does (Frames k tx u true pages)) (sym (name_is n name e)))) (λ e. inl refl)
-image_by m (Does (Frames name tx u false pages)) n = inl (cond_both (bytes_eq n name) (framed tx false pages (m.base n)) (m.base n) (λ (d : Base). d.image ≡ (m.base n).image) (λ e. refl) (λ e. refl))
+image_by m (Does (Frames name tx u false pages)) n =
+    inl (cond_both (bytes_eq n name) (framed tx false pages (m.base n)) (m.base n) (λ (d : Base). d.image ≡ (m.base n).image) (λ e. refl) (λ e. refl))
 image_by m (Does (Undo uv)) n = inl refl
-image_by m (Does (Checkpoint name)) n = inl (cond_both (bytes_eq n name) (checked (m.base n)) (m.base n) (λ (d : Base). d.image ≡ (m.base n).image) (λ e. refl) (λ e. refl))
+image_by m (Does (Checkpoint name)) n =
+    inl (cond_both (bytes_eq n name) (checked (m.base n)) (m.base n) (λ (d : Base). d.image ≡ (m.base n).image) (λ e. refl) (λ e. refl))
 image_by m (Configures servers) n = inl refl
 image_by m Other n = inl refl
 

@@ -48,7 +48,8 @@ alike_trans a b = record { image = a.image ∙ b.image; pending = a.pending ∙ 
 act_alike : (m : Machine) (c : Command) (name : List ℕ) → touches_by name c ≡ false → Alike ((act m c).base name) (m.base name)
 unfolding act
 act_alike m (OpenDb other) name e = alike_refl _
-act_alike m (Frames other tx truncate commit pages) name e = subst (λ d. Alike d (m.base name)) (sym (cond-false (bytes_eq name other) (framed tx commit pages (m.base name)) (m.base name) e)) (alike_refl _)
+act_alike m (Frames other tx truncate commit pages) name e =
+    subst (λ d. Alike d (m.base name)) (sym (cond-false (bytes_eq name other) (framed tx commit pages (m.base name)) (m.base name) e)) (alike_refl _)
 act_alike m (Undo tx) name e = absurd (true≢false e)
 act_alike m (Checkpoint other) name e = cond_both (bytes_eq name other) (checked (m.base name)) (m.base name) (λ d. Alike d (m.base name)) (λ x. record { image = refl; pending = refl; newest = refl }) (λ x. alike_refl _)
 
@@ -197,7 +198,8 @@ files_between log i k h =
     ap files front ∙ files_append (take i log) (drop i (take k log))
 
 pub counts_between : (log : List Entry) (i k : ℕ) (name : List ℕ) → i ≤ k → Counts (base_at log i name) (base_at log k name)
-counts_between log i k name h = subst (λ m. Counts (base_at log i name) (m.base name)) (sym (files_between log i k h)) (counts_from (drop i (take k log)) (files (take i log)) name)
+counts_between log i k name h =
+    subst (λ m. Counts (base_at log i name) (m.base name)) (sym (files_between log i k h)) (counts_from (drop i (take k log)) (files (take i log)) name)
 
 pub free_between : (log : List Entry) (i k : ℕ) (name : List ℕ) → i ≤ k → Free name (drop i log) → Free name (drop i (take k log))
 free_between log i k name h f =

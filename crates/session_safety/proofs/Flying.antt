@@ -8,7 +8,7 @@ use Rattle.log_commands.specs.Splitting.{before_last}
 use Rattle.database_state.specs.Files.{empty_image}
 use Rattle.sql_engine.specs.Replies.{Statement}
 use Rattle.wire_msgs.specs.declared.request.Request.{Request}
-use Rattle.session_spec.specs.Asking.{Asked, Never, Tells, Sets, Opens, Creates, Prepares, Drops, Begins, Commits, RollsBack, Changes, Runs, Reads, asked}
+use Rattle.session_spec.specs.Asking.{Asked, Never, Tells, Sets, Opens, Creates, Prepares, Drops, Forgets, Begins, Commits, RollsBack, Changes, Runs, Reads, asked}
 use Rattle.session_spec.specs.Causes.{Cause}
 use Rattle.session_spec.specs.Engines.{Answer, no_pages, Ending, Lacking, TooLarge, Stopped, Ended}
 use Rattle.session_spec.specs.Limits.{other_holds, pages_full, log_full}
@@ -77,6 +77,7 @@ module _ (v : View) (m : Machine) (g : Gateway) (c : ℕ) (s : Session) (free : 
   does_next (Creates name barriers) answers = cond_both (pages_full m g name empty_image) _ _ (FlightNext v.last) (λ e. tt) (λ e. (_, refl, omega arith, rest))
   does_next (Prepares p tail) answers = (free, rest)
   does_next (Drops id) answers = (free, rest)
+  does_next (Forgets response) answers = (free, rest)
   does_next (Begins at_once) answers = cond_both (at_once && other_holds g c s.database) _ _ (FlightNext v.last) (λ e. tt) (λ e. (free, rest))
   does_next Commits answers = commit_next s.tx
   does_next RollsBack answers = (free, rest)

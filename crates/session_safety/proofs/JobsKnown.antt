@@ -9,14 +9,14 @@ use Rattle.sql_engine.specs.declared.kind.EngineKind.{EngineKind}
 use Rattle.sql_engine.specs.Meanings.{Meaning}
 use Rattle.sql_engine.specs.Replies.{Statement}
 use Rattle.wire_msgs.specs.declared.request.Request.{Request}
-use Rattle.session_spec.specs.Asking.{Asked, Never, Tells, Sets, Opens, Creates, Prepares, Drops, Begins, Commits, RollsBack, Changes, Runs, Reads, asked}
+use Rattle.session_spec.specs.Asking.{Asked, Never, Tells, Sets, Opens, Creates, Prepares, Drops, Forgets, Begins, Commits, RollsBack, Changes, Runs, Reads, asked}
 use Rattle.session_spec.specs.Causes.{Cause}
 use Rattle.session_spec.specs.Engines.{Answer, no_pages, Ending, Lacking, TooLarge, Stopped, Ended}
 use Rattle.session_spec.specs.Entries.{entries_of}
-use Rattle.session_spec.specs.Events.{landed, tidy, settled_by, on_applied, still_lent, on_lost, left, on_hangup, connects, connected}
+use Rattle.session_spec.specs.Events.{landed, tidy, settled_by, on_applied, still_lent, loses, on_lost, left, on_hangup, connects, connected}
 use Rattle.session_spec.specs.Limits.{other_holds, pages_full, log_full}
 use Rattle.session_spec.specs.Machine.{Base, base_at, image_at, Machine}
-use Rattle.session_spec.specs.Requests.{unless, outside_write, outside, inside, run_in, has_nothing, committed, commit_in, job_of, does, on_request, on_later, with_tx, with_flight, with_later, with_session}
+use Rattle.session_spec.specs.Requests.{unless, outside_write, outside, inside, run_in, has_nothing, committed, commit_in, job_of, does, on_request, on_later, with_tx, with_flight, with_later, with_lost, with_session}
 use Rattle.session_spec.specs.Sessions.{Reply, Kind, Opening, Configuring, Writing, Committing, Querying, Flight, Later, Due, Lent, later_query, lent_query, Transaction, Session, Gateway, View, absent, fresh, Job, may_ask, HandsOver, JoinsPeer, Weighs, Turned, Refused, Lacks, Answers, Proposes, Lends, Affects}
 use Rattle.session_safety.specs.Nodes.{Trail, unseen, Standing, Node as Life, databases, view_of, started}
 use Rattle.session_safety.specs.Life.{Event as Doing, Connect, Hangup, Call, Resume, Done, Apply, Lose, Lead, Serve, Append, Follow, trail_by, job_at, told_at, undue, outcome_later, resumed, read_by, read, called, joined, happens as goes_on, run_from as lives_on, AllFit}
@@ -125,6 +125,7 @@ module _ (v : View) (m : Machine) (g : Gateway) (c : ℕ) (s : Session) where
   does_new (Creates name barriers) answers = cond_both (pages_full m g name empty_image) _ _ (LendsNew m s) (λ e. tt) (λ e. refl)
   does_new (Prepares p tail) answers = refl
   does_new (Drops id) answers = refl
+  does_new (Forgets response) answers = refl
   does_new (Begins at_once) answers = cond_both (at_once && other_holds g c s.database) _ _ (LendsNew m s) (λ e. tt) (λ e. refl)
   does_new Commits answers = none_new m s _ (commit_none s.tx)
   does_new RollsBack answers = refl
@@ -140,10 +141,12 @@ unfolding on_request
 request_new v m g c r answers = does_new v m g c (g.session c) (asked v m g c r) answers
 
 later_none : (v : View) (m : Machine) (g : Gateway) (c : ℕ) (s : Statement) (answers : List Answer) → LendsNone (g.session c) (on_later v m g c s answers)
-later_none v m g c s answers = later_both (LendsNone (g.session c)) v m g c s answers tt (λ e. run_none v m g c (g.session c) (g.session c).tx (s ∷ []) true answers)
+later_none v m g c s answers =
+    later_both (LendsNone (g.session c)) v m g c s answers tt (λ e. run_none v m g c (g.session c) (g.session c).tx (s ∷ []) true answers)
 
 pub laters_stay_hold : LatersStay
-laters_stay_hold v m g conn statement answers = none_lends conn (g.session conn) (on_later v m g conn statement answers) (later_none v m g conn statement answers)
+laters_stay_hold v m g conn statement answers =
+    none_lends conn (g.session conn) (on_later v m g conn statement answers) (later_none v m g conn statement answers)
 
 -- ---- one connection
 
@@ -298,7 +301,8 @@ module _ (mean : Meaning) (kind : EngineKind) where
       (λ (e : conn ≡ c). not_lent (jobs conn) conn (goes_on w (Hangup c)) (ap (λ (z : Session). lent_query z.later) (cond-true (conn == c) _ (w.gate.session conn) (eq-eqb conn c e)) ∙ left_query (w.gate.session c) (w.trail c).seen (w.trail c).at (w.gate.session c).flight (ok.sessions c).free))
       (λ (n : conn ≢ c). same (jobs conn) conn w (goes_on w (Hangup c)) (cond-false (conn == c) _ (w.gate.session conn) (ne_eqb conn c n)) refl (λ name. refl) (k conn))
       (cases_eq conn c)
-  known_step jobs w (Call c standing r answers) ok k = known_call jobs w c standing r answers (λ conn. let at = (ok.sessions conn).at in let low = ok.applied in omega arith) k
+  known_step jobs w (Call c standing r answers) ok k =
+      known_call jobs w c standing r answers (λ conn. let at = (ok.sessions conn).at in let low = ok.applied in omega arith) k
   known_step jobs w (Resume c standing answers) ok k = known_resumed jobs w c standing answers (later_query (w.gate.session c).later) (λ conn. let at = (ok.sessions conn).at in let low = ok.applied in omega arith) k
   known_step jobs w (Done c answers) ok k = known_done jobs w c answers (lent_query (w.gate.session c).later) k
   known_step jobs w Apply ok k = λ conn.
@@ -311,7 +315,7 @@ module _ (mean : Meaning) (kind : EngineKind) where
       let x = w.gate.session conn in
       cases_on x.hung
       (λ e. not_lent (jobs conn) conn (goes_on w (Lose t)) (ap (λ (z : Session). lent_query z.later) (cond-true x.hung absent _ e)))
-      (λ e. let z = cond-false x.hung absent (with_later (with_flight (with_tx x None) None) (still_lent x.later)) e in still (jobs conn) conn w (goes_on w (Lose t)) (ap (λ (y : Session). lent_query y.later) z ∙ still_query x.later) (ap (λ (y : Session). y.database) z) refl (λ name. refl) (k conn))
+      (λ e. let z = cond-false x.hung absent (with_lost (with_later (with_flight (with_tx x None) None) (still_lent x.later)) (loses x)) e in still (jobs conn) conn w (goes_on w (Lose t)) (ap (λ (y : Session). lent_query y.later) z ∙ still_query x.later) (ap (λ (y : Session). y.database) z) refl (λ name. refl) (k conn))
     where
       cases_on : {A : Type 0} (b : Bool) → (b ≡ true → A) → (b ≡ false → A) → A
       cases_on true f g = f refl
@@ -336,4 +340,5 @@ module _ (mean : Meaning) (kind : EngineKind) where
       ∙ jobs_known (handed_on jobs (lent_by w e)) (goes_on w e) es (happens_ok mean kind w e f.0 ok) f.1 (known_step jobs w e ok k) conn s q
 
   pub jobs_are_known_hold : JobsAreKnown mean kind
-  jobs_are_known_hold log applied term es from h = jobs_known no_jobs (started log applied term) es (started_ok mean kind log applied term from.within from.woven) h (λ conn s e. absurd (some_none e refl))
+  jobs_are_known_hold log applied term es from h =
+      jobs_known no_jobs (started log applied term) es (started_ok mean kind log applied term from.within from.woven) h (λ conn s e. absurd (some_none e refl))

@@ -29,3 +29,4 @@ pub mod Flying
 pub mod Opened
 pub mod JobsStay
 pub mod JobsKnown
+mod Staying

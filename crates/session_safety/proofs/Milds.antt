@@ -24,7 +24,7 @@ use Rattle.session_spec.specs.Engines.{Answer, no_pages, Ending, Lacking, TooLar
 use Rattle.session_spec.specs.Limits.{log_full, pages_full, other_holds, first_cause, change_refusal, too_full}
 use Rattle.session_spec.specs.Machine.{Machine}
 use Rattle.session_spec.specs.Sessions.{Refusal, Single, Kind, Opening, Configuring, Writing, Committing, Querying, Flight, Transaction, Session, Gateway, View, Note, Nothing, Inside, Outside, Turned, Refused, Lacks, Answers, Proposes, Lends, Affects, Effect, HandsOver, JoinsPeer, Weighs, Later, later_query, lent_query, fresh, may_ask}
-use Rattle.session_spec.specs.Asking.{Asked, Never, Tells, Sets, Opens, Creates, Prepares, Drops, Begins, Commits, RollsBack, Changes, Runs, Reads, fits_one_voter, asked_by}
+use Rattle.session_spec.specs.Asking.{Asked, Never, Tells, Sets, Opens, Creates, Prepares, Drops, Forgets, Begins, Commits, RollsBack, Changes, Runs, Reads, fits_one_voter, asked_by}
 use Rattle.session_spec.specs.Requests.{unless, rows_cause, or_cause, row_cause, reply_of, change_of, worked, outside, outside_write, inside, run_in, has_nothing, committed, commit_in, does, on_request, with_session, affected_by}
 use Rattle.session_spec.specs.Allowed.{IsEarlyCause, IsAllowed}
 use Rattle.session_spec.proofs.Asked.{all_allowed}
@@ -98,6 +98,7 @@ IsMild (Opens name barriers) = Unit {0}
 IsMild (Creates name barriers) = Unit {0}
 IsMild (Prepares p tail) = Unit {0}
 IsMild (Drops id) = Unit {0}
+IsMild (Forgets response) = Unit {0}
 IsMild (Begins at_once) = Unit {0}
 IsMild Commits = Unit {0}
 IsMild RollsBack = Unit {0}
@@ -114,6 +115,7 @@ mild_of v g s r (Opens name barriers) fits h = tt
 mild_of v g s r (Creates name barriers) fits h = tt
 mild_of v g s r (Prepares p tail) fits h = tt
 mild_of v g s r (Drops id) fits h = tt
+mild_of v g s r (Forgets response) fits h = tt
 mild_of v g s r (Begins at_once) fits h = tt
 mild_of v g s r Commits fits h = tt
 mild_of v g s r RollsBack fits h = tt
@@ -208,6 +210,7 @@ module _ (v : View) (m : Machine) (g : Gateway) (c : ℕ) (s : Session) where
   does_mild (Creates name barriers) answers h = cond_both (pages_full m g name empty_image) _ _ TurnedMild (λ e. tt) (λ e. (tt, tt))
   does_mild (Prepares p tail) answers h = single_mild _
   does_mild (Drops id) answers h = single_mild _
+  does_mild (Forgets response) answers h = single_mild _
   does_mild (Begins at_once) answers h = cond_both (at_once && other_holds g c s.database) _ _ TurnedMild (λ e. tt) (λ e. single_mild _)
   does_mild Commits answers h = commit_mild s.tx
   does_mild RollsBack answers h = single_mild _
@@ -285,7 +288,8 @@ AllLone (e ∷ es) = IsLone e × AllLone es
 module _ (mean : Meaning) (kind : EngineKind) where
   by_kept : (log : List Entry) (before index term c : ℕ) (t : Trail) (hung : Bool) (o : Option Flight) → FlightIs mean log before term t o → NoneLost (said_by index c t hung o)
   by_kept log before index term c t hung None a = tt
-  by_kept log before index term c t hung (Some f) a = cond_both (f.last == index) _ _ NoneLost (λ e. cond_both hung _ _ NoneLost (λ z. tt) (λ z. landed_kept c t f f.kind a.entry.content a.entry.of)) (λ e. tt)
+  by_kept log before index term c t hung (Some f) a =
+      cond_both (f.last == index) _ _ NoneLost (λ e. cond_both hung _ _ NoneLost (λ z. tt) (λ z. landed_kept c t f f.kind a.entry.content a.entry.of)) (λ e. tt)
 
   applied_kept : (w : Node) (index : ℕ) (cs : List ℕ) → NodeOk mean w → NoneLost (said_applied index w.trail w.gate.session cs)
   applied_kept w index [] a = tt

@@ -7,13 +7,13 @@ use Rattle.database_state.specs.Files.{empty_image}
 use Rattle.sql_engine.specs.Replies.{Statement}
 use Rattle.wire_msgs.specs.declared.request.Request.{Request}
 use Rattle.session_spec.specs.Allowed.{IsAllowed}
-use Rattle.session_spec.specs.Asking.{Asked, Never, Tells, Sets, Opens, Creates, Prepares, Drops, Begins, Commits, RollsBack, Changes, Runs, Reads, has_database, asked}
+use Rattle.session_spec.specs.Asking.{Asked, Never, Tells, Sets, Opens, Creates, Prepares, Drops, Forgets, Begins, Commits, RollsBack, Changes, Runs, Reads, has_database, asked}
 use Rattle.session_spec.specs.Causes.{Cause}
 use Rattle.session_spec.specs.Engines.{Answer, no_pages, Ending, Lacking, TooLarge, Stopped, Ended}
-use Rattle.session_spec.specs.Events.{settled_by, landed, still_lent, lost, tidy, on_applied, on_lost, left, on_hangup, connects, connected}
+use Rattle.session_spec.specs.Events.{settled_by, landed, still_lent, loses, lost, tidy, on_applied, on_lost, left, on_hangup, connects, connected}
 use Rattle.session_spec.specs.Limits.{other_holds, pages_full, log_full}
 use Rattle.session_spec.specs.Machine.{Machine}
-use Rattle.session_spec.specs.Requests.{unless, outside_write, outside, inside, run_in, has_nothing, committed, commit_in, does, on_request, on_later, with_tx, with_flight, with_later, with_session}
+use Rattle.session_spec.specs.Requests.{unless, outside_write, outside, inside, run_in, has_nothing, committed, commit_in, does, on_request, on_later, with_tx, with_flight, with_later, with_lost, with_session}
 use Rattle.session_spec.specs.Sessions.{Reply, absent, fresh, Kind, Opening, Configuring, Writing, Committing, Querying, Flight, Later, Due, Lent, later_query, lent_query, may_ask, Transaction, Session, Gateway, View, HandsOver, JoinsPeer, Weighs, Turned, Refused, Lacks, Answers, Proposes, Lends, Affects}
 use Rattle.session_spec.proofs.Asked.{all_allowed}
 use Rattle.session_safety.specs.Nodes.{Node, Standing, databases, view_of, started}
@@ -105,6 +105,7 @@ module _ (v : View) (m : Machine) (g : Gateway) (c : ℕ) (s : Session) (free : 
   does_opened r (Creates name barriers) answers h = cond_both (pages_full m g name empty_image) _ _ LeavesOpened (λ e. tt) (λ e. asks_none _ refl rest)
   does_opened r (Prepares p tail) answers h = at_rest _ free rest
   does_opened r (Drops id) answers h = at_rest _ free rest
+  does_opened r (Forgets response) answers h = at_rest _ free rest
   does_opened r (Begins at_once) answers h = cond_both (at_once && other_holds g c s.database) _ _ LeavesOpened (λ e. tt) (λ e. at_rest _ free rest)
   does_opened r Commits answers h = commit_opened s.tx
   does_opened r RollsBack answers h = at_rest _ free rest
@@ -119,7 +120,8 @@ unfolding on_request
 request_opened v m g c r answers free rest = does_opened v m g c (g.session c) free rest r (asked v m g c r) answers (all_allowed v m g c (g.session c) r)
 
 pub later_opened : (v : View) (m : Machine) (g : Gateway) (c : ℕ) (s : Statement) (answers : List Answer) → (g.session c).flight ≡ None → (g.session c).later ≡ None → LeavesOpened (on_later v m g c s answers)
-later_opened v m g c s answers free rest = later_both LeavesOpened v m g c s answers tt (λ e. run_opened v m g c (g.session c) free rest (g.session c).tx (s ∷ []) true answers)
+later_opened v m g c s answers free rest =
+    later_both LeavesOpened v m g c s answers tt (λ e. run_opened v m g c (g.session c) free rest (g.session c).tx (s ∷ []) true answers)
 
 -- ---- all sessions
 
@@ -163,7 +165,7 @@ still_some (Some (Lent statement)) x = refl
 
 lost_opened : (s : Session) → IsOpened s → IsOpened (lost s)
 lost_opened s h =
-    cond_both s.hung absent (with_later (with_flight (with_tx s None) None) (still_lent s.later)) IsOpened
+    cond_both s.hung absent (with_lost (with_later (with_flight (with_tx s None) None) (still_lent s.later)) (loses s)) IsOpened
     (λ e. at_rest absent refl refl)
     (λ e. record { opened = record { awaits = λ b. absurd (true≢false (sym b)); later = λ x. h.opened.later (still_some s.later x) }; sole = λ f q. absurd (some_none q refl) })
 

@@ -8,7 +8,7 @@ use Rattle.database_state.specs.Files.{empty_image}
 use Rattle.sql_engine.specs.declared.answer.StatementResult.{StatementResult}
 use Rattle.sql_engine.specs.Replies.{Statement}
 use Rattle.wire_msgs.specs.declared.request.Request.{Request}
-use Rattle.session_spec.specs.Asking.{Asked, Never, Tells, Sets, Opens, Creates, Prepares, Drops, Begins, Commits, RollsBack, Changes, Runs, Reads, asked}
+use Rattle.session_spec.specs.Asking.{Asked, Never, Tells, Sets, Opens, Creates, Prepares, Drops, Forgets, Begins, Commits, RollsBack, Changes, Runs, Reads, asked}
 use Rattle.session_spec.specs.Causes.{NotLeader, LogFull, DatabaseFull}
 use Rattle.session_spec.specs.Engines.{Answer, no_pages, Ending, Lacking, TooLarge, Stopped, Ended, Handed}
 use Rattle.session_spec.specs.Limits.{other_holds, pages_full, log_full, first_cause, change_refusal}
@@ -145,6 +145,7 @@ does_ok v m g c s (Opens name barriers) answers = record { still = record { ther
 does_ok v m g c s (Creates name barriers) answers = cond_both (pages_full m g name empty_image) _ _ (TurnedOk [] s) (λ p. tt) (λ p. record { still = record { there = refl; hung = refl }; flight = _; is = refl; tx = refl; kept = refl; kind = refl })
 does_ok v m g c s (Prepares p tail) answers = record { still = record { there = refl; hung = refl }; free = λ f. f; kept = refl; noted = tt; tx = λ e. e }
 does_ok v m g c s (Drops id) answers = record { still = record { there = refl; hung = refl }; free = λ f. f; kept = refl; noted = tt; tx = λ e. e }
+does_ok v m g c s (Forgets response) answers = record { still = record { there = refl; hung = refl }; free = λ f. f; kept = refl; noted = tt; tx = λ e. e }
 does_ok v m g c s (Begins at_once) answers = cond_both (at_once && other_holds g c s.database) _ _ (TurnedOk [] s) (λ p. tt) (λ p. record { still = record { there = refl; hung = refl }; free = λ f. f; kept = refl; noted = tt; tx = tt })
 does_ok v m g c s Commits answers = commit_ok v m g c s [] s.tx refl
 does_ok v m g c s RollsBack answers = record { still = record { there = refl; hung = refl }; free = λ f. f; kept = refl; noted = tt; tx = λ q. over s q }
@@ -190,6 +191,7 @@ does_owns v m g c s (Opens name barriers) answers = inl refl
 does_owns v m g c s (Creates name barriers) answers = inl refl
 does_owns v m g c s (Prepares p tail) answers = inl refl
 does_owns v m g c s (Drops id) answers = inl refl
+does_owns v m g c s (Forgets response) answers = inl refl
 does_owns v m g c s (Begins at_once) answers = inl refl
 does_owns v m g c s Commits answers = inl refl
 does_owns v m g c s RollsBack answers = inl refl

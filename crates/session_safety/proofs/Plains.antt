@@ -7,7 +7,7 @@ use Rattle.database_state.specs.Files.{empty_image}
 use Rattle.sql_engine.specs.Replies.{Statement}
 use Rattle.wire_msgs.specs.declared.request.Request.{Request}
 use Rattle.session_spec.specs.Allowed.{IsAllowed}
-use Rattle.session_spec.specs.Asking.{Asked, Never, Tells, Sets, Opens, Creates, Prepares, Drops, Begins, Commits, RollsBack, Changes, Runs, Reads, fits_one_voter, asked}
+use Rattle.session_spec.specs.Asking.{Asked, Never, Tells, Sets, Opens, Creates, Prepares, Drops, Forgets, Begins, Commits, RollsBack, Changes, Runs, Reads, fits_one_voter, asked}
 use Rattle.session_spec.specs.Causes.{Cause}
 use Rattle.session_spec.specs.Engines.{Answer, no_pages, Ending, Lacking, TooLarge, Stopped, Ended}
 use Rattle.session_spec.specs.Events.{landed, settled_by, left}
@@ -87,6 +87,7 @@ module _ (v : View) (m : Machine) (g : Gateway) (c : ℕ) (s : Session) (p : Pla
   does_plain r (Creates name barriers) answers fits off h = cond_both (pages_full m g name empty_image) _ _ TurnedPlain (λ e. tt) (λ e. record { barriers = is_off barriers r fits h.2; later = p.later; flown = refl })
   does_plain r (Prepares q tail) answers fits off h = record { barriers = p.barriers; later = p.later; flown = p.flown }
   does_plain r (Drops id) answers fits off h = record { barriers = p.barriers; later = p.later; flown = p.flown }
+  does_plain r (Forgets response) answers fits off h = record { barriers = p.barriers; later = p.later; flown = p.flown }
   does_plain r (Begins at_once) answers fits off h = cond_both (at_once && other_holds g c s.database) _ _ TurnedPlain (λ e. tt) (λ e. record { barriers = p.barriers; later = p.later; flown = p.flown })
   does_plain r Commits answers fits off h = commit_plain s.tx
   does_plain r RollsBack answers fits off h = record { barriers = p.barriers; later = p.later; flown = p.flown }

@@ -12,9 +12,9 @@ use Rattle.sql_engine.specs.declared.kind.EngineKind.{EngineKind}
 use Rattle.session_spec.specs.Causes.{LeadershipLost}
 use Rattle.session_spec.specs.Engines.{Answer, Handed}
 use Rattle.session_spec.specs.Sessions.{Reply, Refusal, Single, Rows, empty, Kind, Opening, Configuring, Writing, Committing, Querying, Flight, Later, Due, Lent, is_flying, is_due, later_query, lent_query, Transaction, Session, Gateway, absent, fresh, in_tx, is_busy, may_ask, Effect, HandsOver, JoinsPeer, Weighs, Note, Nothing, Began, Inside, Outside, Turned, Refused, Lacks, Answers, Proposes, Lends, Affects}
-use Rattle.session_spec.specs.Requests.{with_tx, with_flight, with_later, handed, handed_later, with_session, affected_by}
+use Rattle.session_spec.specs.Requests.{with_tx, with_flight, with_later, with_lost, handed, handed_later, with_session, affected_by}
 use Rattle.session_spec.specs.Entries.{Content}
-use Rattle.session_spec.specs.Events.{tidy, landed, settled_by, on_applied, still_lent, lost, on_lost, waits, last_of, placed, ordered, told_lost, left, on_hangup, connects, connected}
+use Rattle.session_spec.specs.Events.{tidy, landed, settled_by, on_applied, still_lent, loses, lost, on_lost, waits, last_of, placed, ordered, told_lost, left, on_hangup, connects, connected}
 use Rattle.session_spec.specs.Laws.{NoteTells, TurnedTells}
 use Rattle.session_spec.proofs.Keeping.{notes_tell_hold, laters_keep_hold}
 use Rattle.session_safety.specs.Nodes.{Said, Trail, Node, Standing, databases, view_of, unseen, started}
@@ -164,12 +164,14 @@ unfolding with_session
 with_here g c s = cond-true (c == c) s (g.session c) (eq-eqb c c refl)
 
 other_called : (b : Bool) (c : ℕ) (w : Node) (d : ℕ) (t : Turned) (p : Option Handled) → d ≢ c → Pending b c (w.gate.session c) (w.trail c) p → Next b c w (called w d t) p []
-other_called b c w d (Refused cause) p n a = quiet b c w (called w d (Refused cause)) p (tells d (Refusal cause) ∷ []) refl (to_other c (tells d (Refusal cause)) [] n) refl refl a
+other_called b c w d (Refused cause) p n a =
+    quiet b c w (called w d (Refused cause)) p (tells d (Refusal cause) ∷ []) refl (to_other c (tells d (Refusal cause)) [] n) refl refl a
 other_called b c w d Lacks p n a = silent b c w w p refl refl refl a
 other_called b c w d (Answers s r note) p n a = quiet b c w (called w d (Answers s r note)) p _ refl (to_other c (record { conn = d; reply = r; query = query_by w.applied (w.trail d) r note; commit = None; opened = None; index = 0; term = 0 }) [] n) (with_same w.gate c d s n) (cond-false (c == d) (answered_trail w.applied (w.trail d) note) (w.trail c) (off c d n)) a
 other_called b c w d (Proposes s contents note) p n a = silent b c w (called w d (Proposes s contents note)) p refl (with_same w.gate c d s n) (cond-false (c == d) (proposed_trail w.applied (w.trail d) note) (w.trail c) (off c d n)) a
 other_called b c w d (Lends s job) p n a = silent b c w (called w d (Lends s job)) p refl (with_same w.gate c d s n) (cond-false (c == d) (proposed_trail w.applied (w.trail d) (Outside job.name (job.statement ∷ []))) (w.trail c) (off c d n)) a
-other_called b c w d (Affects effect) p n a = quiet b c w (called w d (Affects effect)) p (tells d empty ∷ []) refl (to_other c (tells d empty) [] n) (effect_same w.gate effect c) refl a
+other_called b c w d (Affects effect) p n a =
+    quiet b c w (called w d (Affects effect)) p (tells d empty ∷ []) refl (to_other c (tells d empty) [] n) (effect_same w.gate effect c) refl a
 
 -- ---- a request of the connection
 
@@ -212,8 +214,10 @@ Fits w c own h = (h.before ≡ transaction_ran w c) × (h.own ≡ own)
 query_noted : (w : Node) (c : ℕ) (h : Handled) (own : List Statement) (o : Option Handed) (r : Reply) (note : Note) → Fits w c own h → statements_in o ≡ own → NoteOk (w.gate.session c).tx r note → NoteTells o note → QueryFrom h (query_by w.applied (w.trail c) r note)
 query_noted w c h own o r Nothing is e ok t = no_query h r [] 0 [] [] (w.trail c).seen ok
 query_noted w c h own o r Began is e ok t = no_query h r [] 0 [] [] (w.trail c).seen ok
-query_noted w c h own o r (Inside name ss) is e ok t = its_query h r name (w.trail c).at (w.trail c).ran ss (w.trail c).seen (sym (is.0 ∙ ran_in w c ok.0)) (is.1 ∙ sym e ∙ told_inside o name ss t) ok.1
-query_noted w c h own o r (Outside name ss) is e ok t = its_query h r name w.applied [] ss (w.trail c).seen (sym (is.0 ∙ ran_out w c ok.0)) (is.1 ∙ sym e ∙ told_outside o name ss t) ok.1
+query_noted w c h own o r (Inside name ss) is e ok t =
+    its_query h r name (w.trail c).at (w.trail c).ran ss (w.trail c).seen (sym (is.0 ∙ ran_in w c ok.0)) (is.1 ∙ sym e ∙ told_inside o name ss t) ok.1
+query_noted w c h own o r (Outside name ss) is e ok t =
+    its_query h r name w.applied [] ss (w.trail c).seen (sym (is.0 ∙ ran_out w c ok.0)) (is.1 ∙ sym e ∙ told_outside o name ss t) ok.1
 
 no_barrier : {A : Type 0} (own : List Statement) (o : Option Handed) (s : Session) (contents : List Content) (note : Note) (f : Flight) → s.flight ≡ Some f → is_query f.kind ≡ false → Owns own o (Proposes s contents note) → (statements_in o ≡ own → A) → A
 no_barrier own o s contents note f is q (inl e) k = k e
@@ -554,11 +558,11 @@ told_hits c (d ∷ ds) = ⊎_elim
     (cases_eq d c)
 
 -- what is left of a session that isn't hung up
-lost_is : (s : Session) → s.hung ≡ false → lost s ≡ with_later (with_flight (with_tx s None) None) (still_lent s.later)
-lost_is s e = cond-false s.hung absent (with_later (with_flight (with_tx s None) None) (still_lent s.later)) e
+lost_is : (s : Session) → s.hung ≡ false → lost s ≡ with_lost (with_later (with_flight (with_tx s None) None) (still_lent s.later)) (loses s)
+lost_is s e = cond-false s.hung absent (with_lost (with_later (with_flight (with_tx s None) None) (still_lent s.later)) (loses s)) e
 
 lost_none : (s : Session) → still_lent s.later ≡ None → (lost s).later ≡ None
-lost_none s e = cond_both s.hung absent (with_later (with_flight (with_tx s None) None) (still_lent s.later)) (λ x. x.later ≡ None) (λ h. refl) (λ h. e)
+lost_none s e = cond_both s.hung absent (with_lost (with_later (with_flight (with_tx s None) None) (still_lent s.later)) (loses s)) (λ x. x.later ≡ None) (λ h. refl) (λ h. e)
 
 lose_next : (b : Bool) (mean : Meaning) (c : ℕ) (w : Node) (term : ℕ) (p : Option Handled) → NodeOk mean w → Pending b c (w.gate.session c) (w.trail c) p → Next b c w (happens w (Lose term)) p []
 unfolding happens on_lost told_lost tidy
@@ -625,7 +629,8 @@ asking s e =
 
 call_next : (b : Bool) (c : ℕ) (w : Node) (d : ℕ) (standing : Standing) (r : Request) (answers : List Answer) (p : Option Handled) → Pending b c (w.gate.session c) (w.trail c) p → Next b c w (happens w (Call d standing r answers)) p (handled_by c w (Call d standing r answers))
 unfolding happens
-call_next b c w d standing r answers p a = cond_both (may_ask (w.gate.session d)) (called w d (outcome w d standing r answers)) w (λ v. Next b c w v p (handled_by c w (Call d standing r answers)))
+call_next b c w d standing r answers p a =
+    cond_both (may_ask (w.gate.session d)) (called w d (outcome w d standing r answers)) w (λ v. Next b c w v p (handled_by c w (Call d standing r answers)))
     (λ e. subst (Next b c w (called w d (outcome w d standing r answers)) p) (sym (ap (λ z. cond (d == c && (z && comes (outcome w d standing r answers))) (asks d ∷ []) []) e)) (asked e))
     (λ e. subst (Next b c w w p) (sym (ap (λ z. cond (d == c && (z && comes (outcome w d standing r answers))) (asks d ∷ []) []) e ∙ ap (λ z. cond z (asks d ∷ []) []) (and_right (d == c) false refl))) (silent b c w w p refl refl refl a))
   where
@@ -800,7 +805,8 @@ long b mean c w (e ∷ es) p ok n o a =
       said = y.said ∙ ap (λ l. l ++ y.more) x.said ∙ append_assoc w.said x.more y.more;
       after = y.after;
       pending = y.pending;
-      paired = subst (λ l. Paired b l (owed_by p ++ (handled_by c w e ++ handled_in c (happens w e) es)) (owed_by y.after)) (sym (said_to_append c x.more y.more))
+      paired =
+          subst (λ l. Paired b l (owed_by p ++ (handled_by c w e ++ handled_in c (happens w e) es)) (owed_by y.after)) (sym (said_to_append c x.more y.more))
           (subst (λ l. Paired b (said_to c x.more ++ said_to c y.more) l (owed_by y.after)) (append_assoc (owed_by p) (handled_by c w e) (handled_in c (happens w e) es))
           (pairs_append b (said_to c x.more) (said_to c y.more) (owed_by p ++ handled_by c w e) (handled_in c (happens w e) es) (owed_by x.after) (owed_by y.after) x.paired y.paired));
     }
@@ -944,8 +950,10 @@ undue_ran c w = ap (λ (s : Session). cond (in_tx s) (w.trail c).ran []) (undue_
 own_resumed_ran : (c : ℕ) (w : Node) (own : List Statement) (t : Turned) → transaction_ran (called (undue w c) c t) c ≡ cond (in_tx ((called (undue w c) c t).gate.session c)) (ran_by (transaction_ran (undue w c) c) own t) [] → transaction_ran (resumed_by w c t) c ≡ cond (in_tx ((resumed_by w c t).gate.session c)) (ran_by (transaction_ran w c) own t) []
 own_resumed_ran c w own (Refused cause) e = e ∙ ap (λ l. cond (in_tx ((undue w c).gate.session c)) l []) (undue_ran c w)
 own_resumed_ran c w own Lacks e = all_same c w w refl refl
-own_resumed_ran c w own (Answers s r note) e = e ∙ ap (λ l. cond (in_tx ((called (undue w c) c (Answers s r note)).gate.session c)) (runs_on l own note) []) (undue_ran c w)
-own_resumed_ran c w own (Proposes s contents note) e = e ∙ ap (λ l. cond (in_tx ((called (undue w c) c (Proposes s contents note)).gate.session c)) l []) (undue_ran c w)
+own_resumed_ran c w own (Answers s r note) e =
+    e ∙ ap (λ l. cond (in_tx ((called (undue w c) c (Answers s r note)).gate.session c)) (runs_on l own note) []) (undue_ran c w)
+own_resumed_ran c w own (Proposes s contents note) e =
+    e ∙ ap (λ l. cond (in_tx ((called (undue w c) c (Proposes s contents note)).gate.session c)) l []) (undue_ran c w)
 own_resumed_ran c w own (Lends s job) e = e ∙ ap (λ l. cond (in_tx ((called (undue w c) c (Lends s job)).gate.session c)) l []) (undue_ran c w)
 own_resumed_ran c w own (Affects effect) e = e ∙ ap (λ l. cond (in_tx ((called (undue w c) c (Affects effect)).gate.session c)) l []) (undue_ran c w)
 

@@ -153,7 +153,8 @@ called_steps w c d (Answers s r note) = (
 
 resumed_steps : (w : Node) (c d : ℕ) (standing : Standing) (answers : List Answer) (o : Option Statement) → Steps c w (resumed w d standing answers o)
 resumed_steps w c d standing answers None = steps_none c w w refl refl
-resumed_steps w c d standing answers (Some s) = let t = outcome_later w d standing s answers in resumed_both (Steps c w) w d t (steps_none c w w refl refl) (called_steps (undue w d) c d t)
+resumed_steps w c d standing answers (Some s) =
+    let t = outcome_later w d standing s answers in resumed_both (Steps c w) w d t (steps_none c w w refl refl) (called_steps (undue w d) c d t)
 
 -- a reader tells a reply
 told_steps : (w : Node) (c d : ℕ) (s : Statement) (o : Option Reply) → Steps c w (read_by w d s o)
@@ -187,7 +188,8 @@ landed_not c d t f (Querying statement) h = tt
 
 by_not : (index c d : ℕ) (t : Trail) (hung : Bool) (o : Option Flight) → d ≢ c → NotTo c (said_by index d t hung o)
 by_not index c d t hung None h = tt
-by_not index c d t hung (Some f) h = cond_both (f.last == index) _ _ (NotTo c) (λ e. cond_both hung _ _ (NotTo c) (λ z. tt) (λ z. landed_not c d t f f.kind h)) (λ e. tt)
+by_not index c d t hung (Some f) h =
+    cond_both (f.last == index) _ _ (NotTo c) (λ e. cond_both hung _ _ (NotTo c) (λ z. tt) (λ z. landed_not c d t f f.kind h)) (λ e. tt)
 
 applied_not : (index c : ℕ) (trail : ℕ → Trail) (session : ℕ → Session) (cs : List ℕ) → among cs c ≡ false → NotTo c (said_applied index trail session cs)
 applied_not index c trail session [] e = tt
@@ -213,7 +215,8 @@ landed_more index t (Querying statement) = omega arith
 
 trail_more : (index : ℕ) (t : Trail) (o : Option Flight) → t.seen ≤ (trail_by index t o).seen
 trail_more index t None = omega arith
-trail_more index t (Some f) = cond_both (f.last == index) (landed_trail index t f.kind) t (λ x. t.seen ≤ x.seen) (λ e. landed_more index t f.kind) (λ e. omega arith)
+trail_more index t (Some f) =
+    cond_both (f.last == index) (landed_trail index t f.kind) t (λ x. t.seen ≤ x.seen) (λ e. landed_more index t f.kind) (λ e. omega arith)
 
 nothing : (c n m : ℕ) → n ≤ m → Step c n m []
 nothing c n m h = record { more = h; up = tt; at = tt; see = tt }
@@ -257,7 +260,8 @@ behind_step c n m xs ys a b = record {
 }
 
 applied_step : (index c : ℕ) (trail : ℕ → Trail) (session : ℕ → Session) (cs : List ℕ) → (trail c).at ≤ index → Once cs → Step c (trail c).seen (trail_by index (trail c) (session c).flight).seen (said_applied index trail session cs)
-applied_step index c trail session [] h o = nothing c (trail c).seen (trail_by index (trail c) (session c).flight).seen (trail_more index (trail c) (session c).flight)
+applied_step index c trail session [] h o =
+    nothing c (trail c).seen (trail_by index (trail c) (session c).flight).seen (trail_more index (trail c) (session c).flight)
 applied_step index c trail session (d ∷ cs) h o = ⊎_elim
     (λ (e : d ≡ c). behind_step c (trail c).seen (trail_by index (trail c) (session c).flight).seen (said_by index d (trail d) (session d).hung (session d).flight) (said_applied index trail session cs)
     (subst (λ k. Step c (trail c).seen (trail_by index (trail c) (session c).flight).seen (said_by index k (trail k) (session k).hung (session k).flight)) (sym e) (by_step index c (trail c) (session c).hung (session c).flight h))
@@ -308,7 +312,8 @@ module _ (mean : Meaning) (kind : EngineKind) where
   unfolding happens
   steps c w (Connect d) h a = cond_both (connects w.gate d) _ w (Steps c w) (λ e. steps_none c w (joined w d) refl (cond_both (c == d) unseen (w.trail c) (λ t. t.seen ≡ (w.trail c).seen) (λ z. absurd (h (ap (λ k. Connect k) (sym (eqb-true c d z))))) (λ z. refl))) (λ e. steps_none c w w refl refl)
   steps c w (Hangup d) h a = steps_none c w (happens w (Hangup d)) refl refl
-  steps c w (Call d standing r answers) h a = cond_both (may_ask (w.gate.session d)) _ w (Steps c w) (λ e. called_steps w c d _) (λ e. steps_none c w w refl refl)
+  steps c w (Call d standing r answers) h a =
+      cond_both (may_ask (w.gate.session d)) _ w (Steps c w) (λ e. called_steps w c d _) (λ e. steps_none c w w refl refl)
   steps c w (Resume d standing answers) h a = resumed_steps w c d standing answers (later_query (w.gate.session d).later)
   steps c w (Done d answers) h a = read_steps w c d answers (lent_query (w.gate.session d).later)
   steps c w Apply h a = let low = (a.sessions c).at in (_, refl, applied_step (suc w.applied) c w.trail w.gate.session w.gate.conns (omega arith) a.sole.once)

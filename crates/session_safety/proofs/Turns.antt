@@ -20,8 +20,8 @@ use Rattle.session_spec.specs.Engines.{Answer, no_pages, Ending, Lacking, TooLar
 use Rattle.session_spec.specs.Sessions.{Reply, Single, result, empty, db, Kind, Opening, Configuring, Writing, Committing, Querying, Flight, Lent, later_query, lent_query, Transaction, Session, Job, absent, fresh, may_ask, Began, Nothing, Inside, Outside, Note, Effect, HandsOver, JoinsPeer, Weighs, Refused, Answers, Proposes, Lends, Affects}
 use Rattle.session_spec.specs.Statements.{free_id, with_prepared, without_prepared}
 use Rattle.session_spec.specs.Limits.{writes_to, holds_write_lock, holds, other_holds, is_write, pages_full, first_cause, change_refusal, log_full}
-use Rattle.session_spec.specs.Asking.{Asked, Never, Tells, Sets, Opens, Creates, Prepares, Drops, Begins, Commits, RollsBack, Changes, Runs, Reads, asked}
-use Rattle.session_spec.specs.Requests.{with_tx, with_statements, with_database, with_barriers, with_later, begun, worked, flying, row_cause, reply_of, outside_write, outside, inside, run_in, job_of, has_nothing, committed, commit_in, does, on_request, on_later, with_session}
+use Rattle.session_spec.specs.Asking.{Asked, Never, Tells, Sets, Opens, Creates, Prepares, Drops, Forgets, Begins, Commits, RollsBack, Changes, Runs, Reads, asked}
+use Rattle.session_spec.specs.Requests.{with_tx, with_statements, with_lost, with_database, with_barriers, with_later, begun, worked, flying, row_cause, reply_of, outside_write, outside, inside, run_in, job_of, has_nothing, committed, commit_in, does, on_request, on_later, with_session}
 use Rattle.session_spec.specs.Events.{tidy, settled_by, landed, on_applied, left, on_hangup, connects, connected}
 use Rattle.session_spec.proofs.Images.{unchanged, changed_same}
 use Rattle.session_spec.proofs.Names.{name_is, is_name, same_name}
@@ -96,11 +96,14 @@ turn_next log applied f g (Some x) h a = record {
 }
 
 turn_landed : (log : List Entry) (applied : ℕ) (s : Session) (f : Flight) (k : Kind) → f.kind ≡ k → s.flight ≡ Some f → ApartBy k s.tx → TurnIs log applied s.flight s.tx → TurnIs log (suc applied) (landed s f k).flight (landed s f k).tx
-turn_landed log applied s f Opening e q p a = turn_next log applied s.flight None s.tx (λ n w. ap (λ o. writes_to o n) q ∙ ap (λ k. is_write k && bytes_eq f.name n) e) a
-turn_landed log applied s f Configuring e q p a = turn_next log applied s.flight None s.tx (λ n w. ap (λ o. writes_to o n) q ∙ ap (λ k. is_write k && bytes_eq f.name n) e) a
+turn_landed log applied s f Opening e q p a =
+    turn_next log applied s.flight None s.tx (λ n w. ap (λ o. writes_to o n) q ∙ ap (λ k. is_write k && bytes_eq f.name n) e) a
+turn_landed log applied s f Configuring e q p a =
+    turn_next log applied s.flight None s.tx (λ n w. ap (λ o. writes_to o n) q ∙ ap (λ k. is_write k && bytes_eq f.name n) e) a
 turn_landed log applied s f (Writing reply) e q p a = subst (TurnIs log (suc applied) None) (sym p) tt
 turn_landed log applied s f Committing e q p a = tt
-turn_landed log applied s f (Querying statement) e q p a = turn_next log applied s.flight None s.tx (λ n w. ap (λ o. writes_to o n) q ∙ ap (λ k. is_write k && bytes_eq f.name n) e) a
+turn_landed log applied s f (Querying statement) e q p a =
+    turn_next log applied s.flight None s.tx (λ n w. ap (λ o. writes_to o n) q ∙ ap (λ k. is_write k && bytes_eq f.name n) e) a
 
 turn_settled : (log : List Entry) (applied index : ℕ) (s : Session) (o : Option Flight) → s.flight ≡ o → Apart o s.tx → TurnIs log applied s.flight s.tx → TurnIs log (suc applied) (settled_by index s o).flight (settled_by index s o).tx
 turn_settled log applied index s None q p a = turn_next log applied s.flight s.flight s.tx (λ n w. w) a
@@ -303,7 +306,9 @@ module _ (mean : Meaning) (standing : Standing) (w : Node) (a : NodeOk mean w) (
   does_turn (Creates name barriers) answers serves = cond_both (pages_full (databases w) w.gate name empty_image) _ _ (λ y. WTurn (called w c y)) (λ e. refuse DatabaseFull) (λ e. other_turn (with_barriers (w.gate.session c) barriers) name (Does (OpenDb name)) Opening refl refl (λ n. refl))
   does_turn (Prepares p tail) answers serves = plain (with_statements (w.gate.session c) (with_prepared p (w.gate.session c).statements)) (Single (responses.Stmt 0 (free_id (w.gate.session c).statements) p.params tail)) free refl
   does_turn (Drops id) answers serves = plain (with_statements (w.gate.session c) (without_prepared id (w.gate.session c).statements)) empty free refl
-  does_turn (Begins now) answers serves = cond_both (now && other_holds w.gate c (w.gate.session c).database) _ _ (λ y. WTurn (called w c y)) (λ e. refuse Locked) (λ e. begin_turn now serves e)
+  does_turn (Forgets response) answers serves = plain (with_lost (w.gate.session c) false) (Single response) free refl
+  does_turn (Begins now) answers serves =
+      cond_both (now && other_holds w.gate c (w.gate.session c).database) _ _ (λ y. WTurn (called w c y)) (λ e. refuse Locked) (λ e. begin_turn now serves e)
   does_turn Commits answers serves = commit_turn (w.gate.session c).tx refl
   does_turn RollsBack answers serves = rolls
   does_turn (Changes servers) answers serves = cond_both (log_full (view_of w standing)) _ _ (λ y. WTurn (called w c y)) (λ e. refuse LogFull) (λ e. other_turn (w.gate.session c) [] (Configures servers) Configuring refl refl (λ n. refl))
@@ -324,7 +329,8 @@ module _ (mean : Meaning) (kind : EngineKind) where
 
   request_turn : (w : Node) (c : ℕ) (standing : Standing) (r : Request) (answers : List Answer) → NodeOk mean w → WTurn w → (w.gate.session c).flight ≡ None → (w.gate.session c).there ≡ true → w.serving ≡ true → WTurn (called w c (on_request (view_of w standing) (databases w) w.gate c r answers))
   unfolding on_request
-  request_turn w c standing r answers a t free here serves = does_turn mean standing w a t c free here (asked (view_of w standing) (databases w) w.gate c r) answers serves
+  request_turn w c standing r answers a t free here serves =
+      does_turn mean standing w a t c free here (asked (view_of w standing) (databases w) w.gate c r) answers serves
 
   call_serving : (w : Node) (c : ℕ) (standing : Standing) (r : Request) (answers : List Answer) → NodeOk mean w → WTurn w → w.serving ≡ true → WTurn (happens w (Call c standing r answers))
   unfolding happens may_ask

@@ -87,15 +87,18 @@ plain_frames s t (Does (OpenDb n) ∷ cs) (suc k) tx truncate term name b pages 
 plain_frames s t (Does (Frames n x u c ps) ∷ cs) k tx truncate term name b pages a e = a.0
 plain_frames s t (Does (Undo n) ∷ cs) zero tx truncate term name b pages a e = not_frames t tx truncate term name b pages (Does (Undo n)) _ (λ q. cc) refl e
 plain_frames s t (Does (Undo n) ∷ cs) (suc k) tx truncate term name b pages a e = plain_frames s t cs k tx truncate term name b pages a.1 e
-plain_frames s t (Does (Checkpoint n) ∷ cs) zero tx truncate term name b pages a e = not_frames t tx truncate term name b pages (Does (Checkpoint n)) _ (λ q. cc) refl e
+plain_frames s t (Does (Checkpoint n) ∷ cs) zero tx truncate term name b pages a e =
+    not_frames t tx truncate term name b pages (Does (Checkpoint n)) _ (λ q. cc) refl e
 plain_frames s t (Does (Checkpoint n) ∷ cs) (suc k) tx truncate term name b pages a e = plain_frames s t cs k tx truncate term name b pages a.1 e
-plain_frames s t (Configures servers ∷ cs) zero tx truncate term name b pages a e = not_frames t tx truncate term name b pages (Configures servers) _ (λ q. cc) refl e
+plain_frames s t (Configures servers ∷ cs) zero tx truncate term name b pages a e =
+    not_frames t tx truncate term name b pages (Configures servers) _ (λ q. cc) refl e
 plain_frames s t (Configures servers ∷ cs) (suc k) tx truncate term name b pages a e = plain_frames s t cs k tx truncate term name b pages a.1 e
 plain_frames s t (Other ∷ cs) zero tx truncate term name b pages a e = not_frames t tx truncate term name b pages Other _ (λ q. cc) refl e
 plain_frames s t (Other ∷ cs) (suc k) tx truncate term name b pages a e = plain_frames s t cs k tx truncate term name b pages a.1 e
 
 pub woven_plain : (s : Bool) (t : ℕ) (log : List Entry) (cs : List Content) → ArePlain s cs → Woven log → Woven (log ++ entries_of t cs)
-woven_plain s t log cs a w = woven_append log (entries_of t cs) w (λ k name tx truncate term b pages e. absurd (plain_frames s t cs k tx truncate term name b pages a e))
+woven_plain s t log cs a w =
+    woven_append log (entries_of t cs) w (λ k name tx truncate term b pages e. absurd (plain_frames s t cs k tx truncate term name b pages a e))
 
 -- an entry of one change of pages, and the one before it
 record InBlock (t : ℕ) (name : List ℕ) (tx k : ℕ) (es : List Entry) (e : Entry) : Type 0 where

@@ -131,7 +131,8 @@ pub record SaysInTime (w v : Node) : Type 0 where
 
 -- So it is in each turn.
 abbrev pub TurnsSay : Meaning → EngineKind → Type 0
-TurnsSay m kind = (ts : List Turn) (t : Turn) → AllowsTurns m kind (started [] 0 0) ts → AllowsTurn m kind (alone ts) t → SaysInTime (alone ts) (takes_turn (alone ts) t)
+TurnsSay m kind =
+    (ts : List Turn) (t : Turn) → AllowsTurns m kind (started [] 0 0) ts → AllowsTurn m kind (alone ts) t → SaysInTime (alone ts) (takes_turn (alone ts) t)
 
 -- no connection of this number joins
 abbrev pub NoneJoins : ℕ → List Turn → Type 0
@@ -167,7 +168,8 @@ lacks_now standing w conn request journal = may_ask (w.gate.session conn) && lac
 
 -- the journal behind the answers that the request uses
 abbrev pub rest_of : Standing → Node → ℕ → Request → List Answer → List Answer
-rest_of standing w conn request journal = drop (if may_ask (w.gate.session conn) then used_for (handed (view_of w standing) (databases w) w.gate conn request) journal else 0) journal
+rest_of standing w conn request journal =
+    drop (if may_ask (w.gate.session conn) then used_for (handed (view_of w standing) (databases w) w.gate conn request) journal else 0) journal
 
 -- The turns that lines make with one journal for all of them: each request takes its answers off the front. The run ends
 -- before a request that lacks one.

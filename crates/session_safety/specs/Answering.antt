@@ -52,7 +52,8 @@ abbrev pub ran_after : ℕ → Node → Event → List Statement
 ran_after conn w (Call other standing request answers) = if other == conn && may_ask (w.gate.session other) then ran_by (transaction_ran w other) (asks_for w other standing request) (outcome w other standing request answers) else transaction_ran w conn
 ran_after conn w (Connect other) = transaction_ran w conn
 ran_after conn w (Hangup other) = transaction_ran w conn
-ran_after conn w (Resume other standing answers) = if other == conn then ran_later (transaction_ran w other) w other standing answers (later_query (w.gate.session other).later) else transaction_ran w conn
+ran_after conn w (Resume other standing answers) =
+    if other == conn then ran_later (transaction_ran w other) w other standing answers (later_query (w.gate.session other).later) else transaction_ran w conn
 ran_after conn w (Done other answers) = transaction_ran w conn
 ran_after conn w Apply = transaction_ran w conn
 ran_after conn w (Lose term) = transaction_ran w conn
@@ -64,7 +65,8 @@ ran_after conn w (Follow entries) = transaction_ran w conn
 -- A transaction's statements are those that its requests ask for, in order, except for requests that are refused. BEGIN, COMMIT
 -- and END ask for none.
 abbrev pub TransactionsRun : Type 0
-TransactionsRun = (w : Node) (conn : ℕ) (e : Event) → transaction_ran (happens w e) conn ≡ (if in_tx ((happens w e).gate.session conn) then ran_after conn w e else [])
+TransactionsRun =
+    (w : Node) (conn : ℕ) (e : Event) → transaction_ran (happens w e) conn ≡ (if in_tx ((happens w e).gate.session conn) then ran_after conn w e else [])
 
 -- ---- requests that are handled
 

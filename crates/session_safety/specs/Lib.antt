@@ -8,3 +8,4 @@ pub mod Alone
 pub mod Examples
 pub mod Answering
 pub mod Lending
+pub mod Staying

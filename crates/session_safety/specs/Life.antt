@@ -112,7 +112,8 @@ said_by index conn t hung (Some f) = if f.last == index then (if hung then [] el
 
 abbrev pub said_applied : ℕ → (ℕ → Trail) → (ℕ → Session) → List ℕ → List Said
 said_applied index trail session [] = []
-said_applied index trail session (conn ∷ conns) = said_by index conn (trail conn) (session conn).hung (session conn).flight ++ said_applied index trail session conns
+said_applied index trail session (conn ∷ conns) =
+    said_by index conn (trail conn) (session conn).hung (session conn).flight ++ said_applied index trail session conns
 
 abbrev pub landed_trail : ℕ → Trail → Kind → Trail
 landed_trail index t Opening = t
@@ -197,7 +198,8 @@ joined w conn = record w { gate = connected w.gate conn; trail = λ other. if ot
 unfoldable pub happens : Node → Event → Node
 happens w (Connect conn) = if connects w.gate conn then joined w conn else w
 happens w (Hangup conn) = record w { gate = on_hangup w.gate conn }
-happens w (Call conn standing request answers) = if may_ask (w.gate.session conn) then called w conn (on_request (view_of w standing) (databases w) w.gate conn request answers) else w
+happens w (Call conn standing request answers) =
+    if may_ask (w.gate.session conn) then called w conn (on_request (view_of w standing) (databases w) w.gate conn request answers) else w
 happens w (Resume conn standing answers) = resumed w conn standing answers (later_query (w.gate.session conn).later)
 happens w (Done conn answers) = read w conn answers (lent_query (w.gate.session conn).later)
 happens w Apply = record w {
@@ -237,7 +239,8 @@ ArePlain serving (content ∷ contents) = IsPlain serving content × ArePlain se
 -- the answers are ones that the engine may give to a query that is run later than it was asked
 abbrev pub AllowsLater : Meaning → EngineKind → Node → ℕ → Standing → List Answer → Option Statement → Type 0
 AllowsLater m kind w conn standing answers None = Unit {0}
-AllowsLater m kind w conn standing answers (Some statement) = AllowsFor m kind (handed_later (view_of w standing) (databases w) (undue w conn).gate conn statement) answers
+AllowsLater m kind w conn standing answers (Some statement) =
+    AllowsFor m kind (handed_later (view_of w standing) (databases w) (undue w conn).gate conn statement) answers
 
 -- the same of a reader's answers
 abbrev pub AllowsRead : Meaning → EngineKind → Node → ℕ → List Answer → Option Statement → Type 0
@@ -249,7 +252,8 @@ AllowsRead m kind w conn answers (Some statement) = AllowsAll m kind (job_at w c
 abbrev pub Fits : Meaning → EngineKind → Node → Event → Type 0
 Fits m kind w (Connect conn) = Unit {0}
 Fits m kind w (Hangup conn) = Unit {0}
-Fits m kind w (Call conn standing request answers) = may_ask (w.gate.session conn) ≡ true → AllowsFor m kind (handed (view_of w standing) (databases w) w.gate conn request) answers
+Fits m kind w (Call conn standing request answers) =
+    may_ask (w.gate.session conn) ≡ true → AllowsFor m kind (handed (view_of w standing) (databases w) w.gate conn request) answers
 Fits m kind w (Resume conn standing answers) = AllowsLater m kind w conn standing answers (later_query (w.gate.session conn).later)
 Fits m kind w (Done conn answers) = AllowsRead m kind w conn answers (lent_query (w.gate.session conn).later)
 Fits m kind w Apply = w.applied < length w.log

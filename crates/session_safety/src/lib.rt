@@ -3,6 +3,7 @@
 //! come and go. Nothing here runs: each law is the promise of an empty function, and it holds under every engine.
 #![tactic(auto)]
 
+ghost use Rattle.session_safety.specs.Staying.{RequestsStayInside, TransactionsStay};
 ghost use Rattle.session_safety.specs.Alone.{AloneIsSafe, TurnsSay, TurnsSee, ScriptsAreSafe};
 ghost use Rattle.session_safety.specs.Answering.{RequestsAreAnswered, TransactionsRun};
 ghost use Rattle.session_safety.specs.Examples.{
@@ -132,6 +133,14 @@ pub fn jobs_stay<E: Engine>()
     ensures stay { (kind : _) → JobsStay (E.meaning kind) kind }
     ensures known { (kind : _) → JobsAreKnown (E.meaning kind) kind }
     ensures later { LatersStay }
+{}
+
+/// A client that has begun a transaction keeps it, open or lost, until it ends it by COMMIT or ROLLBACK: no statement of its
+/// connection runs outside of the transaction, and neither an applied entry nor lost leadership ends it, unless its COMMIT is
+/// proposed.
+pub fn transactions_stay()
+    ensures requests { RequestsStayInside }
+    ensures events { TransactionsStay }
 {}
 
 /// One voter that never stops: after each turn all of its log is applied, each reply is right by it, its log is woven, and

@@ -20,8 +20,9 @@ use Rattle.session_spec.specs.Servers.{has_server, has_address, server_of}
 use Rattle.session_spec.specs.Sessions.{Prepared, Transaction, Session, Gateway, View, JoinsPeer, HandsOver, in_tx}
 use Rattle.session_spec.specs.Statements.{prepared_from, prepared_at, prepared_count, is_left_out, is_write_word, any_barred, any_write, wrong_params, with_params, with_all}
 use Rattle.session_spec.specs.Asking as asking
-use Rattle.session_spec.specs.Asking.{Asked, Never, Tells, Sets, Opens, Creates, Prepares, Changes, Runs, Reads, has_database, barriers_asked, fits_one_voter, asked_by}
+use Rattle.session_spec.specs.Asking.{Asked, Never, Tells, Sets, Opens, Creates, Prepares, Changes, Runs, Reads, has_database, barriers_asked, fits_one_voter, asked_unless_lost, asked_by}
 use Rattle.session_spec.specs.Allowed.{IsFailure, IsEarlyCause, IsServed, IsOneChange, IsAllowed, AllAreAllowed}
+use Rattle.session_spec.proofs.Losing.{asked_both}
 
 -- none of five tests is passed
 record NoneOfFive (a b c d e : Bool) : Type 0 where
@@ -238,26 +239,29 @@ module _ (v : View) (g : Gateway) (s : Session) (r : Request) where
     remove_too : (id : ℕ) → change_in_flight g ≡ false → IsAllowed v g s r (asking.asks_remove v id)
     remove_too id q = if_allowed (has_server v.servers id) _ (Never BadNode) (λ known. other_too id _ (λ other. changes_too _ e f q (inr (inr (record { id = id; known = known; other = other; is = refl }))))) (λ b. tt)
 
-pub all_allowed : AllAreAllowed
-unfolding asked_by fits_one_voter
-all_allowed v m g c s requests.Leader = leader_tells v.servers v.leader
-all_allowed v m g c s (requests.Client id) = λ h. h
-all_allowed v m g c s (requests.Open name flags vfs) = leading v g s (requests.Open name flags vfs) _ (λ e. open_too v g s (requests.Open name flags vfs) m name (barriers_asked flags) e (λ b. ap not b))
-all_allowed v m g c s (requests.Prepare db sql wide) = served v g s (requests.Prepare db sql wide) db (asking.asks_prepare s sql wide (scan_of sql)) (λ h. prepare_too v g s (requests.Prepare db sql wide) h sql wide (scan_of sql))
-all_allowed v m g c s (requests.Exec db id params wide) = served v g s (requests.Exec db id params wide) db (asking.asks_exec (write_hindrance m g c s) (in_tx s) (prepared_at s.statements id) params) (λ h. exec_too v g s (requests.Exec db id params wide) h (write_hindrance m g c s) (write_early m g c s) (prepared_at s.statements id) params)
-all_allowed v m g c s (requests.Query db id params wide) = served v g s (requests.Query db id params wide) db (asking.asks_prepared_query (write_hindrance m g c s) (prepared_at s.statements id) params) (λ h. prepared_query_too v g s (requests.Query db id params wide) h (write_hindrance m g c s) (write_early m g c s) (prepared_at s.statements id) params)
-all_allowed v m g c s (requests.Finalize db id) = with_database v g s (requests.Finalize db id) db (asking.asks_finalize (prepared_at s.statements id) id) (λ h. finalize_too v g s (requests.Finalize db id) (prepared_at s.statements id) id h)
-all_allowed v m g c s (requests.ExecSql db sql params wide) = served v g s (requests.ExecSql db sql params wide) db (asking.asks_text (write_hindrance m g c s) (in_tx s) sql (scan_of sql) params) (λ h. text_too v g s (requests.ExecSql db sql params wide) h (write_hindrance m g c s) (write_early m g c s) sql (scan_of sql) params)
-all_allowed v m g c s (requests.QuerySql db sql params wide) = served v g s (requests.QuerySql db sql params wide) db (asking.asks_rows (write_hindrance m g c s) sql (scan_of sql) params) (λ h. rows_too v g s (requests.QuerySql db sql params wide) h (write_hindrance m g c s) (write_early m g c s) sql (scan_of sql) params)
-all_allowed v m g c s (requests.Interrupt db) = with_database v g s (requests.Interrupt db) db (Tells responses.Empty) (λ h. λ f. f)
-all_allowed v m g c s (requests.Connect id address) = either v g s (requests.Connect id address) (v.links && asking.is_other_node v id) (Sets (JoinsPeer id)) (Never BadNode) tt tt
-all_allowed v m g c s (requests.Add id address) = leading v g s (requests.Add id address) _ (λ e. settled_too v g s (requests.Add id address) _ (add_too v g s (requests.Add id address) e refl id address))
-all_allowed v m g c s (requests.Assign id role) = leading v g s (requests.Assign id role) _ (λ e. settled_too v g s (requests.Assign id role) _ (assign_too v g s (requests.Assign id role) e refl id role))
-all_allowed v m g c s (requests.Remove id) = leading v g s (requests.Remove id) _ (λ e. settled_too v g s (requests.Remove id) _ (remove_too v g s (requests.Remove id) e refl id))
-all_allowed v m g c s (requests.Dump name) =
+unlost_allowed : (v : View) (m : Machine) (g : Gateway) (conn : ℕ) (s : Session) (request : Request) → IsAllowed v g s request (asked_unless_lost v m g conn s request)
+unfolding asked_unless_lost fits_one_voter
+unlost_allowed v m g c s requests.Leader = leader_tells v.servers v.leader
+unlost_allowed v m g c s (requests.Client id) = λ h. h
+unlost_allowed v m g c s (requests.Open name flags vfs) = leading v g s (requests.Open name flags vfs) _ (λ e. open_too v g s (requests.Open name flags vfs) m name (barriers_asked flags) e (λ b. ap not b))
+unlost_allowed v m g c s (requests.Prepare db sql wide) = served v g s (requests.Prepare db sql wide) db (asking.asks_prepare s sql wide (scan_of sql)) (λ h. prepare_too v g s (requests.Prepare db sql wide) h sql wide (scan_of sql))
+unlost_allowed v m g c s (requests.Exec db id params wide) = served v g s (requests.Exec db id params wide) db (asking.asks_exec (write_hindrance m g c s) (in_tx s) (prepared_at s.statements id) params) (λ h. exec_too v g s (requests.Exec db id params wide) h (write_hindrance m g c s) (write_early m g c s) (prepared_at s.statements id) params)
+unlost_allowed v m g c s (requests.Query db id params wide) = served v g s (requests.Query db id params wide) db (asking.asks_prepared_query (write_hindrance m g c s) (prepared_at s.statements id) params) (λ h. prepared_query_too v g s (requests.Query db id params wide) h (write_hindrance m g c s) (write_early m g c s) (prepared_at s.statements id) params)
+unlost_allowed v m g c s (requests.Finalize db id) = with_database v g s (requests.Finalize db id) db (asking.asks_finalize (prepared_at s.statements id) id) (λ h. finalize_too v g s (requests.Finalize db id) (prepared_at s.statements id) id h)
+unlost_allowed v m g c s (requests.ExecSql db sql params wide) = served v g s (requests.ExecSql db sql params wide) db (asking.asks_text (write_hindrance m g c s) (in_tx s) sql (scan_of sql) params) (λ h. text_too v g s (requests.ExecSql db sql params wide) h (write_hindrance m g c s) (write_early m g c s) sql (scan_of sql) params)
+unlost_allowed v m g c s (requests.QuerySql db sql params wide) = served v g s (requests.QuerySql db sql params wide) db (asking.asks_rows (write_hindrance m g c s) sql (scan_of sql) params) (λ h. rows_too v g s (requests.QuerySql db sql params wide) h (write_hindrance m g c s) (write_early m g c s) sql (scan_of sql) params)
+unlost_allowed v m g c s (requests.Interrupt db) = with_database v g s (requests.Interrupt db) db (Tells responses.Empty) (λ h. λ f. f)
+unlost_allowed v m g c s (requests.Connect id address) = either v g s (requests.Connect id address) (v.links && asking.is_other_node v id) (Sets (JoinsPeer id)) (Never BadNode) tt tt
+unlost_allowed v m g c s (requests.Add id address) = leading v g s (requests.Add id address) _ (λ e. settled_too v g s (requests.Add id address) _ (add_too v g s (requests.Add id address) e refl id address))
+unlost_allowed v m g c s (requests.Assign id role) = leading v g s (requests.Assign id role) _ (λ e. settled_too v g s (requests.Assign id role) _ (assign_too v g s (requests.Assign id role) e refl id role))
+unlost_allowed v m g c s (requests.Remove id) = leading v g s (requests.Remove id) _ (λ e. settled_too v g s (requests.Remove id) _ (remove_too v g s (requests.Remove id) e refl id))
+unlost_allowed v m g c s (requests.Dump name) =
     let files = asking.files_of name (m.base name).image in
     either v g s (requests.Dump name) (is_named m.names name) _ (Never NoDatabase) (either v g s (requests.Dump name) (nat_lt 16777216 (asking.body_size files)) (Never AnswerTooBig) (Tells files) tt (λ h. h)) tt
-all_allowed v m g c s (requests.Cluster format) = either v g s (requests.Cluster format) (nat_le format 1) (Tells (responses.Servers (map (asking.info_of (format == 1)) v.servers))) (Never BadFormat) (λ h. h) tt
-all_allowed v m g c s (requests.Transfer id) = leading v g s (requests.Transfer id) _ (λ e. either v g s (requests.Transfer id) (among (voters v.servers) id) _ (Never BadNode) (either v g s (requests.Transfer id) (asking.may_take_over v id) (Sets (HandsOver id)) (Never TargetBehind) tt tt) tt)
-all_allowed v m g c s (requests.Describe format) = either v g s (requests.Describe format) (format == 0) (Tells (responses.Metadata 0 g.weight)) (Never BadFormat) (λ h. h) tt
-all_allowed v m g c s (requests.Weight weight) = tt
+unlost_allowed v m g c s (requests.Cluster format) = either v g s (requests.Cluster format) (nat_le format 1) (Tells (responses.Servers (map (asking.info_of (format == 1)) v.servers))) (Never BadFormat) (λ h. h) tt
+unlost_allowed v m g c s (requests.Transfer id) = leading v g s (requests.Transfer id) _ (λ e. either v g s (requests.Transfer id) (among (voters v.servers) id) _ (Never BadNode) (either v g s (requests.Transfer id) (asking.may_take_over v id) (Sets (HandsOver id)) (Never TargetBehind) tt tt) tt)
+unlost_allowed v m g c s (requests.Describe format) = either v g s (requests.Describe format) (format == 0) (Tells (responses.Metadata 0 g.weight)) (Never BadFormat) (λ h. h) tt
+unlost_allowed v m g c s (requests.Weight weight) = tt
+
+pub all_allowed : AllAreAllowed
+all_allowed v m g c s r = asked_both (IsAllowed v g s r) v m g c s r tt (λ response ends. ends) (unlost_allowed v m g c s r)

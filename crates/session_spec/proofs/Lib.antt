@@ -1,6 +1,8 @@
 pub mod Names
 pub mod Images
 pub mod Touched
+pub mod Losing
+mod Reported
 pub mod Asked
 pub mod Keeping
 pub mod Following

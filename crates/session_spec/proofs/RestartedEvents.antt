@@ -1,17 +1,18 @@
 -- Events and commands, wherever the counts of commits begin.
 use Rattle.std.proofs.Common.{◌≡◌, ℕ, suc, ◌+◌, Bool, true, false, cond, List, [], ◌∷◌, ◌++◌, length, refl, ap, ◌∙◌, arith}
-use Rattle.std.specs.Prelude.{◌==◌, bytes_eq, is_none, Option, Some, None}
+use Rattle.std.specs.Prelude.{◌==◌, ◌&&◌, ◌||◌, not, bytes_eq, is_none, Option, Some, None}
+use Rattle.std.specs.Option.{option_map}
 use Rattle.std.specs.List.{filter}
 use Rattle.dq_base.specs.declared.pages.NumberedPage.{NumberedPage}
 use Rattle.dq_base.specs.Applying.{page_fault}
 use Rattle.log_commands.specs.declared.command.Command.TheVariants.{OpenDb, Frames, Undo, Checkpoint}
 use Rattle.database_state.specs.Files.{image_after, pending_of}
 use Rattle.database_state.specs.Databases.{grown}
-use Rattle.session_spec.specs.Events.{tidy, landed, settled_by, on_applied, told_applied, lost, on_lost, told_lost, left, on_hangup, connects, connected}
+use Rattle.session_spec.specs.Events.{tidy, landed, settled_by, on_applied, told_applied, still_lent, is_committing, loses, lost, on_lost, told_lost, left, on_hangup, connects, connected}
 use Rattle.session_spec.specs.Machine.{Base, with_name, with_commit, framed, checked, act}
-use Rattle.session_spec.specs.Requests.{with_later, with_session}
-use Rattle.session_spec.specs.Sessions.{Session, Gateway, Kind, Opening, Configuring, Writing, Committing, Querying, Flight, absent, fresh}
-use Rattle.session_spec.specs.Restarts.{shifted_session, shifted, EventsSame, EventsShift, CommandsRestart}
+use Rattle.session_spec.specs.Requests.{with_tx, with_flight, with_later, with_lost, with_session}
+use Rattle.session_spec.specs.Sessions.{Session, Gateway, Transaction, Kind, Opening, Configuring, Writing, Committing, Querying, Flight, absent, fresh}
+use Rattle.session_spec.specs.Restarts.{shifted_tx, shifted_session, shifted, EventsSame, EventsShift, CommandsRestart}
 
 module _ (lacks : List ℕ → ℕ) where
   if_session : (b : Bool) (x y : Session) → cond b (shifted_session lacks x) (shifted_session lacks y) ≡ shifted_session lacks (cond b x y)
@@ -32,8 +33,17 @@ module _ (lacks : List ℕ → ℕ) where
       ∙ ap (λ x. cond (f.last == index) x (shifted_session lacks s)) (if_session s.hung absent (landed s f f.kind))
       ∙ if_session (f.last == index) (cond s.hung absent (landed s f f.kind)) s
 
+  loses_same : (s : Session) → loses (shifted_session lacks s) ≡ loses s
+  loses_same s = ap (λ (b : Bool). s.lost || (not b && not (is_committing s.flight))) (none_too s.tx)
+    where
+      none_too : (o : Option Transaction) → is_none (option_map (shifted_tx lacks) o) ≡ is_none o
+      none_too None = refl
+      none_too (Some x) = refl
+
   lost_same : (s : Session) → lost (shifted_session lacks s) ≡ shifted_session lacks (lost s)
-  lost_same s = if_session s.hung absent _
+  lost_same s =
+      ap (λ b. cond s.hung (shifted_session lacks absent) (shifted_session lacks (with_lost (with_later (with_flight (with_tx s None) None) (still_lent s.later)) b))) (loses_same s)
+      ∙ if_session s.hung absent _
 
   left_same : (s : Session) (o : Option Flight) → left (shifted_session lacks s) o ≡ shifted_session lacks (left s o)
   left_same s None = refl

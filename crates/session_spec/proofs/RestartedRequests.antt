@@ -14,7 +14,7 @@ use Rattle.sql_engine.specs.Replies.{Statement}
 use Rattle.wire_msgs.specs.declared.request.Request.{Request}
 use Rattle.wire_msgs.specs.declared.request.Request.TheVariants as requests
 use Rattle.session_spec.specs.Asking as asking
-use Rattle.session_spec.specs.Asking.{Asked, Never, Tells, Sets, Opens, Creates, Prepares, Drops, Begins, Commits, RollsBack, Changes, Runs, Reads, asked_by}
+use Rattle.session_spec.specs.Asking.{Asked, Never, Tells, Sets, Opens, Creates, Prepares, Drops, Forgets, Begins, Commits, RollsBack, Changes, Runs, Reads, asks_lost, unless_lost, asked_unless_lost, asked_by}
 use Rattle.session_spec.specs.Causes.{Cause, NotLeader, LogFull, Locked, OutOfDate, DatabaseFull}
 use Rattle.session_spec.specs.Engines.{Answer, no_pages, Ending, Lacking, TooLarge, Stopped, Ended, no_answer, runs}
 use Rattle.session_spec.specs.Entries.{Other}
@@ -69,31 +69,58 @@ module _ (lacks since : List ℕ → ℕ) where
     unfolding write_hindrance
     write_same s = hinders_same s s.tx
 
-    asked_same : (s : Session) (r : Request) → asked_by v (restarted lacks since m) (shifted lacks g) c (shifted_session lacks s) r ≡ asked_by v m g c s r
-    unfolding asked_by one_too_many all_names change_in_flight
-    asked_same s requests.Leader = refl
-    asked_same s (requests.Client id) = refl
-    asked_same s (requests.Open name flags vfs) = refl
-    asked_same s (requests.Prepare number sql wide) = refl
-    asked_same s (requests.Exec number id params wide) =
+    unlost_same : (s : Session) (r : Request) → asked_unless_lost v (restarted lacks since m) (shifted lacks g) c (shifted_session lacks s) r ≡ asked_unless_lost v m g c s r
+    unfolding asked_unless_lost one_too_many all_names change_in_flight
+    unlost_same s requests.Leader = refl
+    unlost_same s (requests.Client id) = refl
+    unlost_same s (requests.Open name flags vfs) = refl
+    unlost_same s (requests.Prepare number sql wide) = refl
+    unlost_same s (requests.Exec number id params wide) =
         ap (λ o. asking.at_leader v (asking.in_database s number (asking.asks_exec o (not (is_none (option_map (shifted_tx lacks) s.tx))) (prepared_at s.statements id) params))) (write_same s)
         ∙ ap (λ b. asking.at_leader v (asking.in_database s number (asking.asks_exec (write_hindrance m g c s) (not b) (prepared_at s.statements id) params))) (none_same s.tx)
-    asked_same s (requests.Query number id params wide) = ap (λ o. asking.at_leader v (asking.in_database s number (asking.asks_prepared_query o (prepared_at s.statements id) params))) (write_same s)
-    asked_same s (requests.Finalize number id) = refl
-    asked_same s (requests.ExecSql number sql params wide) =
+    unlost_same s (requests.Query number id params wide) = ap (λ o. asking.at_leader v (asking.in_database s number (asking.asks_prepared_query o (prepared_at s.statements id) params))) (write_same s)
+    unlost_same s (requests.Finalize number id) = refl
+    unlost_same s (requests.ExecSql number sql params wide) =
         ap (λ o. asking.at_leader v (asking.in_database s number (asking.asks_text o (not (is_none (option_map (shifted_tx lacks) s.tx))) sql (scan_of sql) params))) (write_same s)
         ∙ ap (λ b. asking.at_leader v (asking.in_database s number (asking.asks_text (write_hindrance m g c s) (not b) sql (scan_of sql) params))) (none_same s.tx)
-    asked_same s (requests.QuerySql number sql params wide) = ap (λ o. asking.at_leader v (asking.in_database s number (asking.asks_rows o sql (scan_of sql) params))) (write_same s)
-    asked_same s (requests.Interrupt number) = refl
-    asked_same s (requests.Connect id address) = refl
-    asked_same s (requests.Add id address) = refl
-    asked_same s (requests.Assign id role) = refl
-    asked_same s (requests.Remove id) = refl
-    asked_same s (requests.Dump name) = refl
-    asked_same s (requests.Cluster format) = refl
-    asked_same s (requests.Transfer id) = refl
-    asked_same s (requests.Describe format) = refl
-    asked_same s (requests.Weight weight) = refl
+    unlost_same s (requests.QuerySql number sql params wide) = ap (λ o. asking.at_leader v (asking.in_database s number (asking.asks_rows o sql (scan_of sql) params))) (write_same s)
+    unlost_same s (requests.Interrupt number) = refl
+    unlost_same s (requests.Connect id address) = refl
+    unlost_same s (requests.Add id address) = refl
+    unlost_same s (requests.Assign id role) = refl
+    unlost_same s (requests.Remove id) = refl
+    unlost_same s (requests.Dump name) = refl
+    unlost_same s (requests.Cluster format) = refl
+    unlost_same s (requests.Transfer id) = refl
+    unlost_same s (requests.Describe format) = refl
+    unlost_same s (requests.Weight weight) = refl
+
+    lost_same : (s : Session) (r : Request) → asks_lost (shifted_session lacks s) r ≡ asks_lost s r
+    lost_same s requests.Leader = refl
+    lost_same s (requests.Client id) = refl
+    lost_same s (requests.Open name flags vfs) = refl
+    lost_same s (requests.Prepare number sql wide) = refl
+    lost_same s (requests.Exec number id params wide) = refl
+    lost_same s (requests.Query number id params wide) = refl
+    lost_same s (requests.Finalize number id) = refl
+    lost_same s (requests.ExecSql number sql params wide) = refl
+    lost_same s (requests.QuerySql number sql params wide) = refl
+    lost_same s (requests.Interrupt number) = refl
+    lost_same s (requests.Connect id address) = refl
+    lost_same s (requests.Add id address) = refl
+    lost_same s (requests.Assign id role) = refl
+    lost_same s (requests.Remove id) = refl
+    lost_same s (requests.Dump name) = refl
+    lost_same s (requests.Cluster format) = refl
+    lost_same s (requests.Transfer id) = refl
+    lost_same s (requests.Describe format) = refl
+    lost_same s (requests.Weight weight) = refl
+
+    asked_same : (s : Session) (r : Request) → asked_by v (restarted lacks since m) (shifted lacks g) c (shifted_session lacks s) r ≡ asked_by v m g c s r
+    unfolding asked_by
+    asked_same s r =
+        ap (λ o. unless_lost s.lost o (asked_unless_lost v (restarted lacks since m) (shifted lacks g) c (shifted_session lacks s) r)) (lost_same s r)
+        ∙ ap (λ a. unless_lost s.lost (asks_lost s r) a) (unlost_same s r)
 
     outside_same : (s : Session) (ss : List Statement) (rows : Bool) (end : Ending) → outside v (restarted lacks since m) (shifted lacks g) c (shifted_session lacks s) ss rows end ≡ shifted_turned lacks (outside v m g c s ss rows end)
     unfolding outside outside_write
@@ -167,6 +194,7 @@ module _ (lacks since : List ℕ → ℕ) where
     does_same s (Creates name barriers) answers = if_turned (pages_full m g name empty_image) _ _
     does_same s (Prepares p tail) answers = refl
     does_same s (Drops id) answers = refl
+    does_same s (Forgets response) answers = refl
     does_same s (Begins at_once) answers =
         ap (λ b. cond (at_once && b) (Refused Locked) (shifted_turned lacks (Answers (begun m s at_once) (result 0) Began))) (other_same s.database)
         ∙ if_turned (at_once && other_holds g c s.database) (Refused Locked) (Answers (begun m s at_once) (result 0) Began)
@@ -192,6 +220,7 @@ module _ (lacks since : List ℕ → ℕ) where
     handed_same s o (Creates name barriers) e = refl
     handed_same s o (Prepares p tail) e = refl
     handed_same s o (Drops id) e = refl
+    handed_same s o (Forgets response) e = refl
     handed_same s o (Begins at_once) e = refl
     handed_same s o Commits e = refl
     handed_same s o RollsBack e = refl

@@ -4,12 +4,12 @@ use Rattle.wire_msgs.specs.declared.request.Request.{Request}
 use Rattle.wire_msgs.specs.declared.response.Response.{Response}
 use Rattle.wire_msgs.specs.declared.response.Response.TheVariants as responses
 use Rattle.raft_spec.specs.Node.{Server, among, voters}
-use Rattle.session_spec.specs.Causes.{Cause, BadRequest, FloatParameter, LeadershipLost, ConstraintFailed, SqlError, NotADatabase, FloatColumn, NotUtf8, NulInText, DatabaseFull}
+use Rattle.session_spec.specs.Causes.{Cause, failure, NotLeader, BadRequest, FloatParameter, LeadershipLost, ConstraintFailed, SqlError, NotADatabase, FloatColumn, NotUtf8, NulInText, DatabaseFull}
 use Rattle.session_spec.specs.Machine.{Machine}
 use Rattle.session_spec.specs.Sessions.{Session, Gateway, View, in_tx}
 use Rattle.session_spec.specs.Servers.{has_server, has_address, with_server, with_role, without_server}
 use Rattle.session_spec.specs.Limits.{change_in_flight, log_full}
-use Rattle.session_spec.specs.Asking.{Asked, Never, Tells, Sets, Opens, Creates, Prepares, Drops, Begins, Commits, RollsBack, Changes, Runs, Reads, has_database, fits_one_voter, is_promotion, asked_by}
+use Rattle.session_spec.specs.Asking.{Asked, Never, Tells, Sets, Opens, Creates, Prepares, Drops, Forgets, Begins, Commits, RollsBack, Changes, Runs, Reads, has_database, fits_one_voter, is_promotion, asked_by}
 
 abbrev pub IsFailure : Response → Type 0
 IsFailure (responses.Failure code message) = Unit {0}
@@ -69,6 +69,11 @@ pub record IsLeave (v : View) (old new : List Server) : Type 0 where
 abbrev pub IsOneChange : View → List Server → List Server → Type 0
 IsOneChange v old new = IsJoin old new ⊎ (IsRole v old new ⊎ IsLeave v old new)
 
+-- COMMIT ends a lost transaction and is refused, ROLLBACK ends one and gets a RESULT.
+pub record EndsLost (s : Session) (response : Response) : Type 0 where
+  pub lost : s.lost ≡ true
+  pub told : (response ≡ failure NotLeader) ⊎ (response ≡ responses.Result 0 0)
+
 -- What a request may ask for, and when: whatever needs a leader of one that serves; a new database where the log has room; other
 -- servers one change at a time; and what is done in the session's database where it has one, by the transaction that is open
 -- or isn't.
@@ -80,6 +85,7 @@ IsAllowed v g s request (Opens name barriers) = (v.serving ≡ true) × (barrier
 IsAllowed v g s request (Creates name barriers) = (v.serving ≡ true) × (log_full v ≡ false) × (barriers ≡ true → fits_one_voter request ≡ false)
 IsAllowed v g s request (Prepares prepared tail) = IsServed v s
 IsAllowed v g s request (Drops id) = has_database s ≡ true
+IsAllowed v g s request (Forgets response) = EndsLost s response
 IsAllowed v g s request (Begins at_once) = IsServed v s × (in_tx s ≡ false)
 IsAllowed v g s request Commits = IsServed v s × (in_tx s ≡ true)
 IsAllowed v g s request RollsBack = IsServed v s × (in_tx s ≡ true)

@@ -16,7 +16,7 @@ use Rattle.sql_scan.specs.declared.heading.WordKind.TheVariants as words
 use Rattle.sql_scan.specs.Statements.{scan_of}
 use Rattle.sql_engine.specs.Replies.{Statement}
 use Rattle.raft_spec.specs.Node.{Server, among, voters}
-use Rattle.session_spec.specs.Causes.{Cause, NotLeader, DatabaseOpen, ChangeInFlight, NoDatabase, NoStatement, NotAllowed, OneStatementWanted, WrongParameters, InTransaction, NoTransaction, BadName, BadNode, BadRole, BadFormat, TargetBehind, TransferFirst, TooManyVoters, TooManyStatements, TooManyDatabases, LogFull, AnswerTooBig, scan_cause}
+use Rattle.session_spec.specs.Causes.{Cause, NotLeader, DatabaseOpen, ChangeInFlight, NoDatabase, NoStatement, NotAllowed, OneStatementWanted, WrongParameters, InTransaction, NoTransaction, BadName, BadNode, BadRole, BadFormat, TargetBehind, TransferFirst, TooManyVoters, TooManyStatements, TooManyDatabases, LogFull, AnswerTooBig, scan_cause, failure}
 use Rattle.session_spec.specs.Machine.{Machine, is_named}
 use Rattle.session_spec.specs.Sessions.{Prepared, Session, Gateway, View, Effect, HandsOver, JoinsPeer, Weighs, in_tx}
 use Rattle.session_spec.specs.Servers.{has_server, has_address, server_of, with_server, with_role, without_server}
@@ -25,7 +25,7 @@ use Rattle.session_spec.specs.Limits.{change_in_flight, one_too_many, log_full, 
 
 -- What is asked for: nothing, as it is refused; a response, and nothing else; an effect beside the sessions; a database
 -- that is there, or a new one (either with barrier reads, or without); a statement to be prepared, with the place of the rest of its text where that is told, or to be
--- let go; a transaction to begin (at once with the write turn, or not) or to end; other servers of the cluster; statements
+-- let go; a lost transaction to end, with a response; a transaction to begin (at once with the write turn, or not) or to end; other servers of the cluster; statements
 -- to run, or one whose rows are told.
 pub data Asked : Type 0 where
   Never : (cause : Cause) → Asked
@@ -35,6 +35,7 @@ pub data Asked : Type 0 where
   Creates : (name : List ℕ) (barriers : Bool) → Asked
   Prepares : (prepared : Prepared) (tail : Option ℕ) → Asked
   Drops : (id : ℕ) → Asked
+  Forgets : (response : Response) → Asked
   Begins : (at_once : Bool) → Asked
   Commits : Asked
   RollsBack : Asked
@@ -267,36 +268,88 @@ abbrev pub asks_prepare : Session → List ℕ → Bool → Result (List Stateme
 asks_prepare s sql wide (Err fault) = Never (scan_cause fault)
 asks_prepare s sql wide (Ok pieces) = asks_prepare_pieces s sql wide pieces
 
+-- ---- a transaction that was lost with leadership
+
+-- COMMIT ends it and is refused, ROLLBACK ends it, and any other statement is refused
+abbrev pub lost_word : WordKind → Asked
+lost_word (words.Begin at_once) = Never NotLeader
+lost_word words.Commit = Forgets (failure NotLeader)
+lost_word words.Rollback = Forgets (responses.Result 0 0)
+lost_word words.Write = Never NotLeader
+lost_word words.LeftOut = Never NotLeader
+lost_word words.Other = Never NotLeader
+
+-- if its parameters fit
+abbrev pub lost_one : Prepared → List Value → Asked
+lost_one p params = if wrong_params (p ∷ []) params then Never NotLeader else lost_word p.word
+
+-- if it is the only statement
+abbrev pub lost_statements : List Prepared → List Value → Asked
+lost_statements [] params = Never NotLeader
+lost_statements (p ∷ []) params = lost_one p params
+lost_statements (p ∷ q ∷ ps) params = Never NotLeader
+
+abbrev pub lost_text : List ℕ → Result (List StatementSpan) ScanFault → List Value → Asked
+lost_text sql (Err fault) params = Never NotLeader
+lost_text sql (Ok pieces) params = lost_statements (map (prepared_from sql) pieces) params
+
+abbrev pub lost_exec : Option Prepared → List Value → Asked
+lost_exec None params = Never NotLeader
+lost_exec (Some p) params = lost_one p params
+
+-- if it is for the session's database
+abbrev pub lost_in : Session → ℕ → Asked → Asked
+lost_in s db asked = if no_database s db then Never NotLeader else asked
+
+-- What a request with a statement asks for while the transaction is lost, whether the node leads or not; None for requests
+-- without one.
+abbrev pub asks_lost : Session → Request → Option Asked
+asks_lost s (requests.Prepare db sql wide) = Some (Never NotLeader)
+asks_lost s (requests.Exec db id params wide) = Some (lost_in s db (lost_exec (prepared_at s.statements id) params))
+asks_lost s (requests.Query db id params wide) = Some (Never NotLeader)
+asks_lost s (requests.ExecSql db sql params wide) = Some (lost_in s db (lost_text sql (scan_of sql) params))
+asks_lost s (requests.QuerySql db sql params wide) = Some (Never NotLeader)
+asks_lost s request = None
+
+abbrev pub unless_lost : Bool → Option Asked → Asked → Asked
+unless_lost false lost asked = asked
+unless_lost true None asked = asked
+unless_lost true (Some lost) asked = lost
+
 -- ---- requests
 
 -- what a serving leader alone answers
 abbrev pub at_leader : View → Asked → Asked
 at_leader v asked = if v.serving then asked else Never NotLeader
 
--- What the session of a connection asks for by a request. The refusals are tried in this order: not a serving leader; a second
+-- What a session without a lost transaction asks for by a request. The refusals are tried in this order: not a serving leader; a second
 -- database, or a change of the cluster while one is in flight; no such database or statement; a text, statement, parameters,
 -- name, node or format that may not be; a limit on statements, databases or the log; a write that couldn't be kept, as another
 -- session has the turn or the image is old.
+unfoldable pub asked_unless_lost : View → Machine → Gateway → ℕ → Session → Request → Asked
+asked_unless_lost v m g conn s requests.Leader = Tells (leader_known v.servers v.leader)
+asked_unless_lost v m g conn s (requests.Client id) = Tells (responses.Welcome 15000)
+asked_unless_lost v m g conn s (requests.Open name flags vfs) = at_leader v (asks_open v m g s name (barriers_asked flags))
+asked_unless_lost v m g conn s (requests.Prepare db sql wide) = at_leader v (in_database s db (asks_prepare s sql wide (scan_of sql)))
+asked_unless_lost v m g conn s (requests.Exec db id params wide) = at_leader v (in_database s db (asks_exec (write_hindrance m g conn s) (in_tx s) (prepared_at s.statements id) params))
+asked_unless_lost v m g conn s (requests.Query db id params wide) = at_leader v (in_database s db (asks_prepared_query (write_hindrance m g conn s) (prepared_at s.statements id) params))
+asked_unless_lost v m g conn s (requests.Finalize db id) = in_database s db (asks_finalize (prepared_at s.statements id) id)
+asked_unless_lost v m g conn s (requests.ExecSql db sql params wide) = at_leader v (in_database s db (asks_text (write_hindrance m g conn s) (in_tx s) sql (scan_of sql) params))
+asked_unless_lost v m g conn s (requests.QuerySql db sql params wide) = at_leader v (in_database s db (asks_rows (write_hindrance m g conn s) sql (scan_of sql) params))
+asked_unless_lost v m g conn s (requests.Interrupt db) = in_database s db (Tells responses.Empty)
+asked_unless_lost v m g conn s (requests.Connect id address) = asks_connect v id
+asked_unless_lost v m g conn s (requests.Add id address) = at_leader v (if_settled g (asks_add v.servers id address))
+asked_unless_lost v m g conn s (requests.Assign id role) = at_leader v (if_settled g (asks_assign v id role))
+asked_unless_lost v m g conn s (requests.Remove id) = at_leader v (if_settled g (asks_remove v id))
+asked_unless_lost v m g conn s (requests.Dump name) = asks_dump m name
+asked_unless_lost v m g conn s (requests.Cluster format) = asks_cluster v format
+asked_unless_lost v m g conn s (requests.Transfer id) = at_leader v (asks_transfer v id)
+asked_unless_lost v m g conn s (requests.Describe format) = asks_describe g.weight format
+asked_unless_lost v m g conn s (requests.Weight weight) = Sets (Weighs weight)
+
+-- What the session of a connection asks for by a request.
 unfoldable pub asked_by : View → Machine → Gateway → ℕ → Session → Request → Asked
-asked_by v m g conn s requests.Leader = Tells (leader_known v.servers v.leader)
-asked_by v m g conn s (requests.Client id) = Tells (responses.Welcome 15000)
-asked_by v m g conn s (requests.Open name flags vfs) = at_leader v (asks_open v m g s name (barriers_asked flags))
-asked_by v m g conn s (requests.Prepare db sql wide) = at_leader v (in_database s db (asks_prepare s sql wide (scan_of sql)))
-asked_by v m g conn s (requests.Exec db id params wide) = at_leader v (in_database s db (asks_exec (write_hindrance m g conn s) (in_tx s) (prepared_at s.statements id) params))
-asked_by v m g conn s (requests.Query db id params wide) = at_leader v (in_database s db (asks_prepared_query (write_hindrance m g conn s) (prepared_at s.statements id) params))
-asked_by v m g conn s (requests.Finalize db id) = in_database s db (asks_finalize (prepared_at s.statements id) id)
-asked_by v m g conn s (requests.ExecSql db sql params wide) = at_leader v (in_database s db (asks_text (write_hindrance m g conn s) (in_tx s) sql (scan_of sql) params))
-asked_by v m g conn s (requests.QuerySql db sql params wide) = at_leader v (in_database s db (asks_rows (write_hindrance m g conn s) sql (scan_of sql) params))
-asked_by v m g conn s (requests.Interrupt db) = in_database s db (Tells responses.Empty)
-asked_by v m g conn s (requests.Connect id address) = asks_connect v id
-asked_by v m g conn s (requests.Add id address) = at_leader v (if_settled g (asks_add v.servers id address))
-asked_by v m g conn s (requests.Assign id role) = at_leader v (if_settled g (asks_assign v id role))
-asked_by v m g conn s (requests.Remove id) = at_leader v (if_settled g (asks_remove v id))
-asked_by v m g conn s (requests.Dump name) = asks_dump m name
-asked_by v m g conn s (requests.Cluster format) = asks_cluster v format
-asked_by v m g conn s (requests.Transfer id) = at_leader v (asks_transfer v id)
-asked_by v m g conn s (requests.Describe format) = asks_describe g.weight format
-asked_by v m g conn s (requests.Weight weight) = Sets (Weighs weight)
+asked_by v m g conn s request = unless_lost s.lost (asks_lost s request) (asked_unless_lost v m g conn s request)
 
 -- the same of a connection's session
 abbrev pub asked : View → Machine → Gateway → ℕ → Request → Asked

@@ -1,9 +1,9 @@
 -- What the node tells its sessions: connections that come and go, entries that are applied, leadership that is lost.
-use Rattle.std.specs.Prelude.{ℕ, Bool, true, not, ◌&&◌, ◌||◌, ◌==◌, nat_lt, nat_le, List, [], ◌∷◌, ◌++◌, length, map, Option, Some, None, if◌then◌else◌}
+use Rattle.std.specs.Prelude.{ℕ, Bool, true, false, not, ◌&&◌, ◌||◌, ◌==◌, nat_lt, nat_le, List, [], ◌∷◌, ◌++◌, length, map, Option, Some, None, if◌then◌else◌}
 use Rattle.std.specs.List.{filter, flat_map}
 use Rattle.session_spec.specs.Causes.{LeadershipLost}
-use Rattle.session_spec.specs.Sessions.{Reply, Refusal, result, empty, db, Kind, Opening, Configuring, Writing, Committing, Querying, Flight, Later, Due, Lent, Session, Gateway, absent, fresh, is_flying, is_due}
-use Rattle.session_spec.specs.Requests.{with_tx, with_flight, with_database, with_later}
+use Rattle.session_spec.specs.Sessions.{Reply, Refusal, result, empty, db, Kind, Opening, Configuring, Writing, Committing, Querying, Flight, Later, Due, Lent, Session, Gateway, absent, fresh, in_tx, is_flying, is_due}
+use Rattle.session_spec.specs.Requests.{with_tx, with_flight, with_database, with_later, with_lost}
 
 -- only connections that have a session are searched
 unfoldable pub tidy : Gateway → (ℕ → Session) → Gateway
@@ -55,9 +55,25 @@ still_lent None = None
 still_lent (Some (Due statement)) = None
 still_lent (Some (Lent statement)) = Some (Lent statement)
 
+abbrev pub commits : Kind → Bool
+commits Opening = false
+commits Configuring = false
+commits (Writing reply) = false
+commits Committing = true
+commits (Querying statement) = false
+
+-- the COMMIT of the open transaction is proposed
+abbrev pub is_committing : Option Flight → Bool
+is_committing None = false
+is_committing (Some f) = commits f.kind
+
+-- A transaction that is open is lost, unless its COMMIT is proposed. One that was lost before stays lost.
+abbrev pub loses : Session → Bool
+loses s = s.lost || (in_tx s && not (is_committing s.flight))
+
 -- proposals and transactions end; databases and statements stay
 abbrev pub lost : Session → Session
-lost s = if s.hung then absent else with_later (with_flight (with_tx s None) None) (still_lent s.later)
+lost s = if s.hung then absent else with_lost (with_later (with_flight (with_tx s None) None) (still_lent s.later)) (loses s)
 
 unfoldable pub on_lost : Gateway → Gateway
 on_lost g = tidy g (λ conn. lost (g.session conn))
@@ -88,7 +104,7 @@ told_lost g = map (λ (conn : ℕ). (conn, Refusal LeadershipLost)) (ordered (λ
 
 abbrev pub left : Session → Option Flight → Session
 left s None = absent
-left s (Some f) = record { there = s.there; hung = true; database = s.database; barriers = s.barriers; later = s.later; statements = s.statements; tx = s.tx; flight = s.flight }
+left s (Some f) = record { there = s.there; hung = true; database = s.database; barriers = s.barriers; later = s.later; statements = s.statements; tx = s.tx; lost = s.lost; flight = s.flight }
 
 -- The client goes. A proposal in flight, and the write turn with it, stays until it is applied or lost.
 unfoldable pub on_hangup : Gateway → ℕ → Gateway

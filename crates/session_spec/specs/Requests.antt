@@ -22,31 +22,35 @@ use Rattle.session_spec.specs.Sessions.{Reply, Refusal, Single, Rows, result, em
 use Rattle.session_spec.specs.Statements.{free_id, with_prepared, without_prepared}
 use Rattle.session_spec.specs.Limits.{other_holds, pages_full, log_full, first_cause, change_refusal}
 use Rattle.session_spec.specs.Touched.{numbers_of}
-use Rattle.session_spec.specs.Asking.{Asked, Never, Tells, Sets, Opens, Creates, Prepares, Drops, Begins, Commits, RollsBack, Changes, Runs, Reads, asked}
+use Rattle.session_spec.specs.Asking.{Asked, Never, Tells, Sets, Opens, Creates, Prepares, Drops, Forgets, Begins, Commits, RollsBack, Changes, Runs, Reads, asked}
 
 -- ---- the session after it
 
 abbrev pub with_tx : Session → Option Transaction → Session
-with_tx s tx = record { there = s.there; hung = s.hung; database = s.database; barriers = s.barriers; later = s.later; statements = s.statements; tx = tx; flight = s.flight }
+with_tx s tx = record { there = s.there; hung = s.hung; database = s.database; barriers = s.barriers; later = s.later; statements = s.statements; tx = tx; lost = s.lost; flight = s.flight }
 
 -- the session with this proposal, or none
 abbrev pub with_flight : Session → Option Flight → Session
-with_flight s flight = record { there = s.there; hung = s.hung; database = s.database; barriers = s.barriers; later = s.later; statements = s.statements; tx = s.tx; flight = flight }
+with_flight s flight = record { there = s.there; hung = s.hung; database = s.database; barriers = s.barriers; later = s.later; statements = s.statements; tx = s.tx; lost = s.lost; flight = flight }
 
 abbrev pub with_statements : Session → List (Option Prepared) → Session
-with_statements s statements = record { there = s.there; hung = s.hung; database = s.database; barriers = s.barriers; later = s.later; statements = statements; tx = s.tx; flight = s.flight }
+with_statements s statements = record { there = s.there; hung = s.hung; database = s.database; barriers = s.barriers; later = s.later; statements = statements; tx = s.tx; lost = s.lost; flight = s.flight }
 
 -- the session with this database, and no proposal
 abbrev pub with_database : Session → List ℕ → Session
-with_database s name = record { there = s.there; hung = s.hung; database = name; barriers = s.barriers; later = s.later; statements = s.statements; tx = s.tx; flight = None }
+with_database s name = record { there = s.there; hung = s.hung; database = name; barriers = s.barriers; later = s.later; statements = s.statements; tx = s.tx; lost = s.lost; flight = None }
 
 -- the session that asks for barrier reads, or doesn't
 abbrev pub with_barriers : Session → Bool → Session
-with_barriers s barriers = record { there = s.there; hung = s.hung; database = s.database; barriers = barriers; later = s.later; statements = s.statements; tx = s.tx; flight = s.flight }
+with_barriers s barriers = record { there = s.there; hung = s.hung; database = s.database; barriers = barriers; later = s.later; statements = s.statements; tx = s.tx; lost = s.lost; flight = s.flight }
 
 -- the session with a query that is yet to be answered, or none
 abbrev pub with_later : Session → Option Later → Session
-with_later s later = record { there = s.there; hung = s.hung; database = s.database; barriers = s.barriers; later = later; statements = s.statements; tx = s.tx; flight = s.flight }
+with_later s later = record { there = s.there; hung = s.hung; database = s.database; barriers = s.barriers; later = later; statements = s.statements; tx = s.tx; lost = s.lost; flight = s.flight }
+
+-- the session whose transaction is lost, or isn't
+abbrev pub with_lost : Session → Bool → Session
+with_lost s lost = record { there = s.there; hung = s.hung; database = s.database; barriers = s.barriers; later = s.later; statements = s.statements; tx = s.tx; lost = lost; flight = s.flight }
 
 -- a transaction over the newest image of a database
 abbrev pub begun_over : List ℕ → Base → Bool → Transaction
@@ -219,6 +223,7 @@ does v m g conn s (Opens name barriers) answers = Answers (with_barriers (with_d
 does v m g conn s (Creates name barriers) answers = creates v m g (with_barriers s barriers) name
 does v m g conn s (Prepares p tail) answers = Answers (with_statements s (with_prepared p s.statements)) (Single (responses.Stmt 0 (free_id s.statements) p.params tail)) Nothing
 does v m g conn s (Drops id) answers = Answers (with_statements s (without_prepared id s.statements)) empty Nothing
+does v m g conn s (Forgets response) answers = Answers (with_lost s false) (Single response) Nothing
 does v m g conn s (Begins at_once) answers = begins m g conn s at_once
 does v m g conn s Commits answers = commit_in v m g conn s s.tx
 does v m g conn s RollsBack answers = Answers (with_tx s None) (result 0) Nothing

@@ -16,7 +16,7 @@ abbrev pub shifted_tx : (List ℕ → ℕ) → Transaction → Transaction
 shifted_tx lacks x = record { name = x.name; mark = lacks x.name + x.mark; pinned = x.pinned; working = x.working; turn = x.turn; touched = x.touched }
 
 abbrev pub shifted_session : (List ℕ → ℕ) → Session → Session
-shifted_session lacks s = record { there = s.there; hung = s.hung; database = s.database; barriers = s.barriers; later = s.later; statements = s.statements; tx = option_map (shifted_tx lacks) s.tx; flight = s.flight }
+shifted_session lacks s = record { there = s.there; hung = s.hung; database = s.database; barriers = s.barriers; later = s.later; statements = s.statements; tx = option_map (shifted_tx lacks) s.tx; lost = s.lost; flight = s.flight }
 
 abbrev pub shifted : (List ℕ → ℕ) → Gateway → Gateway
 shifted lacks g = record { conns = g.conns; session = λ conn. shifted_session lacks (g.session conn); weight = g.weight }

@@ -82,7 +82,8 @@ pub data Later : Type 0 where
 
 -- A session. `there` is false of a connection that has none. A session is `hung` whose client has gone while its proposal
 -- is in flight. The database is the empty name where none was opened. Where the connection asked for `barriers`, its queries
--- outside a transaction wait for a barrier. A statement's number is its place in the list.
+-- outside a transaction wait for a barrier. A statement's number is its place in the list. A session is `lost` whose transaction
+-- was open when leadership was lost, and which neither COMMIT nor ROLLBACK has ended since.
 pub record Session : Type 0 where
   pub there : Bool
   pub hung : Bool
@@ -91,6 +92,7 @@ pub record Session : Type 0 where
   pub later : Option Later
   pub statements : List (Option Prepared)
   pub tx : Option Transaction
+  pub lost : Bool
   pub flight : Option Flight
 
 -- the connections that have a session, in the order in which they came; the session of each; and the node's weight
@@ -100,10 +102,10 @@ pub record Gateway : Type 0 where
   pub weight : ℕ
 
 abbrev pub absent : Session
-absent = record { there = false; hung = false; database = []; barriers = false; later = None; statements = []; tx = None; flight = None }
+absent = record { there = false; hung = false; database = []; barriers = false; later = None; statements = []; tx = None; lost = false; flight = None }
 
 abbrev pub fresh : Session
-fresh = record { there = true; hung = false; database = []; barriers = false; later = None; statements = []; tx = None; flight = None }
+fresh = record { there = true; hung = false; database = []; barriers = false; later = None; statements = []; tx = None; lost = false; flight = None }
 
 -- a node that has just started
 abbrev pub no_sessions : Gateway

@@ -5,7 +5,7 @@
 #![tactic(auto)]
 
 ghost use Rattle.session_spec.specs.Allowed.{AllAreAllowed};
-ghost use Rattle.session_spec.specs.Laws.{LatersKeep, MachinesFollow, NotesTell, ProposesPages, RefusalsKeep};
+ghost use Rattle.session_spec.specs.Laws.{LatersKeep, LossesAreMarked, LossesAreReported, MachinesFollow, NotesTell, ProposesPages, RefusalsKeep};
 ghost use Rattle.session_spec.specs.Restarts.{CommandsRestart, CountsRestart, EventsShift, LatersRestart};
 ghost use Rattle.session_spec.specs.Seen.{WrittenIsSeen};
 
@@ -15,7 +15,8 @@ pub fn all_are_allowed()
     ensures { AllAreAllowed }
 {}
 
-/// A request that is answered by a FAILURE leaves the sessions as they were, and appends nothing.
+/// A request that is answered by a FAILURE leaves the sessions as they were, and appends nothing. A COMMIT of a transaction that was
+/// lost with leadership also ends this transaction.
 pub fn refusals_keep()
     ensures { RefusalsKeep }
 {}
@@ -36,6 +37,14 @@ pub fn proposes_pages()
 /// refusals leave all as it was, what is noted is what was handed over, and what it proposes is a change of pages.
 pub fn laters_keep()
     ensures { LatersKeep }
+{}
+
+/// A transaction that was open when leadership was lost is lost, unless its COMMIT was proposed. From then on each request of the
+/// connection that has a statement is refused by `not leader` and runs nothing, until a COMMIT, which is refused by the same, or a
+/// ROLLBACK, which gets a RESULT, ends the transaction.
+pub fn losses_are_reported()
+    ensures marked { LossesAreMarked }
+    ensures reported { LossesAreReported }
 {}
 
 /// A command does to the databases of a node, seen as a map from names, what it does to that map.

@@ -7,7 +7,7 @@ use dq_base::PageSet;
 use sql_engine::{EngineFault, StatementResult};
 
 /// Statements that all ran.
-#[derive(Debug, Drop)]
+#[derive(Drop)]
 pub struct AllRan {
     /// The pages that they changed together, where there isn't exactly one statement; those of the only one stand in its
     /// answer.
@@ -29,7 +29,7 @@ impl AllRan {
 }
 
 /// How running statements one after another ended.
-#[derive(Debug, Drop)]
+#[derive(Drop)]
 pub enum Ending {
     /// All ran.
     Ended(AllRan),

@@ -1,7 +1,7 @@
 //! How statements run.
 
 /// How statements run: for which transaction, and how far.
-#[derive(Clone, Copy, Debug)]
+#[derive(Clone, Copy)]
 pub struct RunOptions {
     /// The number of the transaction that their pages are told for.
     pub tx: u64,

@@ -1,6 +1,6 @@
 -- What is left of the sessions is what the rules leave of the table.
 use Rattle.std.proofs.Common.{◌≡◌, ℕ, Bool, true, false, cond, List, [], ◌∷◌, map, Option, Some, None, option_map, inl, inr, refl, sym, ap, subst, ◌∙◌}
-use Rattle.std.specs.Prelude.{◌==◌}
+use Rattle.std.specs.Prelude.{◌==◌, ◌&&◌, ◌||◌, not, is_none}
 use Rattle.std.specs.List.{AllByRecursion, filter}
 use Rattle.std.proofs.lemmas.Bool.{cases_Bool, eqb-true}
 use Rattle.database_state.specs.declared.database.Database.{Database}
@@ -19,7 +19,7 @@ use Rattle.session_table.specs.declared.sweep.Event.{Event}
 use Rattle.session_table.specs.declared.sweep.Event.TheVariants.{Applied, Lost, Left, Ended}
 use Rattle.session_table.specs.Table.{database_of, image_pinned, transaction_of, session_of, session_at, table_of, AreApart, mark_of, pin_of, pins_of}
 use Rattle.session_table.specs.Marks.{IsNoneOf, AreMarks, Released}
-use Rattle.session_table.specs.Sweeping.{still_lent, lost, stopped, done, kept_applied, kept_left, kept, all_kept, all_freed, after}
+use Rattle.session_table.specs.Sweeping.{still_lent, loses, lost, stopped, done, kept_applied, kept_left, kept, all_kept, all_freed, after}
 use Rattle.session_table.proofs.Releasing.{all_front, all_back, AreBeside}
 use Rattle.session_table.proofs.Parting.{of_kept, kept_beside}
 use Rattle.session_table.proofs.Found.{IsFound, all_found}
@@ -49,7 +49,7 @@ same_pins gone old new (s ∷ ss) released beside live = (
 )
 
 pub same_session : (old new : List Database) (s : Session) → IsSame old new s.transaction → session_of new s ≡ session_of old s
-same_session old new s same = ap (λ (tx : Option RuleTransaction). record { there = true; hung = s.hung; database = database_of s.database; barriers = s.barriers; later = option_map later_named s.later; statements = s.statements.items; tx = tx; flight = s.flight }) same
+same_session old new s same = ap (λ (tx : Option RuleTransaction). record { there = true; hung = s.hung; database = database_of s.database; barriers = s.barriers; later = option_map later_named s.later; statements = s.statements.items; tx = tx; lost = s.lost; flight = s.flight }) same
 
 -- ---- one session
 
@@ -58,11 +58,11 @@ module _ (old new : List Database) where
   AreSame ss = AllByRecursion (λ (s : Session). IsSame old new s.transaction) ss
 
   done_fits : (s : Session) (f : Flight) (kind : Kind) → AreSame (done s f.name kind ∷ []) → Fits new s.conn (events.landed (session_of old s) f kind) (done s f.name kind ∷ [])
-  done_fits s f Opening same = (refl, ap (λ (tx : Option RuleTransaction). record { there = true; hung = s.hung; database = f.name; barriers = s.barriers; later = option_map later_named s.later; statements = s.statements.items; tx = tx; flight = None }) same.0)
-  done_fits s f Configuring same = (refl, ap (λ (tx : Option RuleTransaction). record { there = true; hung = s.hung; database = database_of s.database; barriers = s.barriers; later = option_map later_named s.later; statements = s.statements.items; tx = tx; flight = None }) same.0)
-  done_fits s f (Writing reply) same = (refl, ap (λ (tx : Option RuleTransaction). record { there = true; hung = s.hung; database = database_of s.database; barriers = s.barriers; later = option_map later_named s.later; statements = s.statements.items; tx = tx; flight = None }) same.0)
+  done_fits s f Opening same = (refl, ap (λ (tx : Option RuleTransaction). record { there = true; hung = s.hung; database = f.name; barriers = s.barriers; later = option_map later_named s.later; statements = s.statements.items; tx = tx; lost = s.lost; flight = None }) same.0)
+  done_fits s f Configuring same = (refl, ap (λ (tx : Option RuleTransaction). record { there = true; hung = s.hung; database = database_of s.database; barriers = s.barriers; later = option_map later_named s.later; statements = s.statements.items; tx = tx; lost = s.lost; flight = None }) same.0)
+  done_fits s f (Writing reply) same = (refl, ap (λ (tx : Option RuleTransaction). record { there = true; hung = s.hung; database = database_of s.database; barriers = s.barriers; later = option_map later_named s.later; statements = s.statements.items; tx = tx; lost = s.lost; flight = None }) same.0)
   done_fits s f Committing same = (refl, refl)
-  done_fits s f (Querying statement) same = (refl, ap (λ (tx : Option RuleTransaction). record { there = true; hung = s.hung; database = database_of s.database; barriers = s.barriers; later = Some (Due statement); statements = s.statements.items; tx = tx; flight = None }) same.0)
+  done_fits s f (Querying statement) same = (refl, ap (λ (tx : Option RuleTransaction). record { there = true; hung = s.hung; database = database_of s.database; barriers = s.barriers; later = Some (Due statement); statements = s.statements.items; tx = tx; lost = s.lost; flight = None }) same.0)
 
   applied_fits : (index : ℕ) (s : Session) (flight : Option Flight) → AreSame (kept_applied index s flight) → Fits new s.conn (events.settled_by index (session_of old s) flight) (kept_applied index s flight)
   applied_fits index s None same = (refl, same_session old new s same.0)
@@ -75,13 +75,17 @@ module _ (old new : List Database) where
   ]) same
 
   lost_fits : (s : Session) → Fits new s.conn (events.lost (session_of old s)) (kept Lost s)
-  lost_fits s = elim s.hung as (λ (h : Bool). Fits new s.conn (cond h absent (lost_session (events.still_lent (option_map later_named s.later)))) (cond h [] (lost s ∷ []))) [
+  lost_fits s = elim s.hung as (λ (h : Bool). Fits new s.conn (cond h absent (lost_session (events.still_lent (option_map later_named s.later)) (events.loses (session_of old s)))) (cond h [] (lost s ∷ []))) [
     | true ↦ refl
-    | false ↦ (refl, ap lost_session (same_lent s.later))
+    | false ↦ (refl, ap (λ (l : Option RuleLater). lost_session l (loses s)) (same_lent s.later) ∙ ap (lost_session (events.still_lent (option_map later_named s.later))) (same_loses s.transaction))
   ]
     where
-      lost_session : Option RuleLater → RuleSession
-      lost_session later = record { there = true; hung = s.hung; database = database_of s.database; barriers = s.barriers; later = later; statements = s.statements.items; tx = None; flight = None }
+      same_loses : (o : Option Transaction) → (s.lost || (not (is_none o) && not (events.is_committing s.flight))) ≡ (s.lost || (not (is_none (option_map (transaction_of old) o)) && not (events.is_committing s.flight)))
+      same_loses None = refl
+      same_loses (Some x) = refl
+
+      lost_session : Option RuleLater → Bool → RuleSession
+      lost_session later gone = record { there = true; hung = s.hung; database = database_of s.database; barriers = s.barriers; later = later; statements = s.statements.items; tx = None; lost = gone; flight = None }
 
       same_lent : (l : Option WaitingQuery) → option_map later_named (still_lent l) ≡ events.still_lent (option_map later_named l)
       same_lent None = refl
@@ -90,7 +94,7 @@ module _ (old new : List Database) where
 
   gone_fits : (s : Session) (flight : Option Flight) → s.flight ≡ flight → AreSame (kept_left s flight) → Fits new s.conn (events.left (session_of old s) flight) (kept_left s flight)
   gone_fits s None is same = refl
-  gone_fits s (Some f) is same = (refl, ap (λ (tx : Option RuleTransaction). record { there = true; hung = true; database = database_of s.database; barriers = s.barriers; later = option_map later_named s.later; statements = s.statements.items; tx = tx; flight = s.flight }) same.0)
+  gone_fits s (Some f) is same = (refl, ap (λ (tx : Option RuleTransaction). record { there = true; hung = true; database = database_of s.database; barriers = s.barriers; later = option_map later_named s.later; statements = s.statements.items; tx = tx; lost = s.lost; flight = s.flight }) same.0)
 
   -- what becomes of the session of a connection whose client goes
   abbrev pub leaves : ℕ → ℕ → RuleSession → RuleSession

@@ -1,5 +1,5 @@
 -- What a request changes of its own session, and where the session stands.
-use Rattle.std.specs.Prelude.{◌≡◌, ◌≢◌, ℕ, ◌<◌, Bool, true, List, [], ◌++◌, length, get_or, Option, Some, None, IsSome, if◌then◌else◌}
+use Rattle.std.specs.Prelude.{◌≡◌, ◌≢◌, ℕ, ◌<◌, Bool, true, false, List, [], ◌++◌, length, get_or, Option, Some, None, IsSome, if◌then◌else◌}
 use Rattle.std.specs.List.{AllByRecursion}
 use Rattle.dq_base.specs.declared.pages.NumberedPage.{NumberedPage}
 use Rattle.dq_base.specs.Applying.{applied}
@@ -7,7 +7,7 @@ use Rattle.database_state.specs.declared.database.Database.{Database}
 use Rattle.session_spec.specs.Sessions.{Gateway, Lent, fresh, Prepared, Transaction as RuleTransaction, Session as RuleSession}
 use Rattle.session_spec.specs.Touched.{numbers_of}
 use Rattle.session_spec.specs.Statements.{with_prepared, without_prepared, prepared_at}
-use Rattle.session_spec.specs.Requests.{with_tx, with_flight, with_statements, with_database, with_barriers, with_later}
+use Rattle.session_spec.specs.Requests.{with_tx, with_flight, with_statements, with_database, with_barriers, with_later, with_lost}
 use Rattle.session_spec.specs.Events.{connects, connected}
 use Rattle.session_table.specs.declared.session.Session.{Session}
 use Rattle.session_table.specs.declared.session.Transaction.{Transaction}
@@ -38,6 +38,7 @@ changed_by s (changes.Creates flight barriers) = with_flight (with_barriers s ba
 changed_by s (changes.Lends query) = with_later s (Some (Lent query))
 changed_by s (changes.Prepares prepared) = with_statements s (with_prepared prepared s.statements)
 changed_by s (changes.Drops id) = with_statements s (without_prepared id s.statements)
+changed_by s changes.Forgets = with_lost s false
 changed_by s (changes.Works pages number) = with_tx s (worked_on pages.pages s.tx)
 changed_by s (changes.Flies flight) = with_flight s (Some flight)
 
@@ -60,4 +61,4 @@ pub record Joined (g : Gateway) (conn : ℕ) (new : Bool) (now : Gateway) : Type
 
 -- a session with an open transaction
 abbrev pub with_transaction : Session → Transaction → Session
-with_transaction s x = record { conn = s.conn; hung = s.hung; database = s.database; barriers = s.barriers; later = s.later; statements = s.statements; transaction = Some x; flight = s.flight }
+with_transaction s x = record { conn = s.conn; hung = s.hung; database = s.database; barriers = s.barriers; later = s.later; statements = s.statements; transaction = Some x; lost = s.lost; flight = s.flight }

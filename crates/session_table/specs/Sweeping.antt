@@ -1,5 +1,5 @@
 -- What happens to all sessions of a table: an entry is applied, leadership is lost, a client goes.
-use Rattle.std.specs.Prelude.{ℕ, ◌==◌, ◌≡◌, Bool, true, false, List, [], ◌∷◌, ◌++◌, map, Option, Some, None, if◌then◌else◌}
+use Rattle.std.specs.Prelude.{ℕ, ◌==◌, ◌≡◌, ◌&&◌, ◌||◌, not, is_none, Bool, true, false, List, [], ◌∷◌, ◌++◌, map, Option, Some, None, if◌then◌else◌}
 use Rattle.std.specs.List.{flat_map}
 use Rattle.wire_msgs.specs.declared.response.Response.{Response}
 use Rattle.database_state.specs.declared.database.Database.{Database}
@@ -18,27 +18,27 @@ use Rattle.session_table.specs.Marks.{Released}
 
 -- a session that has hung up
 abbrev pub hung_up : Session → Session
-hung_up s = record { conn = s.conn; hung = true; database = s.database; barriers = s.barriers; later = s.later; statements = s.statements; transaction = s.transaction; flight = s.flight }
+hung_up s = record { conn = s.conn; hung = true; database = s.database; barriers = s.barriers; later = s.later; statements = s.statements; transaction = s.transaction; lost = s.lost; flight = s.flight }
 
 -- a session without a proposal
 abbrev pub landed : Session → Session
-landed s = record { conn = s.conn; hung = s.hung; database = s.database; barriers = s.barriers; later = s.later; statements = s.statements; transaction = s.transaction; flight = None }
+landed s = record { conn = s.conn; hung = s.hung; database = s.database; barriers = s.barriers; later = s.later; statements = s.statements; transaction = s.transaction; lost = s.lost; flight = None }
 
 -- a session without a proposal and without a transaction
 abbrev pub ended : Session → Session
-ended s = record { conn = s.conn; hung = s.hung; database = s.database; barriers = s.barriers; later = s.later; statements = s.statements; transaction = None; flight = None }
+ended s = record { conn = s.conn; hung = s.hung; database = s.database; barriers = s.barriers; later = s.later; statements = s.statements; transaction = None; lost = s.lost; flight = None }
 
 -- a session without a transaction
 abbrev pub stopped : Session → Session
-stopped s = record { conn = s.conn; hung = s.hung; database = s.database; barriers = s.barriers; later = s.later; statements = s.statements; transaction = None; flight = s.flight }
+stopped s = record { conn = s.conn; hung = s.hung; database = s.database; barriers = s.barriers; later = s.later; statements = s.statements; transaction = None; lost = s.lost; flight = s.flight }
 
 -- a session whose new database is there
 abbrev pub opened_at : Session → List ℕ → Session
-opened_at s name = record { conn = s.conn; hung = s.hung; database = Some name; barriers = s.barriers; later = s.later; statements = s.statements; transaction = s.transaction; flight = None }
+opened_at s name = record { conn = s.conn; hung = s.hung; database = Some name; barriers = s.barriers; later = s.later; statements = s.statements; transaction = s.transaction; lost = s.lost; flight = None }
 
 -- a session whose query's barrier is applied
 abbrev pub due_at : Session → Statement → Session
-due_at s statement = record { conn = s.conn; hung = s.hung; database = s.database; barriers = s.barriers; later = Some (Due statement); statements = s.statements; transaction = s.transaction; flight = None }
+due_at s statement = record { conn = s.conn; hung = s.hung; database = s.database; barriers = s.barriers; later = Some (Due statement); statements = s.statements; transaction = s.transaction; lost = s.lost; flight = None }
 
 -- a reader goes on with its query, where leadership is lost
 abbrev pub still_lent : Option WaitingQuery → Option WaitingQuery
@@ -46,9 +46,13 @@ still_lent None = None
 still_lent (Some (Due query)) = None
 still_lent (Some (Lent query)) = Some (Lent query)
 
+-- a session has a lost transaction where leadership is lost
+abbrev pub loses : Session → Bool
+loses s = s.lost || (not (is_none s.transaction) && not (events.is_committing s.flight))
+
 -- a session where leadership is lost
 abbrev pub lost : Session → Session
-lost s = record { conn = s.conn; hung = s.hung; database = s.database; barriers = s.barriers; later = still_lent s.later; statements = s.statements; transaction = None; flight = None }
+lost s = record { conn = s.conn; hung = s.hung; database = s.database; barriers = s.barriers; later = still_lent s.later; statements = s.statements; transaction = None; lost = loses s; flight = None }
 
 -- a session whose proposal is done
 abbrev pub done : Session → List ℕ → Kind → Session

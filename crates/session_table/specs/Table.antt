@@ -35,6 +35,7 @@ session_of databases s = record {
   later = option_map later_named s.later;
   statements = s.statements.items;
   tx = option_map (transaction_of databases) s.transaction;
+  lost = s.lost;
   flight = s.flight;
 }
 

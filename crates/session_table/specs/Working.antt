@@ -54,5 +54,6 @@ work_made (changes.Creates flight barriers) tx = []
 work_made (changes.Lends query) tx = []
 work_made (changes.Prepares prepared) tx = []
 work_made (changes.Drops id) tx = []
+work_made changes.Forgets tx = []
 work_made (changes.Works pages number) tx = work_with pages.pages number tx
 work_made (changes.Flies flight) tx = []

@@ -18,7 +18,7 @@ use dq_base::{Image, ImageNumber, Name, NumberedPage, PageSet, apply_pages};
 use std::alloc::AllocError;
 
 /// What a request changes of its own session.
-#[derive(Debug, Drop)]
+#[derive(Drop)]
 pub enum Change {
     /// Nothing.
     Stays,
@@ -32,6 +32,8 @@ pub enum Change {
     Prepares(Prepared),
     /// It has let the statement of this number go.
     Drops(u32),
+    /// Its lost transaction ends.
+    Forgets,
     /// Its transaction has changed these pages, and has the turn to write; the number that was drawn for its working image.
     Works(PageSet, u64),
     /// It has this proposal in flight.
@@ -114,6 +116,7 @@ impl Session {
                 let _id = prepare(&mut self.statements, prepared)?;
             }
             Change::Drops(id) => finalize(self.statements.as_mut_slice(), id),
+            Change::Forgets => self.lost = false,
             Change::Works(set, number) => {
                 work(&mut self.transaction, set.pages.as_slice(), number)?;
             }

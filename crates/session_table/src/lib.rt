@@ -8,6 +8,7 @@ mod cause;
 mod change;
 mod laws;
 mod limits;
+mod noted;
 mod open_work;
 mod query;
 mod reply;

@@ -11,7 +11,7 @@ use std::sync::Arc;
 use wire_words::{Value, WireText};
 
 /// A text with the values of its parameters, and how many bytes they keep.
-#[derive(Debug, Drop)]
+#[derive(Drop)]
 struct BoundText {
     text: WireText,
     params: Items<Value>,
@@ -20,7 +20,7 @@ struct BoundText {
 
 /// A query that waits for its barrier, or that a reader runs: one statement with the values of its parameters. The session
 /// shares it by count with the reader. Clauses see it as the rules' statement.
-#[derive(Debug, Drop)]
+#[derive(Drop)]
 pub struct Query {
     asked: Arc<BoundText, Global>,
 }

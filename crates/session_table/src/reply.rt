@@ -11,6 +11,7 @@ ghost use Rattle.session_table.specs.SessionSizes.{reply_size};
 ghost use Rattle.session_table.specs.Sweeping.{told_in};
 
 use crate::cause::Cause;
+use crate::noted::GhostCopy;
 use dq_base::Items;
 use sql_engine::StatementResult;
 use std::alloc::{AllocError, Global};
@@ -20,10 +21,10 @@ use wire_msgs::Response;
 use wire_rows::{RowFault, parts};
 use wire_words::WireBytes;
 
-/// Rows that are told: an answer that is cut into parts. Clauses see the answer.
-#[derive(Debug, Drop)]
+/// Rows that are told: an answer that is cut into parts. Clauses see the answer, which is not kept at run time.
+#[derive(Drop)]
 pub struct ToldRows {
-    answer: StatementResult,
+    answer: GhostCopy<StatementResult>,
     told: Items<WireBytes>,
     // How many bytes the parts have.
     size: u64,
@@ -37,9 +38,9 @@ impl Model for ToldRows {
 
     ghost Value = { StatementResult };
 
-    ghost view = { λ r. r.answer };
+    ghost view = { λ r. r.answer.value };
 
-    ghost invariant = { λ r. (r.told ≡ bodies r.answer.columns (cut r.answer.columns r.answer.rows)) × (r.size ≡ held (total_size r.told)) };
+    ghost invariant = { λ r. (r.told ≡ bodies r.answer.value.columns (cut r.answer.value.columns r.answer.value.rows)) × (r.size ≡ held (total_size r.told)) };
 }
 
 /// How many bytes parts have together. The sum stops at the last number of 64 bits.
@@ -69,7 +70,7 @@ impl ToldRows {
             Ok(bodies) => {
                 let size = total(bodies.as_slice());
                 Ok(Ok(ToldRows {
-                    answer,
+                    answer: GhostCopy::of(&answer),
                     told: Items::new(bodies),
                     size,
                 }))
@@ -111,7 +112,7 @@ fn tell_rows(told: &mut Vec<(u64, Response)>, conn: u64, bodies: &mut VecDeque<W
 }
 
 /// A reply to a request that isn't refused.
-#[derive(Debug, Drop)]
+#[derive(Drop)]
 pub enum Reply {
     /// One response.
     Single(Response),
@@ -130,8 +131,7 @@ impl Reply {
         }
     }
 
-    /// How many bytes the parts have in which rows are told; 0 for one response, which is small. The answer that was cut into them is
-    /// not counted.
+    /// How many bytes the parts have in which rows are told; 0 for one response, which is small.
     pub fn size(&self) -> u64
         ensures { result ≡ held (reply_size (reply_named self.now)) }
     {

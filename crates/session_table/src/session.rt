@@ -9,7 +9,7 @@ use std::marker::Model;
 use wire_words::WireText;
 
 /// A prepared statement. Clauses see it as the rules' one.
-#[derive(Debug, Drop)]
+#[derive(Drop)]
 pub struct Prepared {
     /// Its text.
     pub text: WireText,
@@ -28,7 +28,7 @@ impl Model for Prepared {
 }
 
 /// What a proposal in flight is for.
-#[derive(Debug, Drop)]
+#[derive(Drop)]
 pub enum ProposalKind {
     /// A new database.
     Opening {
@@ -61,7 +61,7 @@ pub enum ProposalKind {
 }
 
 /// A query that its session has yet to answer, with nothing in flight for it.
-#[derive(Debug, Drop)]
+#[derive(Drop)]
 pub enum WaitingQuery {
     /// Its barrier is applied, and it is run next.
     Due(Query),
@@ -70,7 +70,7 @@ pub enum WaitingQuery {
 }
 
 /// A proposal in flight. Clauses see it as the rules' one.
-#[derive(Debug, Drop)]
+#[derive(Drop)]
 pub struct PendingProposal {
     /// The index of its first entry.
     pub first: u64,
@@ -128,6 +128,8 @@ pub struct Session {
     pub statements: Vec<Option<Prepared>>,
     /// Its open transaction.
     pub transaction: Option<Transaction>,
+    /// Whether its transaction was lost with leadership, and neither COMMIT nor ROLLBACK has ended it since.
+    pub lost: bool,
     /// Its proposal in flight.
     pub flight: Option<PendingProposal>,
 }

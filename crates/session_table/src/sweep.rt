@@ -9,11 +9,12 @@ ghost use Rattle.session_spec.specs.Machine.{machine_of};
 ghost use Rattle.session_spec.specs.Events as events;
 ghost use Rattle.session_spec.specs.Events.{landed_reply};
 ghost use Rattle.session_table.specs.declared.sweep.Event.TheVariants.{Applied, Lost, Left, Ended};
+ghost use Rattle.session_table.specs.Named.{kind_named};
 ghost use Rattle.session_table.specs.Table.{mark_of, pin_of, pins_of, table_of, AreApart, IsTable};
 ghost use Rattle.session_table.specs.Marks.{AreMarks, AreDifferent, Released};
 ghost use Rattle.session_table.specs.Working.{works_of, AreAmong};
 ghost use Rattle.database_state.specs.ImageNumbers.{NumbersStay};
-ghost use Rattle.session_table.specs.Sweeping.{ends_at, done, freed_done, still_lent, landed_responses, told_landed, all_kept};
+ghost use Rattle.session_table.specs.Sweeping.{ends_at, done, freed_done, still_lent, loses, landed_responses, told_landed, all_kept};
 ghost use Rattle.session_table.specs.Sweeping.{all_freed, said, all_said, told_in, all_told, SweptOne, after};
 
 use crate::reply::Reply;
@@ -134,6 +135,31 @@ fn apply_to(
     true
 }
 
+impl ProposalKind {
+    /// Whether it is the commit of a transaction.
+    fn commits(&self) -> bool
+        ensures { result ≡ events.commits (kind_named self.now) }
+    {
+        match self {
+            ProposalKind::Committing { .. } => true,
+            ProposalKind::Opening { .. }
+            | ProposalKind::Configuring
+            | ProposalKind::Writing { .. }
+            | ProposalKind::Querying { .. } => false,
+        }
+    }
+}
+
+/// Whether the COMMIT of the open transaction is proposed.
+fn is_committing(flight: &Option<PendingProposal>) -> bool
+    ensures { result ≡ events.is_committing flight.now }
+{
+    match flight {
+        Some(flight) => flight.kind.commits(),
+        None => false,
+    }
+}
+
 impl Session {
     /// A query behind a barrier ends; a reader goes on.
     fn keep_lent(&mut self)
@@ -143,6 +169,24 @@ impl Session {
             self.later = None;
         }
     }
+
+    /// Whether it has a lost transaction where leadership is lost.
+    fn loses(&self) -> bool
+        ensures { result ≡ loses self.now }
+    {
+        if self.lost {
+            return true;
+        }
+        self.transaction.is_some() && !is_committing(&self.flight)
+    }
+
+    /// Its transaction is lost, if one is open whose COMMIT isn't proposed.
+    fn mark_lost(&mut self)
+        ensures { self.new ≡ record self.old { lost = loses self.old } }
+    {
+        let lost = self.loses();
+        self.lost = lost;
+    }
 }
 
 /// What the loss of leadership makes of a session; false where nothing is left of it.
@@ -150,6 +194,7 @@ fn end(session: &mut Session, machine: &mut Machine) -> bool
     requires { AllByRecursion (IsPinned machine.old) (pin_of session.old.transaction) }
     ensures { SweptOne Lost session.old session.new result machine.old machine.new [] [] }
 {
+    session.mark_lost();
     session.flight = None;
     session.keep_lent();
     release(session.transaction.take(), machine);

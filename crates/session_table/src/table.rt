@@ -48,6 +48,7 @@ fn fresh(alloc: Global, conn: u64) -> Session
         later: None,
         statements: Vec::new(alloc),
         transaction: None,
+        lost: false,
         flight: None,
     }
 }

@@ -43,6 +43,56 @@ const LOSSES: &[Life] = &[
         ],
         0,
     ),
+    // A client is in a transaction, and the node leads again: what isn't a COMMIT alone is refused until one comes.
+    (
+        &[
+            Step::Exec(8, "BEGIN"),
+            Step::Exec(8, "SET 3 9"),
+            Step::Lose,
+            Step::Lead,
+            Step::Exec(8, "SET 4 4"),
+            Step::Query(8, "GET 3"),
+            Step::Exec(8, "BEGIN"),
+            Step::Exec(8, "COMMIT; GET 3"),
+            Step::Query(8, "ROLLBACK"),
+            Step::Query(7, "GET 3"),
+            Step::Exec(8, "COMMIT"),
+            Step::Query(8, "GET 3"),
+        ],
+        &[
+            (8, NONE_AFFECTED),
+            (8, ONE_AFFECTED),
+            (8, NOT_LEADER),
+            (8, NOT_LEADER),
+            (8, NOT_LEADER),
+            (8, NOT_LEADER),
+            (8, NOT_LEADER),
+            (7, NO_ROW),
+            (8, NOT_LEADER),
+            (8, NO_ROW),
+        ],
+        0,
+    ),
+    // A lost transaction stays lost if leadership is lost again, and a ROLLBACK ends it though the node doesn't lead.
+    (
+        &[
+            Step::Exec(8, "BEGIN"),
+            Step::Lose,
+            Step::Lead,
+            Step::Lose,
+            Step::Exec(8, "ROLLBACK"),
+            Step::Exec(8, "ROLLBACK"),
+            Step::Lead,
+            Step::Exec(8, "ROLLBACK"),
+        ],
+        &[
+            (8, NONE_AFFECTED),
+            (8, NONE_AFFECTED),
+            (8, NOT_LEADER),
+            (8, NO_TRANSACTION),
+        ],
+        0,
+    ),
     // A COMMIT is out.
     (
         &[

@@ -9,7 +9,7 @@ use raft_messages::EntryKind;
 use std::alloc::Global;
 use std::test::Fail;
 
-/// The snapshot of one voter, 1 at `n`, without databases.
+/// The snapshot of one voter, 1 at `n`, without databases, as it was written before: without a format.
 const NO_DATABASE: &[u8] = &[
     1, 0, 0, 0, 0, 0, 0, 0, 1, 0, 0, 0, 0, 0, 0, 0, 110, 0, 0, 0, 0, 0, 0, 0, 0, 0, 0, 0, 0, 0, 0,
     0, 1, 0, 0, 0, 0, 0, 0, 0, 0, 0, 0, 0, 0, 0, 0, 0,
@@ -21,12 +21,25 @@ const BYTE_MORE: &[u8] = &[
     0, 1, 0, 0, 0, 0, 0, 0, 0, 0, 0, 0, 0, 0, 0, 0, 0, 0,
 ];
 
+/// That snapshot with a format, and with a word that is no format.
+const WITH_FORMAT: &[u8] = &[
+    2, 1, 0, 0, 0, 0, 0, 0, 1, 0, 0, 0, 0, 0, 0, 0, 1, 0, 0, 0, 0, 0, 0, 0, 110, 0, 0, 0, 0, 0, 0,
+    0, 0, 0, 0, 0, 0, 0, 0, 0, 1, 0, 0, 0, 0, 0, 0, 0, 0, 0, 0, 0, 0, 0, 0, 0,
+];
+
+const NO_FORMAT: &[u8] = &[
+    3, 1, 0, 0, 0, 0, 0, 0, 1, 0, 0, 0, 0, 0, 0, 0, 1, 0, 0, 0, 0, 0, 0, 0, 110, 0, 0, 0, 0, 0, 0,
+    0, 0, 0, 0, 0, 0, 0, 0, 0, 1, 0, 0, 0, 0, 0, 0, 0, 0, 0, 0, 0, 0, 0, 0, 0,
+];
+
 /// Bytes, whether they are a node's snapshot, and whether it is one for a node that has the database `d`.
 const ROWS: &[(&[u8], bool, bool)] = &[
     (&[], false, false),
     (ONE_VOTER, false, false),
     (NO_DATABASE, true, false),
     (BYTE_MORE, false, false),
+    (WITH_FORMAT, true, false),
+    (NO_FORMAT, false, false),
     (CHECKPOINT, false, false),
 ];
 

@@ -10,9 +10,9 @@ use Rattle.raft_messages.specs.Entries.{heads_at, heads_bytes, contents_bytes}
 use Rattle.wire_words.proofs.Passing.{Passed, between, passed_first, passed_second, word_stood}
 use Rattle.raft_messages.proofs.EntryLaws.{heads_of, heads_are, heads_fit, as_many, heads_stood, contents_stood}
 use Rattle.store_laws.specs.Store.{Log, is_whole, torn}
-use Rattle.store_format.specs.Sums.{sum8_of}
+use Rattle.store_format.specs.Sums.{word_sum_of}
 use Rattle.store_format.specs.Words.{format_in}
-use Rattle.store_format.proofs.Written.{sum8_long, bytes_same}
+use Rattle.store_format.proofs.Written.{word_sum_long, bytes_same}
 use Rattle.store_format.specs.declared.batch_reading.Body.{Body}
 use Rattle.store_format.specs.Batches.{body_at, is_sound, read_of, batch_in, numbers_bytes, header_bytes, batch_bytes}
 use Rattle.store_format.specs.NodeFormat.{node_format}
@@ -61,27 +61,27 @@ module _ (b : Log) (fits : Fits b) where
       rw (first, second, heads, contents) refl
 
   abbrev s : List ℕ
-  s = sum8_of h
+  s = word_sum_of h
 
   abbrev t : List ℕ
-  t = sum8_of c
+  t = word_sum_of c
 
   abbrev file : List ℕ
   file = s ++ (t ++ (h ++ c))
 
   long : length file ≡ 16 + length (h ++ c)
-  long = length-append s (t ++ (h ++ c)) ∙ (λ i. sum8_long h i + (length-append t (h ++ c) i)) ∙ (λ i. 8 + (sum8_long c i + length (h ++ c))) ∙ omega arith
+  long = length-append s (t ++ (h ++ c)) ∙ (λ i. word_sum_long h i + (length-append t (h ++ c) i)) ∙ (λ i. 8 + (word_sum_long c i + length (h ++ c))) ∙ omega arith
 
   behind_sums : drop 16 file ≡ h ++ c
   behind_sums =
       ap (drop 16) (sym (append_assoc s t (h ++ c)))
-      ∙ drop_at (s ++ t) (h ++ c) 16 (length-append s t ∙ (λ i. sum8_long h i + sum8_long c i))
+      ∙ drop_at (s ++ t) (h ++ c) 16 (length-append s t ∙ (λ i. word_sum_long h i + word_sum_long c i))
 
   first_sum : take 8 file ≡ s
-  first_sum = take_at s (t ++ (h ++ c)) 8 (sum8_long h)
+  first_sum = take_at s (t ++ (h ++ c)) 8 (word_sum_long h)
 
   second_sum : take 8 (drop 8 file) ≡ t
-  second_sum = ap (take 8) (drop_at s (t ++ (h ++ c)) 8 (sum8_long h)) ∙ take_at t (h ++ c) 8 (sum8_long c)
+  second_sum = ap (take 8) (drop_at s (t ++ (h ++ c)) 8 (word_sum_long h)) ∙ take_at t (h ++ c) 8 (word_sum_long c)
 
   header_is : take (length h) (drop 16 file) ≡ h
   header_is = ap (take (length h)) behind_sums ∙ take_at h c (length h) refl
@@ -92,25 +92,25 @@ module _ (b : Log) (fits : Fits b) where
       ∙ ap (take (length (h ++ c) - length h)) (drop_at h c (length h) refl)
       ∙ take_all (length (h ++ c) - length h) c (omega (arith, length-append h c))
 
-  sound : is_sound 2 file body (length (h ++ c)) ≡ true
+  sound : is_sound 3 file body (length (h ++ c)) ≡ true
   sound =
-      (λ i. bytes_eq (first_sum i) (sum8_of (header_is i)) && bytes_eq (second_sum i) (sum8_of (contents_are i)) && nat_lt 0 b.first)
+      (λ i. bytes_eq (first_sum i) (word_sum_of (header_is i)) && bytes_eq (second_sum i) (word_sum_of (contents_are i)) && nat_lt 0 b.first)
       ∙ (λ i. bytes_same s i && bytes_same t i && lt-ltb 0 b.first fits.some i)
 
-  read_back : batch_in 2 file ≡ record { batch = b; size = length file }
+  read_back : batch_in 3 file ≡ record { batch = b; size = length file }
   unfolding batch_in
   read_back =
       cond-false _ _ _ (le-ltb (length file) 16 (omega (arith, long)))
-      ∙ ap (λ (x : List ℕ). read_of 2 file (body_at (unread x))) behind_sums
-      ∙ ap (read_of 2 file) body_read
+      ∙ ap (λ (x : List ℕ). read_of 3 file (body_at (unread x))) behind_sums
+      ∙ ap (read_of 3 file) body_read
       ∙ cond-true _ _ _ sound
       ∙ (λ i. record { batch = b; size = sym long i })
 
-word_version : format_in segment_word ≡ 2
+word_version : format_in segment_word ≡ 3
 unfolding format_in
 word_version = refl
 
-none_in_nothing : (batch_in 2 []).size ≡ 0
+none_in_nothing : (batch_in 3 []).size ≡ 0
 unfolding batch_in
 none_in_nothing = refl
 

@@ -1,4 +1,6 @@
 pub mod Checking
+pub mod Mixing
+pub mod ChangedWords
 pub mod Places
 pub mod Lawfully
 pub mod Written

@@ -5,7 +5,7 @@ use Rattle.wire_words.specs.Items.{word, raw, gap, zeros_after}
 use Rattle.raft_spec.specs.Log.{Entry}
 use Rattle.raft_messages.specs.Entries.{heads_bytes, contents_bytes}
 use Rattle.store_laws.specs.Store.{Log}
-use Rattle.store_format.specs.Sums.{sum8_of}
+use Rattle.store_format.specs.Sums.{word_sum_of}
 use Rattle.store_format.specs.Batches.{numbers_bytes, header_bytes, with_sums, batch_bytes}
 
 pub behind_room : (b : Log) (w : List ℕ) → length w ≡ 32 → drop 16 w ≡ numbers_bytes b.first (length b.entries)
@@ -45,8 +45,8 @@ sums_are b bytes e =
     let h = header_bytes b in
     let c = contents_bytes b.entries in
     let n : 16 + 16 * length b.entries ≡ length h = sym (header_long b) in
-    (λ i. sum8_of (take (n i) (e i)) ++ (sum8_of (drop (n i) (e i)) ++ e i))
-    ∙ (λ i. sum8_of (take_at h c (length h) refl i) ++ (sum8_of (drop_at h c (length h) refl i) ++ (h ++ c)))
+    (λ i. word_sum_of (take (n i) (e i)) ++ (word_sum_of (drop (n i) (e i)) ++ e i))
+    ∙ (λ i. word_sum_of (take_at h c (length h) refl i) ++ (word_sum_of (drop_at h c (length h) refl i) ++ (h ++ c)))
 
 -- all of a list was written over
 pub whole_back : (n : ℕ) (new old : List ℕ) → length new ≡ n → length new ≡ length old → take n (new ++ drop (length new) old) ≡ new

@@ -1,5 +1,5 @@
 -- A batch of entries: its sums, a word for the first index, a word for the count, the heads of the entries, and what they
--- say. In format 1 the sums have four bytes each, in format 2 eight.
+-- say. In format 1 the sums have four bytes each, since format 2 eight.
 use Rattle.std.specs.Prelude.{ℕ, ◌+◌, ◌-◌, ◌==◌, ◌&&◌, Bool, cond, nat_lt, List, [], ◌++◌, length, take, drop, Option, Some, None, Result, Ok, Err}
 use Rattle.std.specs.Str.{bytes_eq}
 use Rattle.byteorder.specs.Endian.{little_bytes}
@@ -8,7 +8,7 @@ use Rattle.wire_words.specs.Items.{word}
 use Rattle.wire_words.specs.Reading.{◌>>=◌, Unread, unread, word_at}
 use Rattle.raft_messages.specs.Entries.{heads_at, contents_at, heads_bytes, contents_bytes}
 use Rattle.store_laws.specs.Store.{Log, Read, Reader}
-use Rattle.store_format.specs.Sums.{crc32_of, sum8_of}
+use Rattle.store_format.specs.Sums.{crc32_of, sum8_of, word_sum_of}
 use Rattle.store_format.specs.declared.batch_reading.Body.{Body}
 use Rattle.store_format.specs.declared.batch_reading.FoundBatch.{FoundBatch}
 
@@ -21,7 +21,7 @@ sums_size format = sum_size format + sum_size format
 
 -- the sum of a header, or of what the entries say
 abbrev pub batch_sum : ℕ → List ℕ → List ℕ
-batch_sum format bytes = cond (format == 1) (little_bytes 4 (crc32_of bytes)) (sum8_of bytes)
+batch_sum format bytes = cond (format == 1) (little_bytes 4 (crc32_of bytes)) (cond (format == 2) (sum8_of bytes) (word_sum_of bytes))
 
 -- what stands behind the sums: the first index, the entries, and where the header ends
 unfoldable pub body_at : Unread → Result (Body × Unread) WordFault
@@ -50,7 +50,7 @@ read_of format bytes (Ok x) = cond (is_sound format bytes x.0 x.1.at) (record { 
 unfoldable pub batch_in : ℕ → Reader
 batch_in format bytes = cond (nat_lt (length bytes) (sums_size format)) no_read (read_of format bytes (body_at (unread (drop (sums_size format) bytes))))
 
--- a batch as it is written, in format 2: behind the sums the numbers, the heads, and what the entries say
+-- a batch as it is written, in format 3: behind the sums the numbers, the heads, and what the entries say
 unfoldable pub numbers_bytes : ℕ → ℕ → List ℕ
 numbers_bytes first count = word first ++ word count
 
@@ -59,10 +59,10 @@ header_bytes b = numbers_bytes b.first (length b.entries) ++ heads_bytes b.entri
 
 -- both sums in front of a header of so many bytes and of what follows it
 unfoldable pub with_sums : ℕ → List ℕ → List ℕ
-with_sums header body = sum8_of (take header body) ++ (sum8_of (drop header body) ++ body)
+with_sums header body = word_sum_of (take header body) ++ (word_sum_of (drop header body) ++ body)
 
 unfoldable pub batch_bytes : Log → List ℕ
-batch_bytes b = sum8_of (header_bytes b) ++ (sum8_of (contents_bytes b.entries) ++ (header_bytes b ++ contents_bytes b.entries))
+batch_bytes b = word_sum_of (header_bytes b) ++ (word_sum_of (contents_bytes b.entries) ++ (header_bytes b ++ contents_bytes b.entries))
 
 -- the same by the code's value
 abbrev pub read_of_found : Option FoundBatch → Read

@@ -9,7 +9,7 @@ use Rattle.store_format.specs.NodeFormat.{node_format}
 
 -- the first word of a segment that is written
 abbrev pub segment_word : List ℕ
-segment_word = word 2
+segment_word = word 3
 
 -- a batch whose numbers fit into their words
 pub record Fits (b : Log) : Type 0 where

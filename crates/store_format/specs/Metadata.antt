@@ -26,9 +26,9 @@ abbrev pub meta_of_found : Option Metadata → Meta
 meta_of_found None = no_meta
 meta_of_found (Some m) = record { stamp = suc m.version; term = m.term; vote = m.vote }
 
--- the block as it is written, in format 2
+-- the block as it is written, in format 3
 abbrev pub block_front : Metadata → List ℕ
 block_front m = front_bytes m.version m.term m.vote
 
 abbrev pub block_bytes : Metadata → List ℕ
-block_bytes m = block_front m ++ sum_bytes 2 (block_front m)
+block_bytes m = block_front m ++ sum_bytes 3 (block_front m)

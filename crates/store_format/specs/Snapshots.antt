@@ -5,7 +5,7 @@ use Rattle.std.specs.Str.{bytes_eq}
 use Rattle.wire_words.specs.Items.{raw, gap}
 use Rattle.wire_words.specs.Reading.{are_zeros}
 use Rattle.store_laws.specs.Store.{Snap, no_snap}
-use Rattle.store_format.specs.Sums.{sum_bytes, sum8_of}
+use Rattle.store_format.specs.Sums.{sum_bytes, word_sum_of}
 use Rattle.store_format.specs.declared.snapshot.SnapshotFile.{SnapshotFile}
 use Rattle.store_format.specs.Words.{word_from, is_known, front_bytes}
 
@@ -36,9 +36,9 @@ snap_of number x = cond (is_snapshot number x) (record { index = number; term = 
 
 -- the file with this head: head, sum and bytes, each with zeros to a whole word
 abbrev pub with_head : List ℕ → List ℕ → List ℕ
-with_head head bytes = raw head ++ raw (sum8_of (drop 8 head ++ bytes)) ++ raw bytes
+with_head head bytes = raw head ++ raw (word_sum_of (drop 8 head ++ bytes)) ++ raw bytes
 
--- the file as it is written, in format 2
+-- the file as it is written, in format 3
 abbrev pub snapshot_bytes : ℕ → ℕ → List ℕ → List ℕ
 snapshot_bytes index term bytes = with_head (front_bytes index term (length bytes)) bytes
 

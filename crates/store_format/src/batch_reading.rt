@@ -1,10 +1,12 @@
-ghost use Rattle.std.specs.Prelude.{◌≡◌, ◌≤◌, ◌<◌, ◌+◌, ◌-◌, ◌==◌, ◌&&◌, length, IfOk, IsTrue, MatchOption};
+ghost use Rattle.std.specs.Prelude.{◌≡◌, ◌≤◌, ◌<◌, ◌+◌, ◌-◌, ◌==◌, ◌&&◌, cond, length, IfOk, IsTrue, MatchOption};
 ghost use Rattle.std.specs.Str.{bytes_eq};
 ghost use Rattle.wire_words.specs.Reading.{Finds};
 ghost use Rattle.byteorder.specs.Endian.{little_bytes};
+ghost use Rattle.store_format.specs.Sums.{sum8_of, word_sum_of};
 ghost use Rattle.store_format.specs.Batches.{sum_size, sums_size, batch_sum, body_at, is_sound, batch_in, read_of_found};
 
 use crate::sums::{crc32, sum8};
+use crate::word_sums::word_sum;
 use byteorder::{ByteOrder, LittleEndian};
 use dq_base::Items;
 use raft_messages::{Entries, read_entry_contents, read_entry_heads};
@@ -47,16 +49,26 @@ fn little(value: u32) -> [u8; 4]
     bytes
 }
 
+// The sum of a format since 2.
+fn long_sum(format: u64, bytes: &[u8]) -> [u8; 8]
+    ensures { result ≡ cond (format == 2) (sum8_of bytes.now) (word_sum_of bytes.now) }
+{
+    if format == 2 {
+        sum8(bytes)
+    } else {
+        word_sum(bytes)
+    }
+}
+
 fn has_sum(format: u64, bytes: &[u8], sum: &[u8]) -> bool
     ensures { result ≡ bytes_eq sum.now (batch_sum format bytes.now) }
 {
     if format == 1 {
         let wanted = little(crc32(bytes));
-        sum == wanted.as_slice()
-    } else {
-        let wanted = sum8(bytes);
-        sum == wanted.as_slice()
+        return sum == wanted.as_slice();
     }
+    let wanted = long_sum(format, bytes);
+    sum == wanted.as_slice()
 }
 
 #[tactic(auto, unfolding(crate::specs::Batches::body_at))]
@@ -89,7 +101,7 @@ fn is_sound(format: u64, bytes: &[u8], body: &Body, end: usize) -> bool
     has_sum(format, header, first_sum) && has_sum(format, contents, second_sum) && body.first > 0
 }
 
-/// The batch that bytes begin with, in a format (1 or 2), and none where no batch reads: where the sums don't match, an
+/// The batch that bytes begin with, in a format (1, 2 or 3), and none where no batch reads: where the sums don't match, an
 /// item isn't there or is wrong, or the first index is 0. Each byte is copied once, into its entry.
 #[tactic(auto, using(crate::proofs::Local::header_first, crate::proofs::Local::body_ends), unfolding(crate::specs::Batches::batch_in))]
 pub fn read_batch(

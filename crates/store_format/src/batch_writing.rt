@@ -1,9 +1,9 @@
 ghost use Rattle.std.specs.Prelude.{◌≡◌, ◌<◌, ◌^◌, ◌≤◌, ◌+◌, ◌*◌, ◌++◌, min, length, take, drop, IfOk};
 ghost use Rattle.raft_messages.specs.Entries.{contents_bytes, HaveHeads};
-ghost use Rattle.store_format.specs.Sums.{sum8_of};
+ghost use Rattle.store_format.specs.Sums.{word_sum_of};
 ghost use Rattle.store_format.specs.Batches.{numbers_bytes, header_bytes, with_sums, batch_bytes};
 
-use crate::sums::sum8;
+use crate::word_sums::word_sum;
 use raft_messages::{Entry, write_entry_contents, write_entry_heads};
 use std::alloc::{AllocError, Global};
 use wire_words::Writer;
@@ -68,11 +68,11 @@ fn put_both(bytes: &mut [u8], first: &[u8; 8], second: &[u8; 8])
 // The sums of a header of so many bytes and of what follows it.
 fn sums_of(body: &[u8], header: usize) -> ([u8; 8], [u8; 8])
     requires { header ≤ length body.now }
-    ensures first { result.0 ≡ sum8_of (take header body.now) }
-    ensures second { result.1 ≡ sum8_of (drop header body.now) }
+    ensures first { result.0 ≡ word_sum_of (take header body.now) }
+    ensures second { result.1 ≡ word_sum_of (drop header body.now) }
 {
     let (header, contents) = body.split_at(header);
-    (sum8(header), sum8(contents))
+    (word_sum(header), word_sum(contents))
 }
 
 // Puts the sums of a batch of so many entries into the words that were left for them.
@@ -86,7 +86,7 @@ fn put_sums(bytes: &mut [u8], count: usize)
     put_both(bytes, &first, &second);
 }
 
-/// The bytes of a batch in format 2. Each entry is copied once. An entry of more than 4,294,967,295 bytes is answered as
+/// The bytes of a batch in format 3. Each entry is copied once. An entry of more than 4,294,967,295 bytes is answered as
 /// if memory had run out; any other `Err` means out of memory.
 pub fn batch_bytes(alloc: Global, first: u64, entries: &[Entry]) -> Result<Vec<u8>, AllocError>
     ensures bytes { IfOk result (λ bytes. bytes.items ≡ batch_bytes (record { first = first; entries = entries.now })) }

@@ -1,4 +1,4 @@
-//! How the files of a node are spelled, in both formats: their sums, metadata, snapshots and batches; and what the files
+//! How the files of a node are spelled, in each of their formats: their sums, metadata, snapshots and batches; and what the files
 //! stand for, read one after another.
 #![tactic(auto)]
 
@@ -13,12 +13,14 @@ mod segment;
 mod segment_log;
 mod snapshot;
 mod sums;
+mod word_sums;
 mod words;
 
 ghost use Rattle.store_format.specs.BatchesWritten.{BatchesReadBack};
 ghost use Rattle.store_format.specs.Files.{ReadsLawfully};
 ghost use Rattle.store_format.specs.NodeFormat.{IsLawful};
 ghost use Rattle.store_format.specs.SegmentLog.{SegmentsAreRead};
+ghost use Rattle.store_format.specs.Sums.{FindsChangedWords};
 ghost use Rattle.store_format.specs.Written.{MetadataReadsBack, SnapshotReadsBack};
 
 pub use batch_reading::{FoundBatch, read_batch};
@@ -30,6 +32,7 @@ pub use metadata::{Metadata, metadata_bytes, read_metadata};
 pub use segment_log::{Damage, LastSegment};
 pub use snapshot::{SnapshotFile, read_snapshot, snapshot_head, snapshot_tail};
 pub use sums::{crc32, sum8};
+pub use word_sums::word_sum;
 pub use words::format_in;
 
 /// With any lawful way of reading batches, the files of a node are read lawfully: a front of a file that is long enough
@@ -38,6 +41,13 @@ pub use words::format_in;
 #[tactic(auto, using(crate::proofs::Lawfully::reads_lawfully))]
 pub fn reads_lawfully()
     ensures { ReadsLawfully }
+{}
+
+/// The sum over words differs wherever bytes differ from as many others within one aligned word alone: no changed bits of
+/// one word, and no word that was written in part, is missed.
+#[tactic(auto, using(crate::proofs::ChangedWords::finds_changed_words))]
+pub fn finds_changed_words()
+    ensures { FindsChangedWords }
 {}
 
 /// Metadata that is written has 40 bytes, and the file of its version's parity reads as it.

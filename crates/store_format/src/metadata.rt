@@ -1,7 +1,8 @@
 ghost use Rattle.std.specs.Prelude.{◌≡◌, ◌==◌, IfOk};
 ghost use Rattle.store_format.specs.Metadata.{fits_side, is_block, meta_in, meta_of_found, block_bytes};
 
-use crate::sums::{has_sum, sum8};
+use crate::sums::has_sum;
+use crate::word_sums::word_sum;
 use crate::words::{front, is_known, word_from};
 use std::alloc::{AllocError, Global};
 
@@ -36,7 +37,7 @@ fn is_block(first: bool, bytes: &[u8]) -> bool
     is_known(format) && fits_side(first, version) && has_sum(format, front, sum)
 }
 
-/// What the bytes of the first or the second metadata file say. A file is valid with 40 bytes, format 1 or 2, a version
+/// What the bytes of the first or the second metadata file say. A file is valid with 40 bytes, a known format, a version
 /// of that file's parity (odd in the first), and a matching sum of its first 32 bytes.
 #[tactic(auto, unfolding(crate::specs::Metadata::meta_in, crate::specs::Metadata::is_block))]
 pub fn read_metadata(first: bool, bytes: &[u8]) -> Option<Metadata>
@@ -52,12 +53,12 @@ pub fn read_metadata(first: bool, bytes: &[u8]) -> Option<Metadata>
     })
 }
 
-/// The 40 bytes of a metadata file, in format 2.
+/// The 40 bytes of a metadata file, in format 3.
 pub fn metadata_bytes(alloc: Global, metadata: &Metadata) -> Result<Vec<u8>, AllocError>
     ensures { IfOk result (λ block. block.items ≡ block_bytes metadata.now) }
 {
     let mut block = front(alloc, metadata.version, metadata.term, metadata.vote)?;
-    let sum = sum8(block.as_slice());
+    let sum = word_sum(block.as_slice());
     block.extend_from_slice(&sum)?;
     Ok(block)
 }

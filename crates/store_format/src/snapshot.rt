@@ -2,7 +2,8 @@ ghost use Rattle.std.specs.Prelude.{◌≡◌, ◌≤◌, ◌<◌, ◌==◌, ◌
 ghost use Rattle.wire_words.specs.Items.{zeros_after};
 ghost use Rattle.store_format.specs.Snapshots.{fills, head_fits, is_snapshot, size_in, snap_of, snap_of_found, snapshot_bytes};
 
-use crate::sums::{have_sum, sum8_of_both};
+use crate::sums::have_sum;
+use crate::word_sums::word_sum_of_both;
 use crate::words::{front, is_known, word_from};
 use std::alloc::{AllocError, Global};
 use wire_words::{Words, Writer};
@@ -51,6 +52,7 @@ fn content(body: &[u8], size: u64) -> Option<&[u8]>
 fn parts(bytes: &[u8]) -> (&[u8], &[u8], &[u8])
     requires { 40 ≤ length bytes.now }
     ensures numbers { result.0.now ≡ take 24 (drop 8 bytes.now) }
+    ensures long { length result.0.now ≡ 24 }
     ensures sum { result.1.now ≡ take 8 (drop 32 bytes.now) }
     ensures body { result.2.now ≡ drop 40 bytes.now }
 {
@@ -73,7 +75,7 @@ fn whole_content(number: u64, bytes: &[u8]) -> Option<&[u8]>
     if fits { Some(content) } else { None }
 }
 
-/// What the bytes of the file of this number say. The file is whole with format 1 or 2, the number as its index, its
+/// What the bytes of the file of this number say. The file is whole with a known format, the number as its index, its
 /// size in bytes, zeros behind them to a whole word and nothing more, and a matching sum of index, term, size and bytes.
 #[tactic(auto, unfolding(crate::specs::Snapshots::snap_of, crate::specs::Snapshots::is_snapshot))]
 pub fn read_snapshot(number: u64, bytes: &[u8]) -> Option<SnapshotFile<'_>>
@@ -91,7 +93,7 @@ pub fn read_snapshot(number: u64, bytes: &[u8]) -> Option<SnapshotFile<'_>>
     })
 }
 
-/// What stands before a snapshot's bytes in its file, in format 2: 40 bytes, with the sum. The bytes themselves aren't
+/// What stands before a snapshot's bytes in its file, in format 3: 40 bytes, with the sum. The bytes themselves aren't
 /// copied.
 pub fn snapshot_head(
     alloc: Global,
@@ -103,7 +105,7 @@ pub fn snapshot_head(
 {
     let head = front(alloc, index, term, bytes.len() as u64)?;
     let (_, numbers) = head.as_slice().split_at(8);
-    let sum = sum8_of_both(numbers, bytes);
+    let sum = word_sum_of_both(numbers, bytes);
     let mut out = Writer::new(alloc);
     out.raw(head.as_slice())?;
     out.raw(&sum)?;

@@ -1,9 +1,8 @@
-ghost use Rattle.std.specs.Prelude.{◌≡◌, ◌++◌};
+ghost use Rattle.std.specs.Prelude.{◌≡◌, ◌%◌, ◌++◌, length};
 ghost use Rattle.std.specs.Str.{bytes_eq};
-ghost use Rattle.byteorder.specs.Endian.{little_bytes};
 ghost use Rattle.store_format.specs.Sums.{crc_bit, crc_bits, crc_from, crc_byte, crc32_of, sum8_of, sum_bytes};
 
-use byteorder::{ByteOrder, LittleEndian};
+use crate::word_sums::{little, word_sum, word_sum_of_both};
 use sha2::{Digest, Sha256};
 
 /// The reflected polynomial of CRC-32.
@@ -92,22 +91,14 @@ pub(crate) fn sum8_of_both(front: &[u8], back: &[u8]) -> [u8; 8]
     sum
 }
 
-fn little(value: u64) -> [u8; 8]
-    ensures { result ≡ little_bytes 8 value }
-{
-    let mut bytes = [0; 8];
-    LittleEndian::write_u64(&mut bytes, value);
-    bytes
-}
-
 /// The sum of a format, as the eight bytes that stand in a file: in format 1 the CRC-32 as a number of 64 bits.
 fn sum_of(format: u64, bytes: &[u8]) -> [u8; 8]
     ensures { result ≡ sum_bytes format bytes.now }
 {
-    if format == 1 {
-        little(u64::from(crc32(bytes)))
-    } else {
-        sum8(bytes)
+    match format {
+        1 => little(u64::from(crc32(bytes))),
+        2 => sum8(bytes),
+        _ => word_sum(bytes),
     }
 }
 
@@ -119,14 +110,23 @@ pub(crate) fn has_sum(format: u64, bytes: &[u8], sum: &[u8]) -> bool
     sum == wanted.as_slice()
 }
 
-/// Whether this is the sum of two pieces taken as one, in a format.
+// The sum of two pieces taken as one, in a format.
+fn sum_of_both(format: u64, front: &[u8], back: &[u8]) -> [u8; 8]
+    requires whole { length front.now % 8 ≡ 0 }
+    ensures { result ≡ sum_bytes format (front.now ++ back.now) }
+{
+    match format {
+        1 => little(u64::from(crc32_of_both(front, back))),
+        2 => sum8_of_both(front, back),
+        _ => word_sum_of_both(front, back),
+    }
+}
+
+/// Whether this is the sum of two pieces taken as one, in a format. The first piece has whole words.
 pub(crate) fn have_sum(format: u64, front: &[u8], back: &[u8], sum: &[u8]) -> bool
+    requires whole { length front.now % 8 ≡ 0 }
     ensures { result ≡ bytes_eq sum.now (sum_bytes format (front.now ++ back.now)) }
 {
-    let wanted = if format == 1 {
-        little(u64::from(crc32_of_both(front, back)))
-    } else {
-        sum8_of_both(front, back)
-    };
+    let wanted = sum_of_both(format, front, back);
     sum == wanted.as_slice()
 }

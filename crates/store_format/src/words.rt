@@ -14,14 +14,14 @@ pub(crate) fn word_from(bytes: &[u8], place: usize) -> u64
     LittleEndian::read_u64(rest)
 }
 
-/// Whether files have this format: 1 or 2.
+/// Whether files have this format: 1, 2 or 3.
 pub(crate) fn is_known(format: u64) -> bool
     ensures { result ≡ is_known format }
 {
-    format == 1 || format == 2
+    format == 1 || format == 2 || format == 3
 }
 
-/// The format that a file's first word says, and 0 where it says none of the two.
+/// The format that a file's first word says, and 0 where it says none that is known.
 #[tactic(auto, unfolding(crate::specs::Words::format_in))]
 pub fn format_in(bytes: &[u8]) -> u64
     ensures { result ≡ format_in bytes.now }
@@ -33,7 +33,7 @@ pub fn format_in(bytes: &[u8]) -> u64
     if is_known(format) { format } else { 0 }
 }
 
-/// The first four words of a file in format 2.
+/// The first four words of a file in format 3.
 #[tactic(auto, unfolding(crate::specs::Words::front_bytes))]
 pub(crate) fn front(
     alloc: Global,
@@ -45,7 +45,7 @@ pub(crate) fn front(
     ensures length { IfOk result (λ front. length front.items ≡ 32) }
 {
     let mut out = Writer::new(alloc);
-    out.word(2)?;
+    out.word(3)?;
     out.word(first)?;
     out.word(second)?;
     out.word(third)?;

@@ -1,7 +1,6 @@
 -- While all is synced no checksum comes to match by chance that didn't before.
-use Rattle.std.proofs.Common.{◌≡◌, inl, inr, ℕ, ◌-◌, ◌≤◌, Bool, true, false, List, [], ◌∷◌, length, take, drop, refl, sym, ap, ◌∙◌, subst, arith}
+use Rattle.std.proofs.Common.{◌≡◌, inl, inr, ℕ, ◌+◌, ◌-◌, ◌≤◌, Bool, true, false, List, [], ◌∷◌, ◌++◌, length, take, drop, refl, sym, ap, ◌∙◌, subst, arith, length-append}
 use Rattle.std.proofs.lemmas.Bool.{cases_Bool, cond-true, cond-false}
-use Rattle.std.proofs.lemmas.List.{length-drop}
 use Rattle.disk_model.specs.Disk.{Found, Change, Held, LeavesBytes, LeavesFile, Leaves, Sure, Absent}
 use Rattle.disk_model.specs.Calls.{Until, Turns, NamesSynced, after_sync, after_names}
 use Rattle.disk_model.specs.SyncAll.{sync_all}
@@ -34,17 +33,16 @@ module _ (f : Format) (law : Lawful f) where
   meta_back side h k x c (as_read q) g r = subst (MetaGenuine f side h) (sym q) r
   meta_back side h k x c (empty q) g r = subst (MetaGenuine f side h) (sym q) (record { whole = λ n. absurd (n (law.meta_nil side)) })
 
-  none_reads : (p : ℕ) → (reader f [] (drop p [])).size ≡ 0
-  none_reads p =
-      let a : (reader f [] (drop p [])).size ≤ length (drop p []) = (law.batches (f.version [])).size_within (drop p []) in
-      let none : List ℕ = [] in
-      let b : length (drop p none) ≡ length none - p = length-drop p none in
+  none_reads : (front rest : List ℕ) → [] ≡ front ++ rest → (reader f [] rest).size ≡ 0
+  none_reads front rest e =
+      let a : (reader f [] rest).size ≤ length rest = (law.batches (f.version [])).size_within rest in
+      let b : 0 ≡ length front + length rest = ap length e ∙ length-append front rest in
       omega (arith, a, b)
 
   batches_back : (h k : Held) (x : Found) (c : List ℕ) → Back h k x c → BatchesGenuine f k c → BatchesGenuine f h x.bytes → BatchesGenuine f h c
-  batches_back h k x c (as_was b s) g r = record { each = λ p n. genuine_back h k p _ b s (g.each p n) }
+  batches_back h k x c (as_was b s) g r = record { each = λ front rest e w n. genuine_back h k (length front) _ b s (g.each front rest e w n) }
   batches_back h k x c (as_read q) g r = subst (BatchesGenuine f h) (sym q) r
-  batches_back h k x c (empty q) g r = subst (BatchesGenuine f h) (sym q) (record { each = λ p n. absurd (n (none_reads p)) })
+  batches_back h k x c (empty q) g r = subst (BatchesGenuine f h) (sym q) (record { each = λ front rest e w n. absurd (n (none_reads front rest e)) })
 
   snap_back : (j : ℕ) (h k : Held) (x : Found) (c : List ℕ) → Back h k x c → SnapGenuine f j k c → SnapGenuine f j h x.bytes → SnapGenuine f j h c
   snap_back j h k x c (as_was b s) g r = record {

@@ -109,7 +109,7 @@ module _ (f : Format) (law : Lawful f) (k : ℕ) (d : NodeDisk) (s : Still f k d
         let st = front_stands (length H) (H ++ tail) x.bytes (Cut (length H) ∷ []) fits (firm (length H)) (l.left t) in
         let r = drop (length H) x.bytes in
         let c : x.bytes ≡ H ++ r = sym (take-append-drop (length H) x.bytes) ∙ ap (λ (y : List ℕ). y ++ r) (st.0 ∙ take_at H tail (length H) refl) in
-        part_there f x t ∙ ap (batches_in f) c ∙ as_before r (no_batch r (subst (λ (rd : Reader). (rd r).size ≢ 0 → Genuine (rested (H ++ tail) (Cut (length H) ∷ [])) (length H) (take (rd r).size r)) (ap (reader f) c ∙ ap f.batch (same_version f law H is_w r)) (g.each (length H))))
+        part_there f x t ∙ ap (batches_in f) c ∙ as_before r (no_batch r (subst (λ (rd : Reader). (rd r).size ≢ 0 → Genuine (rested (H ++ tail) (Cut (length H) ∷ [])) (length H) (take (rd r).size r)) (ap (reader f) c ∙ ap f.batch (same_version f law H is_w r)) (g.each H r c is_w)))
   ]
     where
       done : (bytes : List ℕ) → e.held (Segment k) ≡ rested bytes [] → batches_in f bytes ≡ batches_in f H → all_batches f (part x) ≡ batches_in f H

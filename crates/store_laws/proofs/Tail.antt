@@ -72,7 +72,7 @@ firm at enc i h = elim (cases_Bool (nat_le at i)) [
 
 module _ (f : Format) (law : Lawful f) (H : List ℕ) (whole : is_whole f H ≡ true) (enc : List ℕ) (b : Log) (piece : IsPiece (reader f H) enc b) (pos : 0 < length enc) where
   torn_reads : (h : Held) (x : Found) → h.bytes ≡ H → x.there ≡ true → LeavesBytes H (Wrote (length H) enc ∷ []) x.bytes
-      → ((reader f x.bytes (drop (length H) x.bytes)).size ≢ 0 → Genuine (record { standing = h.standing; bytes = H; since = Wrote (length H) enc ∷ [] }) (length H) (take (reader f x.bytes (drop (length H) x.bytes)).size (drop (length H) x.bytes)))
+      → BatchesGenuine f (record { standing = h.standing; bytes = H; since = Wrote (length H) enc ∷ [] }) x.bytes
       → TailReads f H enc x
   torn_reads h x hb there left fair =
       let p = length H in
@@ -80,7 +80,7 @@ module _ (f : Format) (law : Lawful f) (H : List ℕ) (whole : is_whole f H ≡ 
       let st = front_stands p H x.bytes (Wrote p enc ∷ []) (omega arith) (firm p enc) left in
       let c : x.bytes ≡ H ++ r = sym (take-append-drop p x.bytes) ∙ ap (λ (l : List ℕ). l ++ r) (st.0 ∙ take_all p H (omega arith)) in
       let short : length r ≤ length enc = omega (arith, left.no_longer, length-drop p x.bytes) in
-      elim (torn_or_whole (reader f H) (law.batches (f.version H)) enc b piece pos r short (agrees r (subst (λ (rd : Reader). (rd r).size ≢ 0 → Genuine (record { standing = h.standing; bytes = H; since = Wrote p enc ∷ [] }) p (take (rd r).size r)) (same_reader r x.bytes c) fair))) [
+      elim (torn_or_whole (reader f H) (law.batches (f.version H)) enc b piece pos r short (agrees r (subst (λ (rd : Reader). (rd r).size ≢ 0 → Genuine (record { standing = h.standing; bytes = H; since = Wrote p enc ∷ [] }) p (take (rd r).size r)) (same_reader r x.bytes c) (fair.each H r c whole)))) [
         | inl none ↦ shorter there (ap (batches_in f) c ∙ grown f law H whole r ∙ ap (λ (l : List Log). batches_in f H ++ l) none ∙ append-nil (batches_in f H))
         | inr e ↦ longer (same_found x (found (H ++ enc)) there (c ∙ ap (λ (l : List ℕ). H ++ l) e))
       ]
@@ -118,4 +118,4 @@ module _ (f : Format) (law : Lawful f) (H : List ℕ) (whole : is_whole f H ≡ 
       let l : LeavesFile (record { standing = Sure; bytes = H; since = Wrote (length H) enc ∷ [] }) x = subst (λ (j : Held). LeavesFile j x) m left in
       let g : BatchesGenuine f (record { standing = Sure; bytes = H; since = Wrote (length H) enc ∷ [] }) x.bytes = subst (λ (j : Held). BatchesGenuine f j x.bytes) m fair in
       let t = l.sure refl in
-      torn_reads (record { standing = Sure; bytes = H; since = Wrote (length H) enc ∷ [] }) x refl t (l.left t) (g.each (length H))
+      torn_reads (record { standing = Sure; bytes = H; since = Wrote (length H) enc ∷ [] }) x refl t (l.left t) g

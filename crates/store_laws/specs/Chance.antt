@@ -1,17 +1,18 @@
 -- No checksum matches by chance.
-use Rattle.std.specs.Prelude.{◌≡◌, ◌≢◌, ◌⊎◌, ℕ, ◌%◌, ◌≤◌, Bool, true, false, List, [], ◌++◌, length, take, drop}
+use Rattle.std.specs.Prelude.{◌≡◌, ◌≢◌, ◌⊎◌, ℕ, ◌%◌, ◌≤◌, Bool, true, false, List, [], ◌++◌, length, take}
 use Rattle.store_laws.specs.Names.{First, Second, Segment, Snapshot, NodeFiles, NodeDisk}
 use Rattle.disk_model.specs.Disk.{Held}
 use Rattle.disk_model.specs.Genuine.{Genuine, WasWritten}
-use Rattle.store_laws.specs.Store.{Format, Reader, opens, reader}
+use Rattle.store_laws.specs.Store.{Format, Reader, opens, reader, is_whole}
 
 -- a file that reads as metadata was written or stood there
 pub record MetaGenuine (f : Format) (side : Bool) (h : Held) (c : List ℕ) : Type 0 where
   pub whole : (f.meta side c).stamp ≢ 0 → Genuine h 0 c
 
--- so was each batch that reads at some place
+-- so was each batch that a load reaches: one that reads right after a front of whole batches
 pub record BatchesGenuine (f : Format) (h : Held) (c : List ℕ) : Type 0 where
-  pub each : (p : ℕ) → (reader f c (drop p c)).size ≢ 0 → Genuine h p (take (reader f c (drop p c)).size (drop p c))
+  pub each : (front rest : List ℕ) → c ≡ front ++ rest → is_whole f front ≡ true → (reader f c rest).size ≢ 0
+      → Genuine h (length front) (take (reader f c rest).size rest)
 
 -- a file that reads as a snapshot held it at the last sync, or had it written whole since
 pub record SnapGenuine (f : Format) (j : ℕ) (h : Held) (c : List ℕ) : Type 0 where

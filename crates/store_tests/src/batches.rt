@@ -4,12 +4,19 @@ use std::alloc::{AllocError, Global};
 use std::test::Fail;
 use store_format::{batch_bytes, read_batch};
 
-/// One entry of term 2 at index 3, with the command `abc`, in format 1 and in format 2, as another program spells it.
+/// One entry of term 2 at index 3, with the command `abc`, in formats 1, 2 and 3, as another program encodes it.
 const OLD: &[u8] =
     b"\x26\xb2\x8f\x08\x74\x5f\x2a\xeb\x03\x00\x00\x00\x00\x00\x00\x00\x01\x00\x00\x00\x00\x00\x00\x00\x02\x00\x00\x00\x00\x00\x00\x00\x01\x00\x00\x00\x03\x00\x00\x00\x61\x62\x63\x00\x00\x00\x00\x00";
 
 const NEW: &[u8] =
     b"\x1b\x7a\x8c\xfc\x36\x71\xd0\xe6\xce\x31\x72\x86\x0f\x25\x3e\x5b\x03\x00\x00\x00\x00\x00\x00\x00\x01\x00\x00\x00\x00\x00\x00\x00\x02\x00\x00\x00\x00\x00\x00\x00\x01\x00\x00\x00\x03\x00\x00\x00\x61\x62\x63\x00\x00\x00\x00\x00";
+
+const LATEST: &[u8] = &[
+    0xbc, 0xd7, 0x2a, 0x4e, 0x96, 0x40, 0xe2, 0xdd, 0x49, 0x76, 0x18, 0x71, 0x66, 0x87, 0x1e, 0xdf,
+    0x03, 0x00, 0x00, 0x00, 0x00, 0x00, 0x00, 0x00, 0x01, 0x00, 0x00, 0x00, 0x00, 0x00, 0x00, 0x00,
+    0x02, 0x00, 0x00, 0x00, 0x00, 0x00, 0x00, 0x00, 0x01, 0x00, 0x00, 0x00, 0x03, 0x00, 0x00, 0x00,
+    0x61, 0x62, 0x63, 0x00, 0x00, 0x00, 0x00, 0x00,
+];
 
 /// The first index, the number of entries and the size of the batch that bytes begin with.
 fn found(
@@ -33,8 +40,8 @@ fn is_written_as(alloc: Global, wanted: &[u8]) -> Result<bool, AllocError> {
 }
 
 #[test]
-fn batches_are_written_in_format_2(rt: HostRuntime) -> Result<(), Fail> {
-    assert!(rt; is_written_as(rt.alloc(), NEW)?);
+fn batches_are_written_in_format_3(rt: HostRuntime) -> Result<(), Fail> {
+    assert!(rt; is_written_as(rt.alloc(), LATEST)?);
     Ok(())
 }
 
@@ -46,6 +53,9 @@ const ROWS: &[Row] = &[
     (2, NEW, Some((3, 1, 56))),
     (1, NEW, None),
     (2, OLD, None),
+    (3, LATEST, Some((3, 1, 56))),
+    (3, NEW, None),
+    (2, LATEST, None),
     (2, &[], None),
 ];
 

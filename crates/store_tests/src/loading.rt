@@ -7,7 +7,7 @@ use std::test::Fail;
 use store_format::Kept;
 use wire_words::Writer;
 
-// The files were computed with Python's zlib and hashlib.
+// The files were computed in Python, the sums of formats 1 and 2 with its zlib and hashlib.
 
 /// The files of a node, by their places in a row.
 const FILES: usize = 5;
@@ -65,8 +65,32 @@ const NEW_FRONT: &[u64] = &[
 /// Entry 8 of term 3, in format 2.
 const NEW_BACK: &[u64] = &[2, 0x7ebf_61ac_5e11_4044, 0x141c_fc98_42c4_b0e3, 8, 1, 3, 2];
 
-/// A segment without entries that begins at index 6, in format 2.
-const EMPTIED: &[u64] = &[2, 0x3c7c_9aa5_e45d_9a5e, 0x141c_fc98_42c4_b0e3, 6, 0];
+/// Metadata of version 6 with the same term and vote, in format 3.
+const LATEST_METADATA: &[u64] = &[3, 6, 3, 2, 0x4f12_d890_7311_595b];
+
+/// Snapshot 7 of term 2, in format 3.
+const LATEST_SNAPSHOT: &[u64] = &[3, 7, 2, 3, 0xc5a5_4041_5117_daa5, 0x63_6261];
+
+/// Entries 6 and 7 of term 2, in format 3.
+const LATEST_FRONT: &[u64] = &[
+    3,
+    0xd6fc_bbb9_d130_e9b6,
+    0x18e8_9c12_b367_0e29,
+    6,
+    2,
+    2,
+    0x3_0000_0001,
+    2,
+    0x1_0000_0001,
+    0x63_6261,
+    0x64,
+];
+
+/// Entry 8 of term 3, in format 3.
+const LATEST_BACK: &[u64] = &[3, 0xd4c4_e7dd_2be8_9a5b, 0xa4d7_e2fd_a976_5ad2, 8, 1, 3, 2];
+
+/// A segment without entries that begins at index 6, in format 3.
+const EMPTIED: &[u64] = &[3, 0x1ed8_743a_2c86_1ffb, 0xa4d7_e2fd_a976_5ad2, 6, 0];
 
 /// The words of the files of a folder.
 type Folder = [&'static [u64]; FILES];
@@ -79,6 +103,18 @@ const WHOLE: Folder = [METADATA, &[], SNAPSHOT, FRONT, BACK];
 
 /// The same in format 2.
 const NEW_WHOLE: Folder = [&[], NEW_METADATA, NEW_SNAPSHOT, NEW_FRONT, NEW_BACK];
+
+/// The folder above in format 3.
+const LATEST_WHOLE: Folder = [
+    &[],
+    LATEST_METADATA,
+    LATEST_SNAPSHOT,
+    LATEST_FRONT,
+    LATEST_BACK,
+];
+
+/// The folder above with files of each format.
+const MIXED: Folder = [METADATA, &[], NEW_SNAPSHOT, FRONT, LATEST_BACK];
 
 /// What a load answers.
 #[derive(Clone, Copy, Debug, PartialEq, Eq)]
@@ -194,7 +230,7 @@ fn loaded_alike(
     }
 }
 
-/// What is answered where one file of a whole folder is cut to a length, in either format.
+/// What is answered where one file of a whole folder is cut to a length, in any format.
 fn wanted(file: usize, length: usize) -> Answer {
     match file {
         0 | 1 => Answer::Fault(LoadFault::NoMeta),
@@ -211,6 +247,8 @@ const FOLDERS: &[(Folder, Answer)] = &[
     (EMPTY, Answer::Kept(0, 0, 0, 1, 0)),
     (WHOLE, Answer::Kept(3, 2, 7, 6, 3)),
     (NEW_WHOLE, Answer::Kept(3, 2, 7, 6, 3)),
+    (LATEST_WHOLE, Answer::Kept(3, 2, 7, 6, 3)),
+    (MIXED, Answer::Kept(3, 2, 7, 6, 3)),
     (
         [METADATA, &[], SNAPSHOT, &[], &[]],
         Answer::Kept(3, 2, 7, 8, 0),
@@ -250,6 +288,10 @@ const SIZES: &[(Folder, usize, usize)] = &[
     (NEW_WHOLE, 2, 48),
     (NEW_WHOLE, 3, 88),
     (NEW_WHOLE, 4, 56),
+    (LATEST_WHOLE, 1, 40),
+    (LATEST_WHOLE, 2, 48),
+    (LATEST_WHOLE, 3, 88),
+    (LATEST_WHOLE, 4, 56),
 ];
 
 #[test]
@@ -351,13 +393,13 @@ fn written(alloc: Global, files: &Folder, file: usize, words: &[u64]) -> Option<
 
 /// Folders, a file of each, and its words after a load and a call of `set_meta`.
 const WRITTEN: &[(Folder, usize, &[u64])] = &[
-    (WHOLE, 1, &[2, 6, 4, 0, 0x6288_889d_b51e_9f74]),
+    (WHOLE, 1, &[3, 6, 4, 0, 0xcafd_94f7_5282_21c3]),
     (WHOLE, 0, METADATA),
     ([METADATA, &[], OTHER, FRONT, BACK], 5, EMPTIED),
 ];
 
 #[test]
-fn files_after_a_load_are_written_in_format_2(rt: HostRuntime) {
+fn files_after_a_load_are_written_in_format_3(rt: HostRuntime) {
     for (files, file, words) in WRITTEN {
         assert_eq!(rt; written(rt.alloc(), files, *file, words), Some(true));
     }

@@ -1,51 +1,106 @@
-use Rattle.std.proofs.Common.{◌⊎◌, inl, Option, ◌∙◌, sym, subst}
-use Rattle.arguments.specs.declared.invocation.Invocation.{Invocation}
+use Rattle.std.proofs.Common.{inl, ap, ◌∙◌}
 use Rattle.script_runner.proofs.Agreement.{keeps_alike}
-use Rattle.dqnode.specs.Asks.{IsScript, IsRun, IsStatement, IsCheck, IsServed}
 use Rattle.script_determinism.proofs.Deciding.{cells_broken, cells_compare}
+use Rattle.dqnode.specs.Status.{status_code}
 use Rattle.dqnode.proofs.Deciding.{broken_scripts_decide, scripts_decide}
 use Rattle.dqnode.proofs.Endings.{runs_are_safe}
+use Rattle.dqnode.proofs.Shown.{script_shown, arguments_shown, statement_shown, check_shown, generate_shown, serve_shown, untouched_shown, status_shown}
+use Rattle.dqnode.proofs.Unread.{unread_script, unread_arguments, unread_statement, unread_check, unread_generate, unread_serve, unread_untouched, unread_status}
 use Rattle.dqnode.proofs.program.dqnode.Goals as goal
 
-pub returns-in-Ok-clause-words_input : goal.returns-in-Ok-clause-words_input
-returns-in-Ok-clause-words_input g c = λ other. c.run.ensures.words_input (λ (s : IsScript c.in-Ok.asked). other (subst IsScript c.in-Ok.ensures.asked s))
+pub returns-in-Ok-clause-script : goal.returns-in-Ok-clause-script
+returns-in-Ok-clause-script g c = script_shown _ _ c.in-Ok.ensures.asked _ _ _ _ _ _ (record {
+  done = c.run.ensures.done;
+  faulty = c.run.ensures.script;
+  large = c.run.ensures.large;
+  safe = c.run.ensures.safe;
+  cut = c.run.ensures.cut;
+  broken = c.run.ensures.broken;
+})
 
-pub returns-in-Ok-clause-words_journal : goal.returns-in-Ok-clause-words_journal
-returns-in-Ok-clause-words_journal g c = λ other unrun.
-    c.run.ensures.words_journal (λ (s : IsScript c.in-Ok.asked). other (subst IsScript c.in-Ok.ensures.asked s)) (λ (r : IsRun c.in-Ok.asked). unrun (subst IsRun c.in-Ok.ensures.asked r))
+pub returns-in-Ok-clause-arguments : goal.returns-in-Ok-clause-arguments
+returns-in-Ok-clause-arguments g c = arguments_shown _ _ c.in-Ok.ensures.asked _ _ _ (record {
+  told = c.run.ensures.words;
+  only = c.run.ensures.only_words;
+  broken = c.run.ensures.words_broken;
+})
 
-pub returns-in-Ok-clause-generated : goal.returns-in-Ok-clause-generated
-returns-in-Ok-clause-generated g c = λ number writes asked. c.run.ensures.generated number writes (c.in-Ok.ensures.asked ∙ asked)
+pub returns-in-Ok-clause-statement : goal.returns-in-Ok-clause-statement
+returns-in-Ok-clause-statement g c = statement_shown _ _ c.in-Ok.ensures.asked _ _ _ _ _ (record {
+  ended = c.run.ensures.statement;
+  linked = c.run.ensures.linked;
+  no_leader = c.run.ensures.no_leader;
+  failed = c.run.ensures.dial_faults;
+})
 
-pub returns-in-Ok-clause-made : goal.returns-in-Ok-clause-made
-returns-in-Ok-clause-made g c = λ number writes asked. c.run.ensures.made number writes (c.in-Ok.ensures.asked ∙ asked)
+pub returns-in-Ok-clause-check : goal.returns-in-Ok-clause-check
+returns-in-Ok-clause-check g c = check_shown _ _ c.in-Ok.ensures.asked _ _ _ _ _ _ (record {
+  ended = c.run.ensures.check;
+  unprinted = c.run.ensures.unprinted;
+})
 
-pub returns-in-Ok-clause-faulty : goal.returns-in-Ok-clause-faulty
-returns-in-Ok-clause-faulty g c = λ e. subst (λ (a : Option Invocation). IsScript a ⊎ IsRun a) c.in-Ok.ensures.asked (c.run.ensures.faulty e)
+pub returns-in-Ok-clause-generate : goal.returns-in-Ok-clause-generate
+returns-in-Ok-clause-generate g c = generate_shown _ _ c.in-Ok.ensures.asked _ _ _ _ (record {
+  made = c.run.ensures.generated;
+  run = c.run.ensures.made;
+})
 
-pub returns-in-Ok-clause-dialer : goal.returns-in-Ok-clause-dialer
-returns-in-Ok-clause-dialer g c = λ other. c.run.ensures.dialer (λ (s : IsStatement c.in-Ok.asked). other (subst IsStatement c.in-Ok.ensures.asked s))
+pub returns-in-Ok-clause-serve : goal.returns-in-Ok-clause-serve
+returns-in-Ok-clause-serve g c = serve_shown _ _ c.in-Ok.ensures.asked _ _ _ _ _ _ _ (record {
+  codes = c.run.ensures.serve_codes;
+  serves = λ served is. inl (c.run.ensures.serves served is);
+  spent = c.run.ensures.spent;
+  well = c.run.ensures.serves_well;
+})
 
-pub returns-in-Ok-clause-of_check : goal.returns-in-Ok-clause-of_check
-returns-in-Ok-clause-of_check g c = λ e. subst (λ (a : Option Invocation). IsCheck a ⊎ IsServed a) c.in-Ok.ensures.asked (c.run.ensures.of_check e)
+pub returns-in-Ok-clause-untouched : goal.returns-in-Ok-clause-untouched
+returns-in-Ok-clause-untouched g c = untouched_shown _ _ c.in-Ok.ensures.asked _ _ _ _ _ _ _ _ _ _ _ _ _ (record {
+  input = c.run.ensures.words_input;
+  noted = c.run.ensures.words_journal;
+  dials = c.run.ensures.dialer;
+  files = c.run.ensures.disk;
+  serves = c.run.ensures.host;
+})
 
-pub returns-in-Ok-clause-disk_fault : goal.returns-in-Ok-clause-disk_fault
-returns-in-Ok-clause-disk_fault g c = λ e.
-    let fault = c.run.ensures.disk_fault e in
-    (subst (λ (a : Option Invocation). IsCheck a ⊎ IsServed a) c.in-Ok.ensures.asked fault.0, fault.1)
+pub returns-in-Ok-clause-status : goal.returns-in-Ok-clause-status
+returns-in-Ok-clause-status g c = status_shown _ _ c.in-Ok.ensures.asked _ _ _ (record {
+  known = c.run.ensures.known;
+  of_script = c.run.ensures.faulty;
+  of_statement = c.run.ensures.of_statement;
+  of_files = c.run.ensures.of_check;
+  of_spent = c.run.ensures.of_spent;
+  read_fault = c.run.ensures.read_fault;
+  write_fault = c.run.ensures.write_fault;
+  disk_fault = c.run.ensures.disk_fault;
+  host_fault = c.run.ensures.host_fault;
+  inputs = c.run.ensures.input_count;
+  outputs = c.run.ensures.output_count;
+  disks = c.run.ensures.disk_count;
+})
 
-pub returns-in-Ok-clause-disk : goal.returns-in-Ok-clause-disk
-returns-in-Ok-clause-disk g c = λ checks serves. c.run.ensures.disk (λ (s : IsCheck c.in-Ok.asked). checks (subst IsCheck c.in-Ok.ensures.asked s))
-    (λ (s : IsServed c.in-Ok.asked). serves (subst IsServed c.in-Ok.ensures.asked s))
+pub returns-in-Err-clause-script : goal.returns-in-Err-clause-script
+returns-in-Err-clause-script g c = unread_script _ _ (c.code.ensures ∙ ap status_code c.give_up.ensures.status) _ _ _
 
-pub returns-in-Ok-clause-serve_codes : goal.returns-in-Ok-clause-serve_codes
-returns-in-Ok-clause-serve_codes g c = λ s. c.run.ensures.serve_codes (subst IsServed (sym c.in-Ok.ensures.asked) s)
+pub returns-in-Err-clause-arguments : goal.returns-in-Err-clause-arguments
+returns-in-Err-clause-arguments g c = unread_arguments _ _ (c.code.ensures ∙ ap status_code c.give_up.ensures.status) _
 
-pub returns-in-Ok-clause-spent : goal.returns-in-Ok-clause-spent
-returns-in-Ok-clause-spent g c = λ served asked. c.run.ensures.spent served (c.in-Ok.ensures.asked ∙ asked)
+pub returns-in-Err-clause-statement : goal.returns-in-Err-clause-statement
+returns-in-Err-clause-statement g c = unread_statement _ _ (c.code.ensures ∙ ap status_code c.give_up.ensures.status) _ _
 
-pub returns-in-Ok-clause-serves : goal.returns-in-Ok-clause-serves
-returns-in-Ok-clause-serves g c = λ served asked. inl (c.run.ensures.serves served (c.in-Ok.ensures.asked ∙ asked))
+pub returns-in-Err-clause-check : goal.returns-in-Err-clause-check
+returns-in-Err-clause-check g c = unread_check _ _ (c.code.ensures ∙ ap status_code c.give_up.ensures.status) _ _ _
+
+pub returns-in-Err-clause-generate : goal.returns-in-Err-clause-generate
+returns-in-Err-clause-generate g c = unread_generate _ _ (c.code.ensures ∙ ap status_code c.give_up.ensures.status) _ _
+
+pub returns-in-Err-clause-serve : goal.returns-in-Err-clause-serve
+returns-in-Err-clause-serve g c = unread_serve _ _ (c.code.ensures ∙ ap status_code c.give_up.ensures.status) _ _ _ _
+
+pub returns-in-Err-clause-untouched : goal.returns-in-Err-clause-untouched
+returns-in-Err-clause-untouched g c = unread_untouched _ _ (c.code.ensures ∙ ap status_code c.give_up.ensures.status) _ _ _ _ _ _ _ c.give_up.ensures.journal
+
+pub returns-in-Err-clause-status : goal.returns-in-Err-clause-status
+returns-in-Err-clause-status g c = unread_status _ _ (c.code.ensures ∙ ap status_code c.give_up.ensures.status) _
 
 pub returns-in-Ok-clause-always_safe : goal.returns-in-Ok-clause-always_safe
 returns-in-Ok-clause-always_safe g c = runs_are_safe
@@ -70,6 +125,3 @@ returns-in-Ok-clause-determined_front g c = broken_scripts_decide cells_broken
 
 pub returns-in-Err-clause-determined_front : goal.returns-in-Err-clause-determined_front
 returns-in-Err-clause-determined_front g c = broken_scripts_decide cells_broken
-
-pub returns-in-Ok-clause-serves_well : goal.returns-in-Ok-clause-serves_well
-returns-in-Ok-clause-serves_well g c = λ s. c.run.ensures.serves_well (subst IsServed (sym c.in-Ok.ensures.asked) s)

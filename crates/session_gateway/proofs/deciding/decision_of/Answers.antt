@@ -36,9 +36,16 @@ returns-in-Sets-clause-ran g c = λ own weight. turned_there c.args.sessions.now
 pub returns-in-Tells-clause-ran : goal.returns-in-Tells-clause-ran
 returns-in-Tells-clause-ran g c = λ own weight. turned_there c.args.sessions.now c.args.place c.index-known-place.result c.requires.within c.index-known-place.is _ _ c.args.call.now.view.now c.args.machine.now c.args.params c.args.wanted _ _ own weight _ (nothing_handed _ _ c.args.call.now.view.now (machine_of c.args.machine.now) (table_of c.args.machine.now c.args.sessions.now weight) c.index-known-place.result.conn (session_of c.args.machine.now c.index-known-place.result) c.args.params c.args.wanted _ _ c.telling.result c.in-Tells.is refl (c.telling.ensures.comes c.args.call.now.view.now (machine_of c.args.machine.now) (table_of c.args.machine.now c.args.sessions.now weight) c.index-known-place.result.conn (session_of c.args.machine.now c.index-known-place.result) []))
 
+pub returns-in-Forgets-clause-ran : goal.returns-in-Forgets-clause-ran
+returns-in-Forgets-clause-ran g c = λ own weight. turned_there c.args.sessions.now c.args.place c.index-known-place.result c.requires.within c.index-known-place.is _ _ c.args.call.now.view.now c.args.machine.now c.args.params c.args.wanted _ _ own weight _ (nothing_handed _ _ c.args.call.now.view.now (machine_of c.args.machine.now) (table_of c.args.machine.now c.args.sessions.now weight) c.index-known-place.result.conn (session_of c.args.machine.now c.index-known-place.result) c.args.params c.args.wanted _ _ c.forgetting.result c.in-Forgets.is refl (c.forgetting.ensures.comes c.args.call.now.view.now (machine_of c.args.machine.now) (table_of c.args.machine.now c.args.sessions.now weight) c.index-known-place.result.conn (session_of c.args.machine.now c.index-known-place.result) []))
+
 pub returns-in-Tells-clause-unopened : goal.returns-in-Tells-clause-unopened
 unfolding does
 returns-in-Tells-clause-unopened g c = λ e. absurd (never_unopened c.args.call.now.view.now (machine_of c.args.machine.now) (session_of c.args.machine.now c.index-known-place.result) (does c.args.call.now.view.now (machine_of c.args.machine.now) (table_of c.args.machine.now c.args.sessions.now 0) c.index-known-place.result.conn (session_of c.args.machine.now c.index-known-place.result) (asking.Tells c.in-Tells.response) []) c.telling.result tt (c.telling.ensures.comes c.args.call.now.view.now (machine_of c.args.machine.now) (table_of c.args.machine.now c.args.sessions.now 0) c.index-known-place.result.conn (session_of c.args.machine.now c.index-known-place.result) []) e)
+
+pub returns-in-Forgets-clause-unopened : goal.returns-in-Forgets-clause-unopened
+unfolding does
+returns-in-Forgets-clause-unopened g c = λ e. absurd (never_unopened c.args.call.now.view.now (machine_of c.args.machine.now) (session_of c.args.machine.now c.index-known-place.result) (does c.args.call.now.view.now (machine_of c.args.machine.now) (table_of c.args.machine.now c.args.sessions.now 0) c.index-known-place.result.conn (session_of c.args.machine.now c.index-known-place.result) (asking.Forgets c.in-Forgets.response) []) c.forgetting.result tt (c.forgetting.ensures.comes c.args.call.now.view.now (machine_of c.args.machine.now) (table_of c.args.machine.now c.args.sessions.now 0) c.index-known-place.result.conn (session_of c.args.machine.now c.index-known-place.result) []) e)
 
 pub returns-in-Opens-clause-ran : goal.returns-in-Opens-clause-ran
 returns-in-Opens-clause-ran g c = λ own weight. turned_there c.args.sessions.now c.args.place c.index-known-place.result c.requires.within c.index-known-place.is _ _ c.args.call.now.view.now c.args.machine.now c.args.params c.args.wanted _ _ own weight _ (nothing_handed _ _ c.args.call.now.view.now (machine_of c.args.machine.now) (table_of c.args.machine.now c.args.sessions.now weight) c.index-known-place.result.conn (session_of c.args.machine.now c.index-known-place.result) c.args.params c.args.wanted _ _ c.opened.result c.in-Opens.is refl (c.opened.ensures.comes c.args.call.now.view.now (machine_of c.args.machine.now) (table_of c.args.machine.now c.args.sessions.now weight) c.index-known-place.result.conn (session_of c.args.machine.now c.index-known-place.result) []))
@@ -111,6 +118,9 @@ returns-in-Sets-clause-agree g c = λ own. idle_agrees _ _ c.args.call.now.numbe
 
 pub returns-in-Tells-clause-agree : goal.returns-in-Tells-clause-agree
 returns-in-Tells-clause-agree g c = λ own. idle_agrees _ _ c.args.call.now.number _ (Ok c.telling.result) (get_or c.args.sessions.now c.args.place own).transaction c.telling.ensures.works c.requires.agree
+
+pub returns-in-Forgets-clause-agree : goal.returns-in-Forgets-clause-agree
+returns-in-Forgets-clause-agree g c = λ own. idle_agrees _ _ c.args.call.now.number _ (Ok c.forgetting.result) (get_or c.args.sessions.now c.args.place own).transaction c.forgetting.ensures.works c.requires.agree
 
 pub returns-in-Opens-clause-agree : goal.returns-in-Opens-clause-agree
 returns-in-Opens-clause-agree g c = λ own. idle_agrees _ _ c.args.call.now.number _ (Ok c.opened.result) (get_or c.args.sessions.now c.args.place own).transaction c.opened.ensures.works c.requires.agree

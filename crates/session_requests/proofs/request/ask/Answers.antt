@@ -3,7 +3,7 @@ use Rattle.std.specs.Prelude.{IfOk}
 use Rattle.std.proofs.lemmas.Result.{IfOk-weaker}
 use Rattle.sql_scan.specs.Statements.{scan_of}
 use Rattle.session_spec.specs.Asking as asking
-use Rattle.session_spec.specs.Asking.{asked_by}
+use Rattle.session_spec.specs.Asking.{asked_unless_lost}
 use Rattle.session_spec.specs.Machine.{machine_of}
 use Rattle.session_table.specs.Table.{session_of, table_of}
 use Rattle.session_requests.specs.declared.wanted.RequestPlan.{RequestPlan}
@@ -13,7 +13,7 @@ use Rattle.session_requests.proofs.Plain.{plain_can, open_plain, add_plain, assi
 use Rattle.session_requests.proofs.request.ask.Goals as goal
 
 pub returns-in-Open-clause-wants : goal.returns-in-Open-clause-wants
-unfolding asked_by
+unfolding asked_unless_lost
 returns-in-Open-clause-wants c =
     of_result c.args.view.now (machine_of c.args.machine.now) (table_of c.args.machine.now c.args.sessions.now c.args.weight) c.args.session.now.conn (session_of c.args.machine.now c.args.session.now) c.args.request.now _ c.in-Open.is c.opens.result
     (subst (λ (name : List ℕ). IfOk c.opens.result (λ (w : RequestPlan). meant [] w ≡ asking.at_leader c.args.view.now (asking.asks_open c.args.view.now (machine_of c.args.machine.now) (table_of c.args.machine.now c.args.sessions.now c.args.weight) (session_of c.args.machine.now c.args.session.now) name (asking.barriers_asked c.in-Open.flags)))) c.as_str.ensures.same (c.opens.ensures c.args.weight))
@@ -23,7 +23,7 @@ returns-in-Open-clause-fits c =
     IfOk-weaker c.opens.result _ _ (λ w e. plain_can c.args.session.now.statements.items (params_of c.args.request.now) [] w _ e (open_plain c.args.view.now (machine_of c.args.machine.now) (table_of c.args.machine.now c.args.sessions.now c.args.weight) (session_of c.args.machine.now c.args.session.now) c.as_str.result.now (asking.barriers_asked c.in-Open.flags))) (c.opens.ensures c.args.weight)
 
 pub returns-in-Prepare-clause-wants : goal.returns-in-Prepare-clause-wants
-unfolding asked_by
+unfolding asked_unless_lost
 returns-in-Prepare-clause-wants c =
     of_result c.args.view.now (machine_of c.args.machine.now) (table_of c.args.machine.now c.args.sessions.now c.args.weight) c.args.session.now.conn (session_of c.args.machine.now c.args.session.now) c.args.request.now _ c.in-Prepare.is c.prepares.result
     (subst (λ (sql : List ℕ). IfOk c.prepares.result (λ (w : RequestPlan). meant [] w ≡ asking.at_leader c.args.view.now (asking.in_database (session_of c.args.machine.now c.args.session.now) c.in-Prepare.db (asking.asks_prepare (session_of c.args.machine.now c.args.session.now) sql c.in-Prepare.wide (scan_of sql))))) c.as_str-in-Prepare.ensures.same (c.prepares.ensures.wants c.args.machine.now))
@@ -43,7 +43,7 @@ returns-in-Query-clause-wants c =
     (c.queries.ensures.wants c.args.machine.now)
 
 pub returns-in-Finalize-clause-wants : goal.returns-in-Finalize-clause-wants
-unfolding asked_by
+unfolding asked_unless_lost
 returns-in-Finalize-clause-wants c = of_request c.args.view.now (machine_of c.args.machine.now) (table_of c.args.machine.now c.args.sessions.now c.args.weight) c.args.session.now.conn (session_of c.args.machine.now c.args.session.now) c.args.request.now _ c.in-Finalize.is c.finalizes.result (c.finalizes.ensures.wants c.args.machine.now)
 
 pub returns-in-ExecSql-clause-wants : goal.returns-in-ExecSql-clause-wants
@@ -61,7 +61,7 @@ returns-in-QuerySql-clause-wants c =
     (c.queries_text.ensures.wants c.args.machine.now)
 
 pub returns-in-Interrupt-clause-wants : goal.returns-in-Interrupt-clause-wants
-unfolding asked_by
+unfolding asked_unless_lost
 returns-in-Interrupt-clause-wants c = of_request c.args.view.now (machine_of c.args.machine.now) (table_of c.args.machine.now c.args.sessions.now c.args.weight) c.args.session.now.conn (session_of c.args.machine.now c.args.session.now) c.args.request.now _ c.in-Interrupt.is c.interrupts.result (c.interrupts.ensures c.args.machine.now)
 
 pub returns-in-Interrupt-clause-fits : goal.returns-in-Interrupt-clause-fits
@@ -69,11 +69,11 @@ returns-in-Interrupt-clause-fits c =
     plain_can c.args.session.now.statements.items (params_of c.args.request.now) [] c.interrupts.result _ (c.interrupts.ensures c.args.machine.now) (interrupt_plain (session_of c.args.machine.now c.args.session.now) c.in-Interrupt.db)
 
 pub returns-in-Describe-clause-wants : goal.returns-in-Describe-clause-wants
-unfolding asked_by table_of
+unfolding asked_unless_lost table_of
 returns-in-Describe-clause-wants c = of_request c.args.view.now (machine_of c.args.machine.now) (table_of c.args.machine.now c.args.sessions.now c.args.weight) c.args.session.now.conn (session_of c.args.machine.now c.args.session.now) c.args.request.now _ c.in-Describe.is c.wanted_by_describe.result c.wanted_by_describe.ensures
 
 pub returns-in-Add-clause-wants : goal.returns-in-Add-clause-wants
-unfolding asked_by
+unfolding asked_unless_lost
 returns-in-Add-clause-wants c =
     of_result c.args.view.now (machine_of c.args.machine.now) (table_of c.args.machine.now c.args.sessions.now c.args.weight) c.args.session.now.conn (session_of c.args.machine.now c.args.session.now) c.args.request.now _ c.in-Add.is c.adds.result (c.adds.ensures c.args.machine.now c.args.weight)
 
@@ -82,7 +82,7 @@ returns-in-Add-clause-fits c =
     IfOk-weaker c.adds.result _ _ (λ w e. plain_can c.args.session.now.statements.items (params_of c.args.request.now) [] w _ e (add_plain c.args.view.now (table_of c.args.machine.now c.args.sessions.now c.args.weight) c.in-Add.id c.in-Add.address)) (c.adds.ensures c.args.machine.now c.args.weight)
 
 pub returns-in-Assign-clause-wants : goal.returns-in-Assign-clause-wants
-unfolding asked_by
+unfolding asked_unless_lost
 returns-in-Assign-clause-wants c =
     of_result c.args.view.now (machine_of c.args.machine.now) (table_of c.args.machine.now c.args.sessions.now c.args.weight) c.args.session.now.conn (session_of c.args.machine.now c.args.session.now) c.args.request.now _ c.in-Assign.is c.assigns.result (c.assigns.ensures c.args.machine.now c.args.weight)
 
@@ -91,7 +91,7 @@ returns-in-Assign-clause-fits c =
     IfOk-weaker c.assigns.result _ _ (λ w e. plain_can c.args.session.now.statements.items (params_of c.args.request.now) [] w _ e (assign_plain c.args.view.now (table_of c.args.machine.now c.args.sessions.now c.args.weight) c.in-Assign.id c.in-Assign.role)) (c.assigns.ensures c.args.machine.now c.args.weight)
 
 pub returns-in-Remove-clause-wants : goal.returns-in-Remove-clause-wants
-unfolding asked_by
+unfolding asked_unless_lost
 returns-in-Remove-clause-wants c =
     of_result c.args.view.now (machine_of c.args.machine.now) (table_of c.args.machine.now c.args.sessions.now c.args.weight) c.args.session.now.conn (session_of c.args.machine.now c.args.session.now) c.args.request.now _ c.in-Remove.is c.removes.result (c.removes.ensures c.args.machine.now c.args.weight)
 

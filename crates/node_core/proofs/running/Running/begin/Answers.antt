@@ -1,5 +1,5 @@
 use Rattle.node_core.specs.Conns.{ConnsBegin}
-use Rattle.node_core.proofs.ConnStreams.{timeout_begins, beat_begins, peer_begins, read_begins}
+use Rattle.node_core.proofs.ConnStreams.{timeout_begins, beat_begins, yield_begins, peer_begins, read_begins}
 use Rattle.std.proofs.Common.{ℕ, List, sym, subst}
 use Rattle.raft_core.specs.declared.event.RaftEvent.TheVariants as raft_events
 use Rattle.raft_membership.specs.Members.{read_setup}
@@ -8,7 +8,7 @@ use Rattle.node_core.specs.declared.event.Event.{Event}
 use Rattle.node_core.specs.declared.event.Event.TheVariants as happens
 use Rattle.node_core.specs.Account.{Happens, SoFar, Stopped}
 use Rattle.node_core.specs.Performing.{ReceivesBytes}
-use Rattle.node_core.proofs.Beginning.{begins_raft, with_timeout, with_beat, with_peer, begins_connect, begins_hangup, begins_bytes}
+use Rattle.node_core.proofs.Beginning.{begins_raft, with_timeout, with_beat, with_yield, with_peer, begins_connect, begins_hangup, begins_bytes}
 use Rattle.node_core.proofs.Led.{led_comes, led_goes, led_hears}
 use Rattle.node_core.proofs.Finding.{more, kept_finds, failed as always_err}
 use Rattle.node_core.specs.Finding.{BeganStops}
@@ -27,6 +27,11 @@ returns-in_ok-take_raft-in-Timeout-clause-conns g c =
 pub returns-in_ok-take_raft-in-Beat-clause-conns : goal.returns-in_ok-take_raft-in-Beat-clause-conns
 returns-in_ok-take_raft-in-Beat-clause-conns g c =
     subst (λ (e : Event). ConnsBegin e c.args.self.now c.take_raft-in-Beat.new.self) (sym c.in-Beat.is) (beat_begins c.args.self.now c.take_raft-in-Beat.new.self c.in_ok-take_raft-in-Beat.ensures.conns)
+
+pub returns-in_ok-take_raft-in-Yield-clause-conns : goal.returns-in_ok-take_raft-in-Yield-clause-conns
+returns-in_ok-take_raft-in-Yield-clause-conns g c =
+    subst (λ (e : Event). ConnsBegin e c.args.self.now c.take_raft-in-Yield.new.self) (sym c.in-Yield.is)
+    (yield_begins c.args.self.now c.take_raft-in-Yield.new.self c.in_ok-take_raft-in-Yield.ensures.conns)
 
 pub returns-in_ok-take_raft-in-Peer-clause-conns : goal.returns-in_ok-take_raft-in-Peer-clause-conns
 returns-in_ok-take_raft-in-Peer-clause-conns g c =
@@ -84,6 +89,13 @@ returns-in_ok-take_raft-in-Beat-clause-begun g c = λ opening.
     let m = g.E.Engine.meaning kind in
     subst (λ (e : Event). SoFar m kind (read_setup opening) c.args.self.now c.take_raft-in-Beat.new.self (Happens e) (g.E.Engine.told c.args.engine.now) (g.E.Engine.told c.take_raft-in-Beat.new.engine)) (sym c.in-Beat.is)
     (begins_raft m kind (read_setup opening) c.args.self.now c.take_raft-in-Beat.new.self (Happens happens.Beat) raft_events.Beat (with_beat c.args.self.now) (c.in_ok-take_raft-in-Beat.ensures.began opening))
+
+pub returns-in_ok-take_raft-in-Yield-clause-begun : goal.returns-in_ok-take_raft-in-Yield-clause-begun
+returns-in_ok-take_raft-in-Yield-clause-begun g c = λ opening.
+    let kind = g.E.Engine.kind c.args.engine.now in
+    let m = g.E.Engine.meaning kind in
+    subst (λ (e : Event). SoFar m kind (read_setup opening) c.args.self.now c.take_raft-in-Yield.new.self (Happens e) (g.E.Engine.told c.args.engine.now) (g.E.Engine.told c.take_raft-in-Yield.new.engine)) (sym c.in-Yield.is)
+    (begins_raft m kind (read_setup opening) c.args.self.now c.take_raft-in-Yield.new.self (Happens happens.Yield) raft_events.Yield (with_yield c.args.self.now) (c.in_ok-take_raft-in-Yield.ensures.began opening))
 
 pub returns-in_ok-take_raft-in-Peer-clause-begun : goal.returns-in_ok-take_raft-in-Peer-clause-begun
 returns-in_ok-take_raft-in-Peer-clause-begun g c = λ opening.
@@ -165,6 +177,18 @@ returns-in_err-take_raft-in-Beat-clause-stops g c = λ opening stood has.
     (began_stopped c.raft_steps_are_kept.ensures.stops m kind (read_setup opening) c.args.self.now (Happens happens.Beat) raft_events.Beat kept stood (with_beat c.args.self.now) tt s)) (c.in_err-take_raft-in-Beat.ensures.stops opening has)
     )
 
+pub returns-in_err-take_raft-in-Yield-clause-stops : goal.returns-in_err-take_raft-in-Yield-clause-stops
+returns-in_err-take_raft-in-Yield-clause-stops g c = λ opening stood has.
+    always_err c.from_residual-in_err-take_raft-in-Yield.result
+    (
+    let kind = g.E.Engine.kind c.args.engine.now in
+    let m = g.E.Engine.meaning kind in
+    more g.D.Disk.tells (g.D.Disk.states c.take_raft-in-Yield.new.disk) (BeganStops m kind (read_setup opening) c.args.self.now raft_events.Yield)
+    (Stopped m kind (read_setup opening) c.args.self.now (Happens c.args.event))
+    (λ kept s. subst (λ (e : Event). Stopped m kind (read_setup opening) c.args.self.now (Happens e) kept) (sym c.in-Yield.is)
+    (began_stopped c.raft_steps_are_kept.ensures.stops m kind (read_setup opening) c.args.self.now (Happens happens.Yield) raft_events.Yield kept stood (with_yield c.args.self.now) tt s)) (c.in_err-take_raft-in-Yield.ensures.stops opening has)
+    )
+
 pub returns-in_err-take_raft-in-Peer-clause-stops : goal.returns-in_err-take_raft-in-Peer-clause-stops
 returns-in_err-take_raft-in-Peer-clause-stops g c = λ opening stood has.
     always_err c.from_residual-in_err-take_raft-in-Peer.result
@@ -185,6 +209,11 @@ pub returns-in_ok-take_raft-in-Beat-clause-exact : goal.returns-in_ok-take_raft-
 returns-in_ok-take_raft-in-Beat-clause-exact g c =
     subst (λ (e : Event). Answered (g.E.Engine.told c.args.engine.now) (g.E.Engine.told c.take_raft-in-Beat.new.engine) (ExactBegin e (core_of c.args.self.now) (core_of c.take_raft-in-Beat.new.self))) (sym c.in-Beat.is)
     (unanswered (ExactBegin happens.Beat (core_of c.args.self.now) (core_of c.take_raft-in-Beat.new.self)) (g.E.Engine.told c.args.engine.now) (g.E.Engine.told c.take_raft-in-Beat.new.engine) c.in_ok-take_raft-in-Beat.ensures.untold (c.in_ok-take_raft-in-Beat.ensures.exact, refl))
+
+pub returns-in_ok-take_raft-in-Yield-clause-exact : goal.returns-in_ok-take_raft-in-Yield-clause-exact
+returns-in_ok-take_raft-in-Yield-clause-exact g c =
+    subst (λ (e : Event). Answered (g.E.Engine.told c.args.engine.now) (g.E.Engine.told c.take_raft-in-Yield.new.engine) (ExactBegin e (core_of c.args.self.now) (core_of c.take_raft-in-Yield.new.self))) (sym c.in-Yield.is)
+    (unanswered (ExactBegin happens.Yield (core_of c.args.self.now) (core_of c.take_raft-in-Yield.new.self)) (g.E.Engine.told c.args.engine.now) (g.E.Engine.told c.take_raft-in-Yield.new.engine) c.in_ok-take_raft-in-Yield.ensures.untold (c.in_ok-take_raft-in-Yield.ensures.exact, refl))
 
 pub returns-in_ok-take_raft-in-Peer-clause-exact : goal.returns-in_ok-take_raft-in-Peer-clause-exact
 returns-in_ok-take_raft-in-Peer-clause-exact g c =

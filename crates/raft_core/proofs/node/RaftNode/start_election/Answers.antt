@@ -9,7 +9,7 @@ use Rattle.raft_core.proofs.node.RaftNode.start_election.Goals as goal
 pub returns-then-not-may_stand : goal.returns-then-not-may_stand
 returns-then-not-may_stand c =
     let h = c.args.self.now in
-    effects_are h h (start_election (told h) h.id (node_of h)) c.says.result _ c.says.ensures (does_not_stand h (sym c.may_stand.ensures ∙ c.if-not-may_stand.true))
+    effects_are h h (start_election (told h) h.id (node_of h) c.args.transfer) c.says.result _ c.says.ensures (does_not_stand h c.args.transfer (sym c.may_stand.ensures ∙ c.if-not-may_stand.true))
 
 pub stand-requires-clause-term : goal.stand-requires-clause-term
 stand-requires-clause-term c = (may_parts c.args.self.now (sym c.may_stand.ensures ∙ c.if-not-may_stand.false)).1
@@ -22,4 +22,4 @@ returns c =
     let h = c.args.self.now in
     let m = c.stand.new.self in
     let counted = c.count-won.ensures.node ∙ ap (λ x. record m { grants = grants_with (voters m.servers) m.grants x }) c.id-own.ensures in
-    if_ok c.after_count.result _ _ c.after_count.ensures (λ e d. does_stand h m c.count-won.new.self c.after_count.new.self c.end-last.result e (sym c.may_stand.ensures ∙ c.if-not-may_stand.false) c.stand.ensures c.end-last.ensures counted d)
+    if_ok c.after_count.result _ _ c.after_count.ensures (λ e d. does_stand h m c.count-won.new.self c.after_count.new.self c.end-last.result c.args.transfer e (sym c.may_stand.ensures ∙ c.if-not-may_stand.false) c.stand.ensures c.end-last.ensures counted d)
