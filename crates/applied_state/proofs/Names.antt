@@ -1,4 +1,4 @@
--- The databases of a machine by their names, as a snapshot has them and as it gives them back.
+-- The databases of a state machine by their names, as a snapshot has them and as it gives them back.
 use Rattle.std.proofs.Common.{◌≡◌, ℕ, suc, ◌+◌, arith, Bool, true, false, true≢false, cond, List, [], ◌∷◌, map, Option, Some, None, refl, sym, ap, subst, ◌∙◌, ⊎_elim, Less}
 use Rattle.std.specs.Prelude.{bytes_eq}
 use Rattle.std.specs.Ordering.{is_eq}
@@ -22,7 +22,7 @@ use Rattle.session_safety.proofs.AddedNames.{kept_name, another}
 use Rattle.applied_state.specs.Applied.{ShowsFiles}
 use Rattle.applied_state.specs.Snapshot.{contents_in}
 
--- ---- a machine's own databases
+-- ---- a state machine's own databases
 
 map_alike : {X Y : Type 0} (f g : X → Y) (xs : List X) → AllByRecursion (λ x. f x ≡ g x) xs → map f xs ≡ map g xs
 map_alike f g [] all = refl
@@ -32,7 +32,7 @@ map_alike f g (x ∷ xs) all = ap (λ y. y ∷ map f xs) all.0 ∙ ap (λ ys. g 
 shown : List ℕ → Option Database → Content
 shown name o = record { name = name; image = (base_of o).image; pending = (base_of o).pending }
 
--- names behind the first one are others
+-- names after the first one are others
 behind : (d : Database) (ds : List Database) (names : List (List ℕ)) → AllByRecursion (λ z. compare d.name z ≡ Less) names → AllByRecursion (λ n. shown n (named n (d ∷ ds)) ≡ shown n (named n ds)) names
 behind d ds [] all = tt
 behind d ds (n ∷ names) all =
@@ -58,13 +58,13 @@ pub own_contents : (ds : List Database) → Ascend (names_of ds) → contents_in
 unfolding shown
 own_contents ds order = shown_are ds order
 
--- ---- a machine that was restored
+-- ---- a state machine that was restored
 
 restored_names : (place : ℕ) (m : Machine) (names : List (List ℕ)) → names_of (restored_from place (map (λ (name : List ℕ). record { name = name; image = (m.base name).image; pending = (m.base name).pending }) names)) ≡ names
 restored_names place m [] = refl
 restored_names place m (n ∷ names) = ap (λ (ns : List (List ℕ)). n ∷ ns) (restored_names (suc place) m names)
 
--- What a database of a restored machine is: no commits, no pages since a checkpoint, and what the snapshot says; or a new one.
+-- What a database of a restored state machine is: no commits, no pages since a checkpoint, and what the snapshot says; or a new one.
 record AsSaved (m : Machine) (name : List ℕ) (b : Base) : Type 0 where
   pub image : b.image ≡ (m.base name).image
   pub pending : b.pending ≡ (m.base name).pending

@@ -1,4 +1,4 @@
--- What a leader owes fits its life, and leaves it in the office behind it.
+-- What a leader owes fits its life, and leaves it in the leadership after it.
 use Rattle.std.proofs.Common.{◌≡◌, ℕ, suc, ◌+◌, ◌≤◌, arith, Bool, true, false, true≢false, cond, List, [], ◌∷◌, ◌++◌, length, take, Option, Some, None, refl, sym, ap, subst, ◌∙◌, append-nil, length-append}
 use Rattle.std.specs.Prelude.{◌==◌}
 use Rattle.std.proofs.lemmas.Bool.{eqb-true}
@@ -56,7 +56,7 @@ as_many : (term : ℕ) (contents : List Content) → length (entries_of term con
 as_many term [] = refl
 as_many term (c ∷ cs) = ap suc (as_many term cs)
 
--- behind them nothing is pending
+-- after them nothing is pending
 none_pending : (log : List Entry) (term applied : ℕ) → EndsWithUndos log term → applied ≡ length log → (name : List ℕ) → (base_at log applied name).pending ≡ None
 none_pending log term applied ends all name =
     let whole : take applied log ≡ log = ap (λ (n : ℕ). take n log) all ∙ take_all (length log) log (leq_refl (length log)) in
@@ -67,7 +67,7 @@ none_pending log term applied ends all name =
 
 -- ---- what a leader owes
 
--- The events fit, and leave the life in an office of this phase.
+-- The events fit, and leave the life in a leadership of this phase.
 record Leads (m : Meaning) (kind : EngineKind) (term : ℕ) (w : Life) (events : List Event) (phase : LeadershipPhase) : Type 0 where
   pub fits : AllFit m kind w events
   pub holds : InOffice (record { term = term; phase = phase }) (run_from w events)
@@ -131,16 +131,16 @@ goes_on m kind term Serving w lacks machine what waiting h shows =
 pub offices_go_on_hold : (m : Meaning) (kind : EngineKind) → OfficesGoOn m kind
 offices_go_on_hold m kind office w lacks machine what waiting h shows = goes_on m kind office.term office.phase w lacks machine what waiting h shows
 
--- ---- what leaves the office as it is
+-- ---- what leaves the leadership as it is
 
--- the log of a leader that doesn't serve stays, and so does all that the office looks at
+-- the log of a leader that doesn't serve stays, and so does all that the leadership looks at
 stays : (phase : LeadershipPhase) (w v : Life) → Same w v → (w.serving ≡ false → v.log ≡ w.log) → IsPhase phase w.serving w.log w.term → IsPhase phase v.serving v.log v.term
 stays (Barrier barrier) w v same log h = (same.serving ∙ h.0, ap length (log h.0) ∙ h.1)
 stays (Undos last) w v same log h =
     (same.serving ∙ h.0, ap length (log h.0) ∙ h.1, record { front = h.2.front; is = log h.0 ∙ h.2.is ∙ ap (λ (t : ℕ). h.2.front ++ entries_of t (undos (files h.2.front))) (sym same.term) })
 stays Serving w v same log h = same.serving ∙ h
 
--- a query that is run later appends nothing where the node doesn't serve, and a reader never does
+-- a query that is run later appends nothing if the node doesn't serve, and a reader never does
 resumed_log : (w : Life) (conn : ℕ) (standing : Standing) (answers : List Answer) (o : Option Statement) → w.serving ≡ false → (resumed w conn standing answers o).log ≡ w.log
 resumed_log w conn standing answers None off = refl
 resumed_log w conn standing answers (Some statement) off =

@@ -1,4 +1,4 @@
--- A node's snapshot is read exactly where it is spelled, and gives back what was applied.
+-- A node's snapshot is read exactly if it is encoded, and gives back what was applied.
 use Rattle.std.proofs.Common.{◌≡◌, ℕ, suc, Bool, true, false, true≢false, cond, List, [], ◌∷◌, ◌++◌, length, take, drop, Option, Some, None, Result, Ok, Err, refl, sym, ap, subst, ◌∙◌, take-append-drop, append_assoc, arith, ◌≤◌, length-append}
 use Rattle.std.specs.Prelude.{◌==◌, ◌&&◌, nat_le, IsSome, IfOk}
 use Rattle.std.specs.Option.{option_map}

@@ -1,4 +1,4 @@
--- What an entry is for, and what a node that applies it tells of it.
+-- What an entry is for, and what a node that applies it says of it.
 use Rattle.std.specs.Prelude.{true, false}
 use Rattle.log_commands.specs.declared.command.Command.{Command}
 use Rattle.log_commands.specs.declared.command.Command.TheVariants.{OpenDb, Frames, Undo, Checkpoint}
@@ -22,7 +22,7 @@ effect_of_command (Frames name tx truncate false pages) = effect.Other
 effect_of_command (Undo tx) = effect.Other
 effect_of_command (Checkpoint name) = effect.Other
 
--- what is told of an entry that was applied
+-- what is reported of an entry that was applied
 abbrev pub effect_of : seen.Content → AppliedEffect
 effect_of (seen.Does command) = effect_of_command command
 effect_of (seen.Configures servers) = effect.Configured

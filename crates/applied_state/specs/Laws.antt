@@ -1,4 +1,4 @@
--- What holds of a leader's office in each life, and of snapshots.
+-- What holds of a leader's leadership in each life, and of snapshots.
 use Rattle.std.specs.Prelude.{◌≡◌, ℕ, List, ◌++◌, take, Some}
 use Rattle.wire_words.specs.Items.{AreBytes}
 use Rattle.raft_messages.specs.Servers.{servers_bytes, WritesServers}
@@ -28,9 +28,9 @@ LivesAreShown =
     (opening : List Server) (lacks : List ℕ → ℕ) (log : List raft.Entry) (w : Life) (a : Applied) →
     w.log ≡ log_seen log → HasApplied opening lacks (take w.applied log) a → ShowsFiles lacks (databases w) a.machine
 
--- ---- offices
+-- ---- leaderships
 
--- What a leader does when it has applied an entry fits, and leaves the life in the office that it then has.
+-- What a leader does when it has applied an entry fits, and leaves the life in the leadership that it then has.
 pub record GoesOn (m : Meaning) (kind : EngineKind) (office : Leadership) (w : Life) (machine : List Database) (what : AppliedEffect) (waiting : List Entry) : Type 0 where
   pub fits : AllFit m kind w (duties office.phase w.applied (machine_of machine) what waiting)
   pub holds : InOffice (office_after office w.applied (machine_of machine)) (run_from w (duties office.phase w.applied (machine_of machine) what waiting))
@@ -54,13 +54,13 @@ IsOfClients Serve = ⊥
 IsOfClients (Append contents) = ⊥
 IsOfClients (Follow entries) = ⊥
 
--- It leaves the office as it is.
+-- It leaves the leadership as it is.
 abbrev pub OfficesStay : Type 0
 OfficesStay = (office : Leadership) (w : Life) (e : Event) → IsOfClients e → InOffice office w → InOffice office (happens w e)
 
 -- ---- snapshots
 
--- What is read as a node's snapshot is spelled so, and what is spelled so is read.
+-- What is read as a node's snapshot is encoded so, and what is encoded so is read.
 abbrev pub SnapshotsRead : Type 0
 SnapshotsRead = (s : NodeSnapshot) (bytes : List ℕ) → SpellsSnapshot s bytes → snapshot_in bytes ≡ Some s
 

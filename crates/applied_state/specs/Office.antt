@@ -54,7 +54,7 @@ owed (Barrier barrier) index m what waiting = cond (index == barrier) (undos m) 
 owed (Undos last) index m what waiting = []
 owed Serving index m what waiting = checkpoint_behind m what waiting
 
--- behind the barrier: it serves where nothing is pending, else its last Undo has to be applied first
+-- after the barrier: it serves where nothing is pending, else its last Undo has to be applied first
 abbrev pub past_barrier : ℕ → List Content → LeadershipPhase
 past_barrier index [] = Serving
 past_barrier index (u ∷ us) = Undos (index + length (u ∷ us))
@@ -78,7 +78,7 @@ abbrev pub appends : List Content → List Event
 appends [] = []
 appends (c ∷ cs) = Append (c ∷ cs) ∷ []
 
--- it begins to serve, where it didn't
+-- it begins to serve, if it didn't
 abbrev pub begins : LeadershipPhase → LeadershipPhase → List Event
 begins old new = cond (not (serves old) && serves new) (Serve ∷ []) []
 
@@ -86,7 +86,7 @@ begins old new = cond (not (serves old) && serves new) (Serve ∷ []) []
 abbrev pub duties : LeadershipPhase → ℕ → Machine → AppliedEffect → List Entry → List Event
 duties phase index m what waiting = appends (owed phase index m what waiting) ++ begins phase (phase_after phase index m)
 
--- ---- the office that a life is in
+-- ---- the leadership that a life is in
 
 -- The log ends with the Undos for all that was pending when its front was applied.
 pub record EndsWithUndos (log : List Entry) (term : ℕ) : Type 0 where
@@ -99,6 +99,6 @@ IsPhase (Barrier barrier) serving log term = (serving ≡ false) × (length log 
 IsPhase (Undos last) serving log term = (serving ≡ false) × (length log ≡ last) × EndsWithUndos log term
 IsPhase Serving serving log term = serving ≡ true
 
--- the life is that of a leader in this office
+-- the life is that of a leader in this leadership
 abbrev pub InOffice : Leadership → Life → Type 0
 InOffice office w = (w.leads ≡ true) × (w.term ≡ office.term) × IsPhase office.phase w.serving w.log w.term

@@ -18,7 +18,7 @@ abbrev pub command_read : Result Command CommandFault → Option Command
 command_read (Ok command) = Some command
 command_read (Err fault) = None
 
--- the configuration that was read and the place behind it, if one was
+-- the configuration that was read and the place after it, if one was
 abbrev pub servers_read : Result (List Server × ℕ) ServersFault → Option (List Server × ℕ)
 servers_read (Ok read) = Some read
 servers_read (Err fault) = None
@@ -28,7 +28,7 @@ abbrev pub contents_read : Result (List Content) SnapFault → Option (List Cont
 contents_read (Ok contents) = Some contents
 contents_read (Err fault) = None
 
--- What was read is spelled so.
+-- What was read is encoded so.
 abbrev pub WritesIf : List ℕ → Option Command → Type 0
 WritesIf bytes None = Unit {0}
 WritesIf bytes (Some command) = Writes command bytes
@@ -37,7 +37,7 @@ abbrev pub WritesServersIf : List ℕ → Option (List Server × ℕ) → Type 0
 WritesServersIf bytes None = Unit {0}
 WritesServersIf bytes (Some read) = WritesServers read.0 (take read.1 bytes)
 
--- a machine that was read has no commits and no live marks
+-- a state machine that was read has no commits and no live marks
 abbrev pub IsMachineIf : List ℕ → Option (List Database) → Type 0
 IsMachineIf bytes None = Unit {0}
 IsMachineIf bytes (Some machine) = IsSnapshot (contents_of machine) bytes × (machine ≡ restored (contents_of machine))

@@ -72,7 +72,7 @@ abbrev pub IsRestoredIf : ℕ → List ℕ → Option Applied → Type 0
 IsRestoredIf index bytes None = Unit {0}
 IsRestoredIf index bytes (Some a) = IsRestored index bytes a
 
--- what is offered to a node with databases of these names: nothing where the snapshot lacks one of them
+-- what is offered to a node with databases of these names: nothing if the snapshot lacks one of them
 abbrev pub offered_to : List (List ℕ) → Option NodeSnapshot → Option NodeSnapshot
 offered_to names (Some s) = cond (has_names (names_of s.contents) names) (Some s) None
 offered_to names None = None

@@ -29,11 +29,11 @@ pub struct Applied {
     pub machine: Machine,
     /// The servers of the cluster.
     pub servers: Servers,
-    /// The index of the last entry that was applied, or the snapshot's; 0 where there is none.
+    /// The index of the last entry that was applied, or the snapshot's; 0 without one.
     pub index: u64,
 }
 
-/// Has the machine keep the newest image of the database of a command whole, so that statements are lent it without a copy.
+/// Has the state machine keep the newest image of the database of a command whole, so that statements are lent it without a copy.
 fn keep_whole(machine: &mut Machine, command: &Command)
     ensures { machine.new ≡ machine.old }
 {
@@ -45,7 +45,7 @@ fn keep_whole(machine: &mut Machine, command: &Command)
     }
 }
 
-/// Does what a command says. `Err` means out of memory; the machine is then
+/// Does what a command says. `Err` means out of memory; the state machine is then
 /// unchanged.
 fn act(machine: &mut Machine, command: &Command) -> Result<(), AllocError>
     requires { HasLowNumbers command.now }
@@ -58,14 +58,14 @@ fn act(machine: &mut Machine, command: &Command) -> Result<(), AllocError>
     Ok(())
 }
 
-/// Whether a machine has a database of a name.
+/// Whether a state machine has a database of a name.
 fn has_name(machine: &Machine, name: &Name) -> bool
     ensures { result ≡ is_named (names_of machine.now) name.now }
 {
     machine.newest(name.as_str()).is_some()
 }
 
-/// Whether each of the databases has its name in a machine.
+/// Whether each of the databases has its name in a state machine.
 fn has_each(machine: &Machine, databases: &[Database]) -> bool
     ensures { result ≡ has_names (names_of machine.now) (names_of databases.now) }
 {
@@ -129,7 +129,7 @@ impl Applied {
         }
     }
 
-    /// Applies the next entry: does what its command says, or has its servers, or nothing where it is neither or doesn't
+    /// Applies the next entry: does what its command says, or has its servers, or nothing if it is neither or doesn't
     /// read. Tells what it was. After `Err`, out of memory, all is as before.
     ///
     /// Reads the entry once, and costs what `Machine::act` costs. Each database that a command opens or changes is kept

@@ -1,4 +1,4 @@
-//! The Checkpoint that a serving leader owes behind a commit.
+//! The Checkpoint that a serving leader owes after a commit.
 
 ghost use Rattle.std.specs.Prelude.{◌≡◌, ℕ, List, nat_le, bytes_eq, IfOk, OnOk};
 ghost use Rattle.std.specs.List.{AllByRecursion};
@@ -21,7 +21,7 @@ use std::alloc::{AllocError, Global};
 /// How many pages are committed in a database before a checkpoint of it is due.
 const CHECKPOINT_PAGES: u64 = 1000;
 
-/// Whether so many pages were committed in the database of a name.
+/// Whether this many pages were committed in the database of a name.
 fn has_grown(machine: &Machine, name: &Name) -> bool
     ensures { result ≡ nat_le 1000 ((machine_of machine.now).base name.now).since }
 {
@@ -49,7 +49,7 @@ fn are_same(bytes: &[u8], others: &[u8]) -> bool
     bytes == others
 }
 
-/// Whether bytes are those of a checkpoint, which has one spelling.
+/// Whether bytes are those of a checkpoint, which has one encoding.
 fn is_same(bytes: &[u8], checkpoint: &[u8]) -> bool
     ensures { (name : List ℕ) → Writes (Checkpoint name) checkpoint.now → result ≡ is_checkpoint name (command_seen (command_of bytes.now)) }
 {
@@ -100,7 +100,7 @@ fn checkpoint_due(
     Ok(Entries::new(entries))
 }
 
-/// The same behind an entry that was applied, where it was a commit.
+/// The Checkpoint that a serving leader owes after an entry that was applied: none unless that was a commit.
 pub(crate) fn checkpoint_behind(
     alloc: Global,
     term: u64,

@@ -34,7 +34,7 @@ fn of_command(alloc: Global, bytes: &[u8]) -> Result<Content, AllocError>
     }
 }
 
-/// These servers, where the bytes end with the last of them.
+/// These servers, if the bytes end with the last of them.
 fn ended(servers: Servers, end: u64, size: usize) -> Content
     ensures { meaning result ≡ servers_seen (if end == size then Some servers else None) }
 {
@@ -58,7 +58,7 @@ fn of_change(alloc: Global, bytes: &[u8]) -> Result<Content, AllocError>
 }
 
 /// What an entry is for, as sessions see it: a command; a change of the servers, which reads only where its bytes end with
-/// the last server; or nothing, where it is a leader's first one or doesn't read. What it is for could be written again.
+/// the last server; or nothing, if it is a leader's first one or doesn't read. What it is for could be written again.
 /// Takes memory for what is read.
 pub fn content_of(alloc: Global, entry: &Entry) -> Result<Content, AllocError>
     ensures means { IfOk result (λ content. meaning content ≡ (entry_seen entry.now).content) }

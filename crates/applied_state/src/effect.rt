@@ -1,4 +1,4 @@
-//! What is told of an entry that was applied.
+//! What is reported of an entry that was applied.
 
 ghost use Rattle.std.specs.Prelude.{◌≡◌};
 ghost use Rattle.applied_state.specs.Content.{effect_of_command};
@@ -6,7 +6,7 @@ ghost use Rattle.applied_state.specs.Content.{effect_of_command};
 use dq_base::Name;
 use log_commands::Command;
 
-/// What is told of an entry that was applied.
+/// What is reported of an entry that was applied.
 #[derive(Drop)]
 pub enum AppliedEffect {
     /// It was the last command of a transaction, in the database of this name.
@@ -17,7 +17,7 @@ pub enum AppliedEffect {
     Other,
 }
 
-/// What is told of a command. Moves its name; the pages are dropped.
+/// What is reported of a command. Moves its name; the pages are dropped.
 pub(crate) fn effect_of(command: Command) -> AppliedEffect
     ensures { result ≡ effect_of_command command }
 {

@@ -1,4 +1,4 @@
-//! What holds of offices in every life, and of snapshots.
+//! What holds of leaderships in every life, and of snapshots.
 
 ghost use Rattle.applied_state.specs.Laws.{LivesAreShown, OfficesGoOn, OfficesStay, SnapshotsRead, SnapshotsAreSpelled, BothFormsAreSpelled};
 
@@ -10,14 +10,14 @@ pub fn lives_are_shown()
     ensures { LivesAreShown }
 {}
 
-/// What a leader owes fits its life: where its life is that of a leader in an office, and it has applied an entry, then the
-/// events by which it appends what it owes and begins to serve may happen, and its life is that of a leader in the office
-/// behind them. So it serves only where its barrier is applied, all of its log with it, and no page is pending.
+/// What a leader owes fits its life: if its life is that of a leader in a leadership, and it has applied an entry, then the
+/// events by which it appends what it owes and begins to serve may happen, and its life is that of a leader in the leadership
+/// after them. So it serves only if its barrier is applied, all of its log with it, and no page is pending.
 pub fn offices_go_on<E: Engine>()
     ensures { (kind : _) → OfficesGoOn (E.meaning kind) kind }
 {}
 
-/// Requests, connections that come and go, and entries that are applied leave a leader in its office: one that doesn't serve
+/// Requests, connections that come and go, and entries that are applied leave a leader in its leadership: one that doesn't serve
 /// appends nothing by them.
 pub fn offices_stay()
     ensures { OfficesStay }

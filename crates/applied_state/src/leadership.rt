@@ -1,4 +1,4 @@
-//! The office of a leader: from when on it serves, and which entries it owes.
+//! The leadership of a leader: from when on it serves, and which entries it owes.
 
 ghost use Rattle.std.specs.Prelude.{◌≡◌, ◌+◌, ℕ, true, false, List, length, IfOk, OnOk, OnErr};
 ghost use Rattle.std.specs.List.{AllByRecursion};
@@ -27,7 +27,7 @@ pub enum LeadershipPhase {
     Serving,
 }
 
-/// The office of the leader of a term: it serves once its barrier is applied, and an Undo for each transaction whose pages
+/// The leadership of the leader of a term: it serves once its barrier is applied, and an Undo for each transaction whose pages
 /// were pending then. Until then it appends nothing else.
 #[derive(Clone, Copy, Debug, PartialEq, Eq)]
 pub struct Leadership {
@@ -37,7 +37,7 @@ pub struct Leadership {
     pub phase: LeadershipPhase,
 }
 
-/// How far a leader has come that appends these Undos behind its barrier. There is no memory for so many that the last one
+/// How far a leader has come that appends these Undos after its barrier. There is no memory for so many that the last one
 /// has no index.
 fn past_barrier(index: u64, entries: &Entries) -> Result<LeadershipPhase, AllocError>
     ensures { (term : ℕ) (contents : List Content) → entries.now ≡ written term contents → IfOk result (λ phase. phase ≡ past_barrier index contents) }
@@ -52,10 +52,10 @@ fn past_barrier(index: u64, entries: &Entries) -> Result<LeadershipPhase, AllocE
 }
 
 impl Leadership {
-    /// The office of a leader that was elected in a term, and whose barrier has this index.
+    /// The leadership of a leader that was elected in a term, and whose barrier has this index.
     pub fn won(term: u64, barrier: u64) -> Leadership
         ensures value { result ≡ record { term = term; phase = LeadershipPhase.Barrier barrier } }
-        // The life of a node that won and has appended its barrier is that of a leader in this office.
+        // The life of a node that won and has appended its barrier is that of a leader in this leadership.
         ensures office { (w : Life) → w.leads ≡ true → w.term ≡ term → w.serving ≡ false → length w.log ≡ barrier → InOffice result w }
     {
         Leadership {
@@ -84,10 +84,10 @@ impl Leadership {
     }
 
     /// What the leader appends now that it has applied an entry: its Undos, one for each database with pending pages in the
-    /// order of names, where the entry is its barrier; and while it serves a Checkpoint behind a commit, where 1,000 pages or
+    /// order of names, if the entry is its barrier; and while it serves a Checkpoint after a commit, where 1,000 pages or
     /// more were committed in the database since its last one and none waits. It serves from its barrier on where nothing was
-    /// pending, else from its last Undo on. `waiting` are the entries behind the applied ones. After `Err`, out of memory,
-    /// the office is as before.
+    /// pending, else from its last Undo on. `waiting` are the entries after the applied ones. After `Err`, out of memory,
+    /// the leadership is as before.
     ///
     /// Looks at each name once, and at each entry that waits where a checkpoint is due; reads and copies no entry.
     pub fn on_applied(

@@ -25,7 +25,7 @@ fn no_command(fault: CommandFault) -> Result<(), AllocError>
     }
 }
 
-/// The same of a configuration.
+/// Whether a configuration didn't read because memory ran out.
 fn no_servers(fault: ServersFault) -> Result<(), AllocError>
     ensures goes_on { OnOk result (fault ≢ ServersFault.NoMemory) }
     ensures only { IsErr result → fault ≡ ServersFault.NoMemory }
@@ -36,7 +36,7 @@ fn no_servers(fault: ServersFault) -> Result<(), AllocError>
     }
 }
 
-/// The same of a machine's snapshot.
+/// Whether a state machine's snapshot didn't read because memory ran out.
 fn no_machine(fault: SnapFault) -> Result<(), AllocError>
     ensures goes_on { OnOk result (fault ≢ SnapFault.NoMemory) }
     ensures only { IsErr result → fault ≡ SnapFault.NoMemory }
@@ -61,7 +61,7 @@ pub(crate) fn command_in(alloc: Global, bytes: &[u8]) -> Result<Option<Command>,
     }
 }
 
-/// The configuration with which the bytes begin, if they begin with one, and the place behind it.
+/// The configuration with which the bytes begin, if they begin with one, and the place after it.
 pub(crate) fn servers_in(alloc: Global, bytes: &[u8]) -> Result<Option<(Servers, u64)>, AllocError>
     ensures exact { IfOk result (λ read. read ≡ servers_read (servers_of bytes.now)) }
     ensures found { IfOk result (WritesServersIf bytes.now) }
@@ -75,7 +75,7 @@ pub(crate) fn servers_in(alloc: Global, bytes: &[u8]) -> Result<Option<(Servers,
     }
 }
 
-/// The machine of the machine's snapshot that the bytes are, if they are one.
+/// The state machine of the state machine's snapshot that the bytes are, if they are one.
 pub(crate) fn machine_in(alloc: Global, bytes: &[u8]) -> Result<Option<Machine>, AllocError>
     ensures exact { IfOk result (λ machine. option_map contents_of machine ≡ contents_read (snapshot_of bytes.now)) }
     ensures found { IfOk result (IsMachineIf bytes.now) }

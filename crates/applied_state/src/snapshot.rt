@@ -26,7 +26,7 @@ use wire_words::{WireBytes, Writer};
 /// The first word of a node's snapshot. A snapshot without it begins with the number of its servers, at most 9.
 const SNAPSHOT_FORMAT: u64 = 258;
 
-/// What is left of bytes behind so many; nothing where there are fewer.
+/// What is left of bytes after this many; nothing if there are fewer.
 fn rest(bytes: &[u8], count: u64) -> &[u8]
     ensures { result.now ≡ drop count bytes.now }
 {
@@ -61,7 +61,7 @@ fn format_word(alloc: Global) -> Result<Vec<u8>, AllocError>
     Ok(out.finish().into_vec())
 }
 
-/// What is applied at the index of a snapshot of these servers, if the bytes behind them are a machine's snapshot.
+/// What is applied at the index of a snapshot of these servers, if the bytes after them are a state machine's snapshot.
 fn behind(
     alloc: Global,
     index: u64,
@@ -117,7 +117,7 @@ fn spelled(alloc: Global, machine: &Machine, servers: &[Server]) -> Result<WireB
 
 impl Applied {
     /// What a node has applied at a snapshot of this index, of which these are the bytes: servers, and databases that had no
-    /// commits since and have no live marks. `None` exactly where the bytes are no node's snapshot, which is a format
+    /// commits since and have no live marks. `None` exactly if the bytes are no node's snapshot, which is a format
     /// word, a configuration and the snapshot of the databases, and nothing else; older ones lack the word.
     ///
     /// Each log in it is read once, and its pages are written once more to be compared.
@@ -141,7 +141,7 @@ impl Applied {
         }
     }
 
-    /// What another node's snapshot would bring in place of this. `None` exactly where it is to be taken as lost: its bytes
+    /// What another node's snapshot would bring in place of this. `None` exactly if it is to be taken as lost: its bytes
     /// are no node's snapshot, or it lacks a database that the node has. Costs what `from_snapshot` costs.
     pub fn offered(
         &self,
@@ -161,7 +161,7 @@ impl Applied {
         }
     }
 
-    /// What is offered, where it has each database of this.
+    /// What is offered, if it has each database of this.
     fn accepted(&self, offer: Applied) -> Option<Applied>
         ensures exact { option_map snapshot_value result ≡ offered_to (names_of self.now.machine) (Some (snapshot_value offer)) }
         ensures same { IsSameIf offer result }

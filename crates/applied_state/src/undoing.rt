@@ -49,7 +49,7 @@ fn push_undo(
     Ok(())
 }
 
-/// One Undo for each of a machine's databases with pending pages, as they stand.
+/// One Undo for each of a state machine's databases with pending pages, as they stand.
 fn undos_of(
     alloc: Global,
     term: u64,

@@ -44,7 +44,7 @@ second_holds : (a b : Bool) → (a && b) ≡ true → b ≡ true
 second_holds true b e = e
 second_holds false b e = absurd cc
 
--- what is found where the words aren't refused
+-- what is found where the arguments aren't refused
 pub found_some : (app : App) (words : List Text) (m : ArgMatches) → is_simple_and_free app ≡ true → fault_of app words ≡ [] → HasMatchesOf app words m
     → Some (rows_of (found_of m)) ≡ read_by app words
 found_some app words m simple none has = rw none (ap (λ (rows : List Row). Some rows) (has (first_holds _ _ simple)).0)
@@ -53,7 +53,7 @@ refusing : (kinds : Kinds) (rows : List Row) (k : ErrorKind) → IsAmong k kinds
 refusing [] rows k h = absurd h
 refusing (x ∷ xs) rows k h = refl
 
--- nothing is, where they are
+-- nothing is, if they are
 pub found_none : (app : App) (words : List Text) (e : Error) (r : Result (Option ArgMatches) AllocError) → HasKind (fault_of app words) e
     → IfOk r (λ (none : Option ArgMatches). none ≡ None) → IfOk r (λ (none : Option ArgMatches). kind_of e ≢ kind.OutOfMemory)
     → IfOk r (λ (matches : Option ArgMatches). option_map (λ (found : ArgMatches). rows_of (found_of found)) matches ≡ read_by app words)

@@ -1,4 +1,4 @@
--- What is read behind `serve` can be served.
+-- What is read after `serve` can be served.
 use Rattle.std.proofs.Common.{◌≡◌, ◌≤◌, ◌+◌, ◌&&◌, ℕ, Bool, true, false, not, cond, List, [], ◌∷◌, ◌++◌, length, codes, Option, Some, None, Result, Ok, Err, IfOk, refl, sym, subst, arith}
 use Rattle.std.specs.Prelude.{nat_le, nat_lt, ◌||◌, ◌==◌, ◌^◌, IfSome}
 use Rattle.std.specs.List.{AllByRecursion, position_or_len, before_first, after_first}

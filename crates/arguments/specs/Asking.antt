@@ -1,4 +1,4 @@
--- What the words behind the program's name ask for.
+-- What the arguments after the program's name ask for.
 use Rattle.std.specs.Prelude.{◌≤◌, ◌<◌, ℕ, Bool, true, false, not, ◌&&◌, cond, List, [], ◌∷◌, length, nat_le, codes, Option, Some, None}
 use Rattle.std.specs.List.{list_all}
 use Rattle.std.specs.Option.{option_map}
@@ -15,7 +15,7 @@ use Rattle.arguments.specs.declared.reading.Line.{Line}
 use Rattle.arguments.specs.declared.reading.Line.TheVariants as line
 use Rattle.arguments.specs.Commands.{script_app, statement_app, check_app, generate_app, serve_app, read_by}
 
--- behind `script`
+-- after `script`
 abbrev pub script_in : List Row → Option Invocation
 script_in rows = option_map (λ kind. asks.Script kind) (engine_named (first_of (codes "engine") rows))
 
@@ -31,7 +31,7 @@ statement_with query (Some name) (Some sql) (Some addresses) =
     cond (is_askable name sql addresses) (Some (asks.Statement (record { query = query; name = name; sql = sql; addresses = addresses }))) None
 statement_with query name sql addresses = None
 
--- behind `exec` and `query`
+-- after `exec` and `query`
 abbrev pub statement_in : Bool → List Row → Option Invocation
 statement_in query rows = statement_with query (first_of (codes "NAME") rows) (first_of (codes "SQL") rows) (all_of (codes "ADDRESS") rows)
 
@@ -44,7 +44,7 @@ abbrev pub generate_with : Option ℕ → Option ℕ → Bool → Option Invocat
 generate_with (Some number) (Some count) run = Some (asks.Generate number count run)
 generate_with number count run = None
 
--- behind `gen`
+-- after `gen`
 abbrev pub generate_in : List Row → Option Invocation
 generate_in rows =
     generate_with (number_in 0 2147483647 (first_of (codes "NUMBER") rows)) (number_in 1 2000 (first_of (codes "COUNT") rows))
@@ -85,7 +85,7 @@ asked_by (Some line.Check) words = check_found (read_by check_app words)
 asked_by (Some line.Generate) words = generate_found (read_by generate_app words)
 asked_by (Some line.Serve) words = option_map (λ served. asks.Serve served) (serve_found (read_by serve_app words))
 
--- what the words behind the program's name ask for, if they ask for something
+-- what the arguments after the program's name ask for, if they ask for something
 unfoldable pub asked_of : List Text → Option Invocation
 asked_of [] = None
 asked_of (word ∷ words) = asked_by (line_of word) words

@@ -22,11 +22,11 @@ flag_rule name = record (new_rule name) { long = Some name; action = Some SetTru
 abbrev pub one_rule : Text → Rule
 one_rule name = record (new_rule name) { required = true; action = Some Set }
 
--- all words behind those before, of which there has to be one
+-- all words after those before, of which there has to be one
 abbrev pub several_rule : Text → Rule
 several_rule name = record (new_rule name) { required = true; action = Some Append }
 
--- all words behind those before, of which there may be none
+-- all words after those before, of which there may be none
 abbrev pub any_rule : Text → Rule
 any_rule name = record (new_rule name) { action = Some Append }
 

@@ -1,4 +1,4 @@
--- What the words behind `serve` ask for: a node that is to be served.
+-- What the arguments after `serve` ask for: a node that is to be served.
 use Rattle.std.specs.Prelude.{◌≡◌, ◌≤◌, ℕ, Bool, false, not, ◌||◌, ◌==◌, cond, List, [], ◌∷◌, ◌++◌, length, nat_le, nat_lt, codes, Option, Some, None}
 use Rattle.std.specs.List.{AllByRecursion, list_any, position_or_len, before_first, after_first}
 use Rattle.clap.specs.Walk.{Row, Text, first_of, all_of}
@@ -38,7 +38,7 @@ abbrev pub with_peer : Option Peer → (Peer → Option (List Peer)) → Option 
 with_peer None rest = None
 with_peer (Some p) rest = rest p
 
--- the peers that words name, behind those before, if each names one
+-- the peers that words name, after those before, if each names one
 abbrev pub peers_behind : ℕ → List Peer → List Text → Option (List Peer)
 peers_behind id before [] = Some before
 peers_behind id before (word ∷ words) = with_peer (new_peer id before (peer_of word)) (λ (p : Peer). peers_behind id (before ++ p ∷ []) words)
@@ -54,7 +54,7 @@ abbrev pub events_of : Option Text → Option ℕ
 events_of None = Some 4294967295
 events_of (Some word) = number_in 1 4294967295 (Some word)
 
--- the words behind the address; none where there are none
+-- the arguments after the address; none if there are none
 abbrev pub words_of : Option (List Text) → List Text
 words_of None = []
 words_of (Some words) = words
@@ -72,7 +72,7 @@ abbrev pub serve_in : List Row → Option Serve
 serve_in rows = serve_with (number_in 1 9 (first_of (codes "ID") rows)) (first_of (codes "LISTEN") rows) (words_of (all_of (codes "PEER") rows))
     (engine_named (first_of (codes "engine") rows)) (events_of (first_of (codes "events") rows))
 
--- what a command found, unless it refused the words
+-- what a command found, unless it refused the arguments
 abbrev pub serve_found : Option (List Row) → Option Serve
 serve_found None = None
 serve_found (Some rows) = serve_in rows

@@ -7,7 +7,7 @@ use Rattle.dq_base.specs.Decimal.{number_below}
 use Rattle.sql_engine.specs.declared.kind.EngineKind.{EngineKind}
 use Rattle.sql_engine.specs.declared.kind.EngineKind.TheVariants.{Sqlite, Cells}
 
--- the kind of engine of a name; SQLite's, where none is named
+-- the kind of engine of a name; SQLite's, if none is named
 abbrev pub engine_named : Option Text → Option EngineKind
 engine_named None = Some Sqlite
 engine_named (Some name) = cond (bytes_eq name (codes "sqlite")) (Some Sqlite) (cond (bytes_eq name (codes "cells")) (Some Cells) None)

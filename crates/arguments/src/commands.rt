@@ -42,7 +42,7 @@ fn one<'a>(alloc: Global, name: &'a str) -> Arg<'a>
     Arg::new(alloc, name).required(true).action(ArgAction::Set)
 }
 
-/// All words behind those before, of which there has to be one.
+/// All words after those before, of which there has to be one.
 fn several<'a>(alloc: Global, name: &'a str) -> Arg<'a>
     ensures rule { rule_of result ≡ several_rule name.entry.now }
     ensures local { result.global ≡ false }
@@ -52,7 +52,7 @@ fn several<'a>(alloc: Global, name: &'a str) -> Arg<'a>
         .action(ArgAction::Append)
 }
 
-/// All words behind those before, of which there may be none.
+/// All words after those before, of which there may be none.
 fn any<'a>(alloc: Global, name: &'a str) -> Arg<'a>
     ensures rule { rule_of result ≡ any_rule name.entry.now }
     ensures local { result.global ≡ false }
@@ -60,14 +60,14 @@ fn any<'a>(alloc: Global, name: &'a str) -> Arg<'a>
     Arg::new(alloc, name).action(ArgAction::Append)
 }
 
-/// The command of the words behind `script`.
+/// The command of the arguments after `script`.
 pub(crate) fn script_command<'a>(alloc: Global) -> Result<Command<'a>, AllocError>
     ensures { IfOk result (λ command. app_of command ≡ script_app) }
 {
     plain(alloc, "script").arg(option(alloc, "engine"))
 }
 
-/// The command of the words behind `exec` and `query`.
+/// The command of the arguments after `exec` and `query`.
 pub(crate) fn statement_command<'a>(alloc: Global) -> Result<Command<'a>, AllocError>
     ensures { IfOk result (λ command. app_of command ≡ statement_app) }
 {
@@ -77,14 +77,14 @@ pub(crate) fn statement_command<'a>(alloc: Global) -> Result<Command<'a>, AllocE
         .arg(several(alloc, "ADDRESS"))
 }
 
-/// The command of the words behind `check`.
+/// The command of the arguments after `check`.
 pub(crate) fn check_command<'a>(alloc: Global) -> Command<'a>
     ensures { app_of result ≡ check_app }
 {
     plain(alloc, "check")
 }
 
-/// The command of the words behind `gen`.
+/// The command of the arguments after `gen`.
 pub(crate) fn generate_command<'a>(alloc: Global) -> Result<Command<'a>, AllocError>
     ensures { IfOk result (λ command. app_of command ≡ generate_app) }
 {
@@ -94,7 +94,7 @@ pub(crate) fn generate_command<'a>(alloc: Global) -> Result<Command<'a>, AllocEr
         .arg(flag(alloc, "run"))
 }
 
-/// The options of the words behind `serve`.
+/// The options of the arguments after `serve`.
 fn served_options<'a>(alloc: Global) -> Result<Command<'a>, AllocError>
     ensures { IfOk result (λ command. app_of command ≡ served_options_app) }
 {
@@ -103,7 +103,7 @@ fn served_options<'a>(alloc: Global) -> Result<Command<'a>, AllocError>
         .arg(option(alloc, "events"))
 }
 
-/// The command of the words behind `serve`.
+/// The command of the arguments after `serve`.
 pub(crate) fn serve_command<'a>(alloc: Global) -> Result<Command<'a>, AllocError>
     ensures { IfOk result (λ command. app_of command ≡ serve_app) }
 {
@@ -113,7 +113,7 @@ pub(crate) fn serve_command<'a>(alloc: Global) -> Result<Command<'a>, AllocError
         .arg(any(alloc, "PEER"))
 }
 
-/// Nothing where an error refuses the words. `Err` where it means out of
+/// Nothing where an error refuses the arguments. `Err` where it means out of
 /// memory.
 fn refused<T>(error: Error) -> Result<Option<T>, AllocError>
     ensures refuses { IfOk result (λ none. none ≡ None) }

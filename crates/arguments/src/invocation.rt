@@ -9,10 +9,10 @@ pub enum Invocation {
     Script(EngineKind),
     /// To have the leader of a cluster run a statement.
     Statement(Statement),
-    /// To tell what the files of the working folder stand for.
+    /// To say what the files of the working folder represent.
     Check,
-    /// To write the script of a number, 0 to 2,147,483,647, and of a count of writes, 1 to 2,000; or to run it, and to tell how its
-    /// nodes stand then.
+    /// To write the script of a number, 0 to 2,147,483,647, and of a count of writes, 1 to 2,000; or to run it, and to say how its
+    /// nodes are then.
     Generate { number: u32, count: u32, run: bool },
     /// To serve a node.
     Serve(Serve),

@@ -75,7 +75,7 @@ fn script_in(matches: &ArgMatches<'_>) -> Option<Invocation>
     Some(Invocation::Script(engine_named(value(matches, "engine"))?))
 }
 
-/// The words behind `script`.
+/// The arguments after `script`.
 #[tactic(auto, using(crate::proofs::Found::script_simple))]
 fn read_script(alloc: Global, words: &[String]) -> Result<Option<Invocation>, AllocError>
     ensures { IfOk result (λ asked. asked ≡ script_found (read_by script_app (map string_bytes words.now))) }
@@ -135,7 +135,7 @@ fn statement_in(
     statement_with(alloc, query, name, sql, addresses)
 }
 
-/// The words behind `exec` and `query`.
+/// The arguments after `exec` and `query`.
 #[tactic(auto, using(crate::proofs::Found::statement_simple))]
 fn read_statement(
     alloc: Global,
@@ -150,7 +150,7 @@ fn read_statement(
     }
 }
 
-/// The words behind `check`.
+/// The arguments after `check`.
 #[tactic(auto, using(crate::proofs::Found::check_simple))]
 fn read_check(alloc: Global, words: &[String]) -> Result<Option<Invocation>, AllocError>
     ensures { IfOk result (λ asked. asked ≡ check_found (read_by check_app (map string_bytes words.now))) }
@@ -203,7 +203,7 @@ fn generate_in(matches: &ArgMatches<'_>) -> Option<Invocation>
     Some(Invocation::Generate { number, count, run })
 }
 
-/// The words behind `gen`.
+/// The arguments after `gen`.
 fn read_generate(alloc: Global, words: &[String]) -> Result<Option<Invocation>, AllocError>
     ensures { IfOk result (λ asked. asked ≡ generate_found (read_by generate_app (map string_bytes words.now))) }
 {
@@ -213,7 +213,7 @@ fn read_generate(alloc: Global, words: &[String]) -> Result<Option<Invocation>, 
     }
 }
 
-/// The words behind `serve`.
+/// The arguments after `serve`.
 fn read_served(alloc: Global, words: &[String]) -> Result<Option<Invocation>, AllocError>
     ensures { IfOk result (λ asked. asked ≡ option_map (λ served. asks.Serve served) (serve_found (read_by serve_app (map string_bytes words.now)))) }
 {
@@ -223,7 +223,7 @@ fn read_served(alloc: Global, words: &[String]) -> Result<Option<Invocation>, Al
     }
 }
 
-/// The words behind the first, by what that says.
+/// The arguments after the first, by what that says.
 fn read_by(alloc: Global, line: Line, words: &[String]) -> Result<Option<Invocation>, AllocError>
     ensures { IfOk result (λ asked. asked ≡ asked_by (Some line) (map string_bytes words.now)) }
 {
@@ -237,13 +237,13 @@ fn read_by(alloc: Global, line: Line, words: &[String]) -> Result<Option<Invocat
     }
 }
 
-/// Reads what the words behind the program's name ask for; nothing where they ask for nothing that the program does.
+/// Reads what the arguments after the program's name ask for; nothing if they ask for nothing that the program does.
 ///
-/// The first word is `script`, `exec`, `query`, `check`, `gen` or `serve`. Behind `script` an engine may be named once, as `--engine E` or
-/// `--engine=E`, where E is `sqlite`, which is taken where none is named, or `cells`. Behind `exec` and `query` stand the name of a
-/// database, a text of SQL and 1 to 9 addresses of 1 to 255 bytes. Behind `check` stands nothing. Behind `gen`
+/// The first word is `script`, `exec`, `query`, `check`, `gen` or `serve`. After `script` an engine may be named once, as `--engine E` or
+/// `--engine=E`, where E is `sqlite`, which is taken if none is named, or `cells`. After `exec` and `query` come the name of a
+/// database, a text of SQL and 1 to 9 addresses of 1 to 255 bytes. After `check` comes nothing. After `gen`
 /// stand a number of 0 to 2,147,483,647 and one of 1 to 2,000, in decimal without sign or leading zeros, and `--run` where the script is
-/// to be run. What stands behind `serve` is told at `read_serve`. No text may hold a NUL. The word `--` ends the options, and before it a
+/// to be run. What follows `serve` is told at `read_serve`. No text may hold a NUL. The word `--` ends the options, and before it a
 /// longer word that begins with `-` is an option; there is no help.
 #[tactic(auto, unfolding(crate::specs::Asking::asked_of))]
 pub fn read_words(alloc: Global, words: &[String]) -> Result<Option<Invocation>, AllocError>

@@ -1,4 +1,4 @@
-//! The words behind `serve`.
+//! The arguments after `serve`.
 
 ghost use Rattle.std.specs.Prelude.{◌≡◌, [], Some, None, IfOk, IfSome, map, string_bytes};
 ghost use Rattle.std.specs.Option.{option_map};
@@ -159,10 +159,10 @@ fn serve_in(alloc: Global, matches: &ArgMatches<'_>) -> Result<Option<Serve>, Al
     }
 }
 
-/// Reads the words behind `serve`: the node that they name, or nothing where they name none.
+/// Reads the arguments after `serve`: the node that they name, or nothing if they name none.
 ///
 /// The id is a number of 1 to 9. An address has 1 to 255 bytes and no NUL; a peer is named as `N=ADDRESS`, with an N of 1 to 9. No two of
-/// the node and its peers have one number, and there are at most six peers. `--engine E` stands as behind `script`, and `--events K` with
+/// the node and its peers have one number, and there are at most six peers. `--engine E` is as after `script`, and `--events K` with
 /// a number of 1 to 4,294,967,295, the greatest where it isn't there.
 #[tactic(auto, using(crate::proofs::Found::serve_simple))]
 pub fn read_serve(alloc: Global, words: &[String]) -> Result<Option<Serve>, AllocError>

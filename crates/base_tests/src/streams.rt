@@ -45,7 +45,7 @@ fn reads_go_on_after_interruptions_and_failures(rt: HostRuntime) {
         ],
     });
     let mut into = [0u8; 4];
-    // What each read answers, what stands in the buffer then, and the count of faults.
+    // What each read answers, what is in the buffer then, and the count of faults.
     let wanted = [
         (Ok(2), *b"ab\0\0", 1),
         (Ok(4), *b"cdef", 1),
@@ -67,7 +67,7 @@ enum Writing {
     Breaks,
     /// It takes these bytes, with which the piece has to begin; another piece breaks it.
     Takes(&'static [u8]),
-    /// It takes so many bytes.
+    /// It takes this many bytes.
     TakesAny(usize),
 }
 

@@ -14,14 +14,14 @@ fn filled_file(alloc: Global, len: usize, byte: u8) -> Result<Bytes, AllocError>
     Ok(Items::new(vec![in alloc; byte; len]?))
 }
 
-/// A copy of an image whose main file is so many bytes 7, and the side file so many bytes 9.
+/// A copy of an image whose main file is this many bytes 7, and the side file this many bytes 9.
 fn image_of(alloc: Global, main: usize, side: usize) -> Result<Image, AllocError> {
     let main = filled_file(alloc, main, 7)?;
     let side = filled_file(alloc, side, 9)?;
     Image { main, side }.try_clone(alloc)
 }
 
-/// A page that begins with two numbers of eight bytes, and has one byte behind them.
+/// A page that begins with two numbers of eight bytes, and has one byte after them.
 fn page_of(main: u64, side: u64, after: u8) -> Page {
     let mut bytes = zeroed_bytes();
     bytes[..8].copy_from_slice(&main.to_le_bytes());
@@ -63,7 +63,7 @@ fn fault_of(alloc: Global, set: &PageSet) -> Result<(Result<(), PageFault>, bool
     Ok((answer, kept))
 }
 
-/// A copy of the text's name, where it is one.
+/// A copy of the text's name, if it is one.
 fn copied_name(alloc: Global, text: String) -> Result<Option<Name>, AllocError> {
     let Some(name) = Name::new(text) else {
         return Ok(None);

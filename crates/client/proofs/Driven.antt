@@ -256,7 +256,7 @@ has_cause start now addresses (client_ends.Refused code text) d = d
 has_cause start now addresses (client_ends.NoLeader n) d = d
 has_cause start now addresses client_ends.Unknown d = d
 
--- where the client has come to its end
+-- where the client has ended
 pub ends_so : (start now : Net) (first run : Run) (end : ClientEnd) → Going start first now run → run.does ≡ does.Done end
     → HaveEnded first start.calls now.calls end × EndHasCause start now (length first.core.addresses) end
 ends_so start now first run end g e = (
@@ -272,13 +272,13 @@ begins_as start course run b e = subst (λ (r : Run). Going start (started cours
 pub unmoved : (start : Net) (first : Run) → HaveNamed first start.calls start.calls
 unmoved start first = have_named first start.calls start.calls first (none_led first start.calls)
 
--- what it comes to
+-- its outcome
 pub ended : (start now : Net) (first run : Run) (r : Result ClientEnd AllocError) → Going start first now run → IfOk r (λ (end : ClientEnd). run.does ≡ does.Done end)
     → Drives start first now r
 ended start now first run (Ok end) g e = ends_so start now first run end g e
 ended start now first run (Err f) g e = have_named first start.calls now.calls run g.led
 
--- where memory runs out
+-- if memory runs out
 pub stopped : (start now : Net) (first : Run) (r : Result ClientEnd AllocError) (f : AllocError) → r ≡ Err f → HaveNamed first start.calls now.calls → Drives start first now r
 stopped start now first r f e h = subst (λ (x : Result ClientEnd AllocError). Drives start first now x) (sym e) h
 

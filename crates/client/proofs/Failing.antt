@@ -19,7 +19,7 @@ failures_on (c ∷ calls) call =
     let rest : failures (calls ++ call ∷ []) ≡ failures calls + weight call = failures_on calls call in
     omega arith
 
--- a count rose by what the call adds, or has come to its last value
+-- a count rose by what the call adds, or is at its last value
 grew : (old new : ℕ) (b : Bool) → old ≤ new → (b ≡ true → Rose old new) → (old + cond b 1 0 ≤ new) ⊎ (last_count ≤ new)
 grew old new false le rose = inl (omega arith)
 grew old new true le rose = by (rose refl)
@@ -74,6 +74,6 @@ none_counted faults (Some calls) = inl (omega arith)
 pub none_failed : (start : Net) → HaveFailed start start
 none_failed start = record { never_falls = omega arith; dials = inl (omega arith); calls = none_counted start.faults start.calls }
 
--- behind a call after which memory ran out
+-- after a call after which memory ran out
 pub stops_failed : (start old new : Net) (run : Run) → HaveFailed start old → Stops old run new → HaveFailed start new
 stops_failed start old new run f o = failed_on start old new o.call f o.made

@@ -47,7 +47,7 @@ abbrev pub IsNew : Awaited → ℕ → Type 0
 IsNew awaited.Begin tries = tries ≡ 0
 IsNew a tries = Unit {0}
 
--- where the client can be
+-- if the client can be
 pub record Stands (a : Awaited) (course : Course) (bodies : List (List ℕ)) : Type 0 where
   pub left : course.tries < 3 * length course.addresses
   pub read : AreRead (held_of a bodies) course.parts

@@ -15,7 +15,7 @@ pub note_tells : (old new : Option (List NetCall)) (call : NetCall) (b : Bool) �
 note_tells old new call true h = tells old new call h
 note_tells old new call false h = lost old new call h
 
--- where memory ran out nothing is told of any call
+-- if memory ran out nothing is reported of any call
 pub dropped : (old new : Option (List NetCall)) (call other : NetCall) (b : Bool) → b ≡ false → Notes old new call b → Tells old new other
 dropped old new call other true e h = absurd (true≢false e)
 dropped old new call other false e h = lost old new other h

@@ -22,7 +22,7 @@ ended_named first before None end h = tt
 ended_named first None (Some all) end h = absurd h
 ended_named first (Some before) (Some all) end (calls, is, named, done) = (calls, is, named)
 
--- what is told of an end to which a client was driven
+-- what is reported of an end to which a client was driven
 pub told_as : (start : Net) (first : Run) (now : Net) (end : ClientEnd) (r : ClientStatus) → IsOf end r
     → HaveEnded first start.calls now.calls end × EndHasCause start now (length first.core.addresses) end → HasRun start first now r
 told_as start first now end (Ended told) is h =

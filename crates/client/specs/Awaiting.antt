@@ -12,7 +12,7 @@ use Rattle.client.specs.declared.course.Awaited.{Awaited}
 use Rattle.client.specs.declared.course.Awaited.TheVariants as awaited
 use Rattle.client.specs.Laws.{Turn}
 
--- that it begins; what comes of its dial; what comes on its link; nothing, as it has come to its end
+-- that it begins; what comes of its dial; what comes on its connection; nothing, as it has ended
 pub data Awaits : Type 0 where
   ToBegin : Awaits
   ToDial : Awaits
@@ -43,12 +43,12 @@ awaits_of awaited.Db = ToHear
 awaits_of awaited.Answer = ToHear
 awaits_of awaited.Nothing = ToRest
 
--- a part of rows behind which another follows
+-- a part of rows after which another follows
 abbrev pub IsPart : ClientEvent → Type 0
 IsPart (events.Got (responses.Rows body)) = (part : Part) × (part_of body ≡ Ok (part, Follows))
 IsPart event = ⊥
 
--- The client waits where something isn't awaited, and at a part of rows behind which another follows, and nowhere else.
+-- The client waits where something isn't awaited, and at a part of rows after which another follows, and nowhere else.
 abbrev pub Heeds : Awaits → ClientEvent → ClientAction → Type 0
 Heeds awaits event Wait = (is_awaited awaits event ≡ false) ⊎ IsPart event
 Heeds awaits event (Dial address) = is_awaited awaits event ≡ true

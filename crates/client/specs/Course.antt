@@ -54,7 +54,7 @@ awaiting next course = record course { awaited = next }
 abbrev pub sends : List ℕ → Awaited → Course → Turned
 sends bytes next course = (Send bytes, awaiting next course)
 
--- it has come to its end
+-- it has ended
 abbrev pub ends : ClientEnd → Course → Turned
 ends end course = (Done end, record course { awaited = awaited.Nothing; parts = []; size = 0 })
 
@@ -85,13 +85,13 @@ abbrev pub on_begin : Course → ClientEvent → Turned
 on_begin course events.Begin = dials course
 on_begin course event = waits course
 
--- a new link: which server leads
+-- a new connection: which server leads
 abbrev pub on_link : Course → ClientEvent → Turned
 on_link course events.Dialled = sends leader_bytes awaited.Server course
 on_link course events.NotDialled = try_ends course
 on_link course event = waits course
 
--- a new link to the leader
+-- a new connection to the leader
 abbrev pub on_leader_link : Course → ClientEvent → Turned
 on_leader_link course events.Dialled = sends (opening_bytes course.name) awaited.Db course
 on_leader_link course events.NotDialled = try_ends course

@@ -31,7 +31,7 @@ pub record Stops (old : Net) (from : Run) (new : Net) : Type 0 where
   pub made : Made old new call
   pub named : IsNamed from.does call
 
--- what was dialled at least, in so many tries that have ended: the dials, and that there was a link
+-- what was dialled at least, in this many tries that have ended: the dials, and that there was a connection
 abbrev pub FineAt : Awaited → (ℕ → Type 0) → Type 0 → ℕ → Type 0
 FineAt awaited.Begin dials link tries = dials tries
 FineAt awaited.Link dials link tries = dials tries
@@ -53,14 +53,14 @@ pub record Going (start : Net) (first : Run) (now : Net) (run : Run) : Type 0 wh
   pub done : DoneBy (HaveDialled start now) (start.dialled < now.dialled) (length run.core.addresses) run.does
   pub same : run.core.addresses ≡ first.core.addresses
 
--- Where the calls are told, those since then are the ones that the client named, in order.
+-- If the calls are reported, those since then are the ones that the client named, in order.
 abbrev pub HaveNamed : Run → Option (List NetCall) → Option (List NetCall) → Type 0
 HaveNamed first before None = Unit {0}
 HaveNamed first None (Some all) = ⊥
 HaveNamed first (Some before) (Some all) = (calls : List NetCall) × (all ≡ before ++ calls) × AreNamed first calls
 
--- Where the calls are told, those since then are the ones that the client named, in order, and by the events that their answers
--- make it came to this end.
+-- If the calls are reported, those since then are the ones that the client named, in order, and by the events that their answers
+-- make it ended with this end.
 abbrev pub HaveEnded : Run → Option (List NetCall) → Option (List NetCall) → ClientEnd → Type 0
 HaveEnded first before None end = Unit {0}
 HaveEnded first None (Some all) end = ⊥

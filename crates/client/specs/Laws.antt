@@ -41,14 +41,14 @@ kind_of bytes = slice_index bytes 4
 unfoldable pub is_statement : List ℕ → Bool
 is_statement bytes = (kind_of bytes == 8) || (kind_of bytes == 9)
 
--- OPEN, which may stand behind the word of the version
+-- OPEN, which may follow the word of the version
 unfoldable pub is_open : List ℕ → Bool
 is_open bytes = (kind_of bytes == 3) || (kind_of (drop 8 bytes) == 3)
 
--- ---- how it stands with the statement
+-- ---- how it is with the statement
 
--- It isn't sent in this try, and on the link the database was asked for or not; it is sent, and since then these bodies of rows
--- have come; or the client has come to its end.
+-- It isn't sent in this try, and on the connection the database was asked for or not; it is sent, and since then these bodies of rows
+-- have come; or the client has ended.
 pub data Phase : Type 0 where
   Free : Bool → Phase
   Stated : List (List ℕ) → Phase
@@ -69,7 +69,7 @@ phase_after phase event (Send bytes) = if is_statement bytes then Stated [] else
 phase_after phase event Wait = heard phase event
 phase_after phase event (Done end) = Over
 
--- A server names another address as the leader's, on a link on which the database wasn't asked for.
+-- A server names another address as the leader's, on a connection on which the database wasn't asked for.
 abbrev pub is_followed : Phase → ClientEvent → Bool
 is_followed (Free false) (events.Got (responses.Server id address)) = not (id == 0)
 is_followed phase event = false
@@ -86,7 +86,7 @@ abbrev pub IsElsewhere : ClientEvent → Type 0
 IsElsewhere (events.Got (responses.Failure code text)) = code ≡ 10250
 IsElsewhere event = ⊥
 
--- By this the client begins, or a try ends in which no statement was sent: there is no link, or another response than the awaited
+-- By this the client begins, or a try ends in which no statement was sent: there is no connection, or another response than the awaited
 -- one, or none leads; or OPEN is answered 10250.
 abbrev pub BeginsOrEnds : ℕ → Bool → ClientEvent → Type 0
 BeginsOrEnds tries opened events.Begin = tries ≡ 0
@@ -117,7 +117,7 @@ abbrev pub MayDial : Bool → Wanted → ℕ → Bool → ClientEvent → List �
 MayDial true wanted tries opened event address = IsNamed event address
 MayDial false wanted tries opened event address = IsNextTry wanted tries address × BeginsOrEnds tries opened event
 
--- The statement is sent only when the database is open on this link.
+-- The statement is sent only when the database is open on this connection.
 abbrev pub MaySend : Bool → Wanted → Bool → ClientEvent → List ℕ → Type 0
 MaySend true wanted opened (events.Got (responses.Db id)) bytes = (opened ≡ true) × (bytes ≡ statement_bytes wanted.query id wanted.sql)
 MaySend true wanted opened event bytes = ⊥
@@ -138,7 +138,7 @@ abbrev pub bytes_in : List (List ℕ) → ℕ
 bytes_in [] = 0
 bytes_in (body ∷ bodies) = length body + bytes_in bodies
 
--- these are the parts of these bodies, and behind each another follows
+-- these are the parts of these bodies, and after each another follows
 abbrev pub AreRead : List (List ℕ) → List Part → Type 0
 AreRead [] [] = Unit {0}
 AreRead (body ∷ bodies) (part ∷ parts) = (part_of body ≡ Ok (part, Follows)) × AreRead bodies parts
@@ -186,7 +186,7 @@ abbrev pub IsWait : ClientAction → Type 0
 IsWait Wait = Unit {0}
 IsWait does = ⊥
 
--- What a client may do, by how it stands with the statement. After the statement it goes on only where that was answered 10250, and
+-- What a client may do, by how it is with the statement. After the statement it continues only if that was answered 10250, and
 -- never sends another one before.
 abbrev pub Obeys : Wanted → ℕ → Phase → ClientEvent → ClientAction → Type 0
 Obeys wanted tries (Free opened) event (Dial address) = MayDial (is_followed (Free opened) event) wanted tries opened event address
@@ -216,7 +216,7 @@ abbrev pub any_statement : List Turn → Bool
 any_statement [] = false
 any_statement (turn ∷ turns) = sends_statement turn.does || any_statement turns
 
--- the answer at a turn, where the client doesn't wait there
+-- the answer at a turn, if the client doesn't wait there
 abbrev pub IsFirst : ClientAction → ClientEvent → Type 0 → Type 0
 IsFirst Wait event behind = behind
 IsFirst (Dial address) event behind = IsElsewhere event

@@ -4,7 +4,7 @@ use Rattle.dq_base.specs.Calls.{Counted}
 use Rattle.client.specs.declared.dialer.NetCall.{NetCall}
 use Rattle.client.specs.Net.{Net}
 
--- the bytes of the links to come, what is left of those of its link, its calls, the counts of its dials, and its calls where they
+-- the bytes of the connections to come, what is left of those of its connection, its calls, the counts of its dials, and its calls where they
 -- are told
 pub record Linked : Type 0 where
   pub answers : List (List ℕ)

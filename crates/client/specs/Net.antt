@@ -5,14 +5,14 @@ use Rattle.dq_base.specs.Faults.{HasCause, one_more, last_count}
 use Rattle.client.specs.declared.dialer.NetCall.{NetCall}
 use Rattle.client.specs.declared.dialer.NetCall.TheVariants.{Dial, Write, Read}
 
--- how often a call failed, an address was dialled, and one could not be; and the calls so far, where they are told
+-- how many times a call failed, an address was dialled, and one could not be; and the calls so far, if they are known
 pub record Net : Type 0 where
   pub faults : ℕ
   pub dialled : ℕ
   pub undialled : ℕ
   pub calls : Option (List NetCall)
 
--- where the calls are told after this one, it stands behind those that were told before it
+-- if the calls are reported after this one, it follows those that were told before it
 abbrev pub Tells : Option (List NetCall) → Option (List NetCall) → NetCall → Type 0
 Tells before None call = Unit {0}
 Tells None (Some calls) call = ⊥
@@ -43,7 +43,7 @@ pub record Writes (old new : Net) (bytes : List ℕ) (result : Result Unit Faile
   pub counts : SameDials old new
   pub told : Tells old.calls new.calls (Write bytes (succeeded result))
 
--- the bytes of a read, which stand at the front of the buffer
+-- the bytes of a read, which are at the front of the buffer
 abbrev pub read_bytes : List ℕ → Result ℕ Failed → Option (List ℕ)
 read_bytes buffer (Ok n) = Some (take n buffer)
 read_bytes buffer (Err fault) = None
@@ -66,14 +66,14 @@ abbrev pub failures : List NetCall → ℕ
 failures [] = 0
 failures (call ∷ calls) = cond (has_failed call) 1 0 + failures calls
 
--- where the calls are told, the count of faults rose by as many at least as failed of those since then, or has come to its last value
+-- if the calls are reported, the count of faults rose by as many at least as failed of those since then, or is at its last value
 abbrev pub FailuresCount : ℕ → ℕ → Option (List NetCall) → Option (List NetCall) → Type 0
 FailuresCount faults_before faults_now before None = Unit {0}
 FailuresCount faults_before faults_now None (Some all) = ⊥
 FailuresCount faults_before faults_now (Some before) (Some all) =
     (faults_before + failures all ≤ faults_now + failures before) ⊎ (last_count ≤ faults_now)
 
--- The count of faults did not fall; and it rose once at least for each dial and each call that failed, or has come to its last value.
+-- The count of faults did not fall; and it rose once at least for each dial and each call that failed, or is at its last value.
 pub record HaveFailed (start now : Net) : Type 0 where
   pub never_falls : start.faults ≤ now.faults
   pub dials : (start.faults + now.undialled ≤ now.faults + start.undialled) ⊎ (last_count ≤ now.faults)

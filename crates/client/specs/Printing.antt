@@ -9,7 +9,7 @@ use Rattle.wire_rows.specs.declared.part.Part.{Part}
 use Rattle.client.specs.declared.events.ClientEnd.{ClientEnd}
 use Rattle.client.specs.declared.events.ClientEnd.TheVariants as client_ends
 
--- a byte of a text: a backslash, a tab, an LF and a CR stand as a backslash and a sign
+-- a byte of a text: a backslash, a tab, an LF and a CR are written as a backslash and a sign
 abbrev pub escaped_byte : ℕ → List ℕ
 escaped_byte byte =
     if byte == 92 then codes "\\\\" else if byte == 9 then codes "\\t" else if byte == 10 then codes "\\n" else if byte == 13 then codes "\\r" else byte ∷ []

@@ -29,11 +29,11 @@ event_of (Err fault) = Broken
 unfoldable pub message_event : List ℕ → ClientEvent
 message_event bytes = event_of (response_of 0 (message_with (header_of bytes) (drop 8 bytes)))
 
--- what comes of an answer, where something does, and the bytes of a message that isn't there whole
+-- what comes of an answer, if something does, and the bytes of a message that isn't there whole
 abbrev pub Came : Type 0
 Came = Option ClientEvent × List ℕ
 
--- what comes of a message with this header: one that claims more than 2,097,152 words breaks the link
+-- what comes of a message with this header: one that states more than 2,097,152 words breaks the connection
 abbrev pub heard_behind : Header → List ℕ → Came
 heard_behind header bytes =
     if nat_lt 2097152 header.words then (Some Broken, [])
@@ -44,7 +44,7 @@ heard_behind header bytes =
 unfoldable pub heard : List ℕ → Came
 heard bytes = if nat_lt (length bytes) 8 then (None, bytes) else heard_behind (header_of bytes) bytes
 
--- what comes of a read: at the end of the link it is broken
+-- what comes of a read: at the end of the connection it is broken
 abbrev pub read_of : List ℕ → List ℕ → Came
 read_of held [] = (Some Broken, [])
 read_of held (byte ∷ bytes) = heard (held ++ byte ∷ bytes)
@@ -91,13 +91,13 @@ pub record Leads (from : Run) (calls : List NetCall) (to : Run) : Type 0 where
   pub named : AreNamed from calls
   pub reached : after_calls from calls ≡ to
 
--- Where the calls are told, those since then lead to this run.
+-- If the calls are reported, those since then lead to this run.
 abbrev pub HasLed : Run → Option (List NetCall) → Option (List NetCall) → Run → Type 0
 HasLed from before None to = Unit {0}
 HasLed from None (Some all) to = ⊥
 HasLed from (Some before) (Some all) to = (calls : List NetCall) × (all ≡ before ++ calls) × Leads from calls to
 
--- whether the client has come to its end
+-- whether the client has ended
 abbrev pub is_done : ClientAction → Bool
 is_done (does.Done end) = true
 is_done does = false
@@ -135,11 +135,11 @@ abbrev pub Performs : Net → Net → ClientAction → List ℕ → List ℕ →
 Performs old new does held left result =
     (call : NetCall) × Made old new call × IsNamed does call × IfOk result (λ came. (came, left) ≡ came_of held call)
 
--- the two counts of dials rose by so much together, or that of the failed ones stands at its last value
+-- the two counts of dials rose by so much together, or that of the failed ones is at its last value
 abbrev pub HaveDialled : Net → Net → ℕ → Type 0
 HaveDialled start now n = (start.dialled + start.undialled + n ≤ now.dialled + now.undialled) ⊎ (now.undialled ≡ last_count)
 
--- An end that a server had to answer for comes only where an address was dialled; that no leader was found, only where three dials
+-- An end that a server had to answer for comes only if an address was dialled; that no leader was found, only if three dials
 -- were made for each address.
 abbrev pub EndHasCause : Net → Net → ℕ → ClientEnd → Type 0
 EndHasCause start now addresses (client_ends.NoLeader n) = HaveDialled start now (3 * addresses)

@@ -16,7 +16,7 @@ volatile_name = codes "volatile"
 unfoldable pub open_bytes : List ℕ → List ℕ
 open_bytes name = request_bytes (Open name 0 volatile_name)
 
--- the same on a new link, behind the word of the version
+-- the same on a new connection, after the word of the version
 unfoldable pub opening_bytes : List ℕ → List ℕ
 opening_bytes name = version_word ++ open_bytes name
 

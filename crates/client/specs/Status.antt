@@ -17,7 +17,7 @@ HasRun start first now (Ended end) = HaveEnded first start.calls now.calls end �
 HasRun start first now WriteFault = HaveNamed first start.calls now.calls
 HasRun start first now NoMemory = HaveNamed first start.calls now.calls
 
--- What is printed of the end was printed; or a front of it, where the sink failed; or nothing.
+-- What is printed of the end was printed; or a front of it, if the sink failed; or nothing.
 abbrev pub HasPrinted : Option (List ℕ) → Option (List ℕ) → ClientStatus → Type 0
 HasPrinted old new (Ended end) = Appends old new (end_text end)
 HasPrinted old new WriteFault = (end : ClientEnd) × AppendsFront old new (end_text end)

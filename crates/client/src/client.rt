@@ -13,9 +13,9 @@ use wire_words::WireText;
 /// what happens and says what to do.
 ///
 /// A try dials an address of its list and asks there which server leads. An answer that names another address is followed
-/// once. It opens the database and then sends the statement. A try ends, and the next address follows, where there is no
-/// link or it breaks before the statement was sent, where no leader is known, where something else than the awaited response
-/// comes before the statement, and where a server answers 10250, by which it says that it doesn't lead. It goes three rounds.
+/// once. It opens the database and then sends the statement. A try ends, and the next address follows, if there is no
+/// connection or it breaks before the statement was sent, if no leader is known, if something else than the awaited response
+/// comes before the statement, and if a server answers 10250, by which it says that it doesn't lead. It goes three rounds.
 #[derive(Drop)]
 pub struct ClientCore {
     alloc: Global,
@@ -68,7 +68,7 @@ impl ClientCore {
     }
 
     /// Something happens; answers what is to be done. First only `Begin` is awaited, after a `Dial` only `Dialled` and
-    /// `NotDialled`, after a `Send` or a `Wait` on a link only `Got` and `Broken`, and after `Done` nothing; what isn't
+    /// `NotDialled`, after a `Send` or a `Wait` on a connection only `Got` and `Broken`, and after `Done` nothing; what isn't
     /// awaited is answered by `Wait` and changes nothing. `Err` means out of memory, and changes nothing either.
     #[tactic(auto, using(crate::proofs::Sound::stays_sound))]
     pub fn step(&mut self, event: &ClientEvent) -> Result<ClientAction, AllocError>

@@ -40,7 +40,7 @@ pub(crate) enum Awaited {
     Db,
     /// The answer to the statement.
     Answer,
-    /// Nothing: it has come to its end.
+    /// Nothing: it has ended.
     Nothing,
 }
 
@@ -69,7 +69,7 @@ fn text_at(texts: &[WireText], at: usize) -> &WireText
     &texts[at]
 }
 
-/// Puts a part behind others. `Err` means out of memory, and leaves them as they
+/// Puts a part after others. `Err` means out of memory, and leaves them as they
 /// were.
 fn append(alloc: Global, parts: &mut Items<Part>, part: Part) -> Result<(), AllocError>
     ensures ok { OnOk result (parts.new ≡ parts.old ++ part ∷ []) }
@@ -114,7 +114,7 @@ impl Course {
         address.as_str() == self.own_address().as_str()
     }
 
-    /// It comes to an end.
+    /// It ends.
     fn end(&mut self, alloc: Global, end: ClientEnd) -> ClientAction
         ensures { (result, self.new) ≡ ends end self.old }
     {
@@ -124,7 +124,7 @@ impl Course {
         ClientAction::Done(end)
     }
 
-    /// It comes to the end that a server refused.
+    /// It reaches the end that a server refused.
     fn refuse(
         &mut self,
         alloc: Global,
@@ -313,7 +313,7 @@ impl Course {
         self.refuse(alloc, code, text)
     }
 
-    /// A part of the rows came, whose body has so many bytes.
+    /// A part of the rows came, whose body has this many bytes.
     fn part_is(
         &mut self,
         alloc: Global,

@@ -10,8 +10,8 @@ ghost use Rattle.client.specs.Sending.{statement_bytes};
 ghost use Rattle.client.specs.Laws.{AllObey, AreElsewhere, Free, turns, is_statement};
 
 /// Whatever happens to a client, it does at each event what it may. A statement is sent only when the database is open on
-/// that link; each but the last was answered 10250; an end after it is what the answer to it says; and each other end, and
-/// each address that is dialled, comes where the rules say.
+/// that connection; each but the last was answered 10250; an end after it is what the answer to it says; and each other end, and
+/// each address that is dialled, comes if the rules say.
 pub fn clients_obey()
     ensures rules { (addresses : List (List ℕ)) (name sql : List ℕ) (query : Bool) (events : List ClientEvent) → 0 < length addresses →
         AllObey (record { addresses = addresses; sql = sql; query = query }) 0 (Free false) (turns (begun addresses name sql query) events) }
@@ -21,8 +21,8 @@ pub fn clients_obey()
 {}
 
 /// First a client awaits only that it begins, after a dial only what comes of it, after it sent something only what comes on
-/// its link, and after its end nothing. What isn't awaited changes nothing, and the client waits; else it waits only at a part
-/// of rows behind which another follows.
+/// its connection, and after its end nothing. What isn't awaited changes nothing, and the client waits; else it waits only at a part
+/// of rows after which another follows.
 pub fn clients_await()
     ensures heeds { (addresses : List (List ℕ)) (name sql : List ℕ) (query : Bool) (events : List ClientEvent) →
         AllHeed ToBegin (turns (begun addresses name sql query) events) }

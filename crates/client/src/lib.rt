@@ -1,6 +1,6 @@
 //! A client that finds the leader of a cluster, and has it run one statement.
 //!
-//! `ClientCore` decides: it is told what happens on its link, and says what to do next. `drive` does that over a `Dialer`.
+//! `ClientCore` decides: it is told what happens on its connection, and says what to do next. `drive` does that over a `Dialer`.
 #![tactic(auto)]
 
 mod client;

@@ -1,4 +1,4 @@
-//! The calls of a client on its link, and what comes of them.
+//! The calls of a client on its connection, and what comes of them.
 
 ghost use Rattle.std.specs.Prelude.{◌≡◌, ◌≤◌, ◌++◌, false, length, IfOk, OnOk};
 ghost use Rattle.wire_words.specs.Message.{header_of};
@@ -25,7 +25,7 @@ fn header(bytes: &[u8]) -> Header
     Header::read(&head)
 }
 
-/// How many bytes are read next, where these are there of a message: no more than the message lacks.
+/// How many bytes are read next, if these are there of a message: no more than the message lacks.
 fn room(bytes: &[u8]) -> usize
     ensures { result ≤ 4096 }
 {
@@ -89,7 +89,7 @@ fn heard(alloc: Global, held: &mut Bytes) -> Result<Option<ClientEvent>, AllocEr
     heard_behind(alloc, head, held)
 }
 
-/// Puts bytes behind others.
+/// Puts bytes after others.
 fn append(alloc: Global, held: &mut Bytes, bytes: &[u8]) -> Result<(), AllocError>
     ensures { OnOk result (held.new ≡ held.old ++ bytes.now) }
 {

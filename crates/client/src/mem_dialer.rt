@@ -12,7 +12,7 @@ use std::marker::Model;
 use std::mem;
 
 /// A dialer over memory. Each address that it dials answers the next of the given bytes, whatever is written. Some of its calls
-/// may be told to fail; a dial that finds no answer left fails, and so does a call for whose place in the list of calls memory
+/// may be made to fail; a dial that finds no answer left fails, and so does a call for whose place in the list of calls memory
 /// runs out, from which on the list isn't told.
 #[derive(Drop)]
 pub struct MemDialer {
@@ -33,7 +33,7 @@ impl Model for MemDialer {
     ghost view = { λ a. record { answers = a.answers.items; left = a.link.bytes; calls = a.calls; dialled = a.dialled; undialled = a.undialled; told = a.told } };
 }
 
-/// A link on which these bytes come.
+/// A connection on which these bytes come.
 fn link_of(alloc: Global, bytes: Bytes) -> MemSource
     ensures { result.bytes ≡ bytes }
 {
@@ -47,7 +47,7 @@ fn copied(alloc: Global, bytes: &[u8]) -> Result<Bytes, AllocError>
     Ok(Bytes::new(Vec::from_slice(alloc, bytes)?))
 }
 
-/// Notes a call behind those that are told, and says whether that succeeded: where memory runs out, they aren't told from now on.
+/// Notes a call after those that are told, and says whether that succeeded: if memory runs out, they aren't told from now on.
 fn note(told: &mut Option<Items<NetCall>>, call: NetCall) -> bool
     ensures { Notes told.old told.new call result }
 {
@@ -100,7 +100,7 @@ fn note_read(alloc: Global, told: &mut Option<Items<NetCall>>, bytes: &[u8]) -> 
     note(told, NetCall::Read { bytes: Some(bytes) })
 }
 
-/// Whether no dial can succeed: no answer is left, or the count of dials stands at its last value.
+/// Whether no dial can succeed: no answer is left, or the count of dials is at its last value.
 fn is_over(left: usize, dialled: u64) -> bool
     ensures left { result ≡ false → 0 < left }
     ensures room { result ≡ false → dialled < last_count }
@@ -111,7 +111,7 @@ fn is_over(left: usize, dialled: u64) -> bool
     dialled == u64::MAX
 }
 
-/// Starts a call, which also fails where this is so.
+/// Starts a call, which also fails if this is so.
 fn start(calls: &mut Calls, is_over: bool) -> Result<(), Failed>
     ensures cause { HasCause calls.old.faults calls.new.faults result }
     ensures failing { IsTrue (next_fails calls.old) → IsErr result }
@@ -186,7 +186,7 @@ fn note_failure(told: &mut Option<Items<NetCall>>)
     note(told, NetCall::Read { bytes: None });
 }
 
-/// Moves bytes of a link that is there, and notes it.
+/// Moves bytes of a connection that is there, and notes it.
 #[tactic(auto, using(crate::proofs::Noting::note_tells, crate::proofs::Noting::dropped))]
 fn read(
     alloc: Global,
@@ -232,7 +232,7 @@ impl MemDialer {
         }
     }
 
-    /// The calls so far and their answers, where they are told.
+    /// The calls so far and their answers, if they are known.
     pub fn calls(&self) -> Option<&[NetCall]>
         ensures { MatchOption result (self.now.told ≡ None) (λ calls. self.now.told ≡ Some calls.now) }
     {
@@ -246,8 +246,8 @@ impl MemDialer {
 impl Dialer for MemDialer {
     ghost net = { λ dialer. net_of dialer };
 
-    /// It fails where the call is one that is to fail, where no answer is left, and where memory runs out. Else the next of the
-    /// answers is what comes on the new link.
+    /// It fails if the call is one that is to fail, if no answer is left, and if memory runs out. Else the next of the
+    /// answers is what comes on the new connection.
     fn dial(&mut self, address: &str) -> Result<(), Failed>
         ensures net { Dials (net_of self.old) (net_of self.new) address.now result }
         ensures failing { IsTrue (next_fails self.old.calls) → IsErr result }
@@ -277,7 +277,7 @@ impl Dialer for MemDialer {
         }
     }
 
-    /// It writes nowhere. It fails where the call is one that is to fail, and where memory runs out.
+    /// It writes nowhere. It fails if the call is one that is to fail, and if memory runs out.
     fn write_all(&mut self, bytes: &[u8]) -> Result<(), Failed>
         ensures net { Writes (net_of self.old) (net_of self.new) bytes.now result }
         ensures failing { IsTrue (next_fails self.old.calls) → IsErr result }
@@ -287,7 +287,7 @@ impl Dialer for MemDialer {
         write(self.alloc, &mut self.calls, &mut self.told, bytes)
     }
 
-    /// Moves as many bytes as are left and fit. It fails where the call is one that is to fail, and where memory runs out.
+    /// Moves as many bytes as are left and fit. It fails if the call is one that is to fail, and if memory runs out.
     fn read(&mut self, into: &mut [u8]) -> Result<usize, Failed>
         ensures net { Reads (net_of self.old) (net_of self.new) into.new result }
         ensures failing { IsTrue (next_fails self.old.calls) → IsErr result }

@@ -11,7 +11,7 @@ use std::alloc::{AllocError, Global};
 use wire_msgs::{Request, write_request};
 use wire_words::{WireBytes, WireText};
 
-/// The word of the version with which a link begins.
+/// The word of the version with which a connection begins.
 const VERSION_WORD: [u8; 8] = [1, 0, 0, 0, 0, 0, 0, 0];
 
 /// A copy of a text.

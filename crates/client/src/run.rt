@@ -21,7 +21,7 @@ pub(crate) struct Run {
     pub(crate) held: Bytes,
 }
 
-/// Whether a client has come to its end.
+/// Whether a client has ended.
 fn is_done(does: &ClientAction) -> bool
     ensures { result ≡ is_done does.now }
 {
@@ -106,8 +106,8 @@ fn drive_over<N: Dialer>(
     run.into_end()
 }
 
-/// Has a client that hasn't begun do over a dialer what it names, until it comes to its end. `Err` means out of memory, as it is
-/// where the end isn't there after 18,446,744,073,709,551,615 calls. It holds 4,096 bytes for what it reads, and the bytes of the
+/// Has a client that hasn't begun do over a dialer what it names, until it ends. `Err` means out of memory, as it is
+/// if the end isn't there after 18,446,744,073,709,551,615 calls. It holds 4,096 bytes for what it reads, and the bytes of the
 /// message that comes.
 #[tactic(auto, using(crate::proofs::Driven::unmoved, crate::proofs::Failing::none_failed))]
 pub fn drive<N: Dialer>(

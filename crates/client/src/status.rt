@@ -18,7 +18,7 @@ use std::alloc::Global;
 /// How it ended for a client over a dialer.
 #[derive(Drop)]
 pub enum ClientStatus {
-    /// It came to this end, and what is printed of it was printed.
+    /// It ended with this end, and what is printed of it was printed.
     Ended(ClientEnd),
     /// The sink failed. A front of what is printed of the end may have been printed.
     WriteFault,
@@ -43,7 +43,7 @@ fn print<K: Sink>(alloc: Global, end: ClientEnd, sink: &mut K) -> ClientStatus
     }
 }
 
-/// Has a client that hasn't begun do over a dialer what it names, until it comes to its end, and prints that.
+/// Has a client that hasn't begun do over a dialer what it names, until it ends, and prints that.
 ///
 /// Of a number of changed rows `result N` is printed; of rows a line with the names of their columns and a line for each, with a
 /// tab between the values; of a refusal `failure CODE TEXT`; and nothing of the other ends. An integer is printed in decimal,

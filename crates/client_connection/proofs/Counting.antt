@@ -57,7 +57,7 @@ counts_more s new waiting messages piece begun count c fed ends adds fits =
       within = omega (arith, bytes, counted, unread, opens, sizes, fits);
     }
 
--- the piece fits, where there is room for it
+-- the piece fits, if there is room for it
 room_fits : (old : Conn) (s : Splitting) (waiting : List Message) (piece : List ℕ) (begun : Bool) (count : ℕ) → Counts s waiting begun count → s.end ≡ old.end → waiting ≡ old.waiting
     → length piece ≤ room old → length piece + (length (unread_bytes s.end) + sum_by message_size waiting) ≤ 33554432 + version_room s.end
 room_fits old s waiting piece begun count c ends waits fits =
@@ -68,7 +68,7 @@ room_fits old s waiting piece begun count c ends waits fits =
     let sizes : sum_by message_size waiting ≡ sum_by message_size old.waiting = ap (λ (ms : List Message). sum_by message_size ms) waits in
     omega (arith, within, counted, unread, opens, sizes, fits, room_is old, held_is old)
 
--- the same, where a connection reads a piece for which it has room
+-- the same, if a connection reads a piece for which it has room
 pub counts_read : (old : Conn) (s new : Splitting) (waiting messages : List Message) (piece : List ℕ) (begun : Bool) (count : ℕ) → Counts s waiting begun count
     → s.end ≡ old.end → waiting ≡ old.waiting → length piece ≤ room old → IsFed new
     → (messages ≡ (going_on client_limit s.end piece).messages) × (new.end ≡ (going_on client_limit s.end piece).end)

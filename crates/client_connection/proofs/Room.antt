@@ -9,7 +9,7 @@ use Rattle.wire_words.specs.Stream.{Front, Part, Long, Whole, body_size, End, Op
 use Rattle.wire_words.proofs.Cutting.{whole_front, stream_short, stream_long}
 use Rattle.client_connection.specs.Connection.{message_size, version_room, is_begun}
 
--- a message and what stands behind it have as many bytes as there were
+-- a message and what follows it have as many bytes as there were
 front_size : (limit : ℕ) (bytes : List ℕ) (m : Message) (rest : List ℕ) → front limit bytes ≡ Whole m rest → message_size m + length rest ≡ length bytes
 front_size limit bytes m rest e =
     let w = whole_front limit bytes m rest e in
@@ -20,7 +20,7 @@ front_size limit bytes m rest e =
     let back : length (drop n (drop 8 bytes)) ≡ length rest = ap (λ (x : List ℕ). length x) w.rest_is in
     omega (arith, long, enough, body, back, length-drop n (drop 8 bytes), length-drop 8 bytes, length-take n (drop 8 bytes))
 
--- the messages and the unread bytes of a stream have no more bytes than so many, and its version word is there whole
+-- the messages and the unread bytes of a stream have no more bytes than this many, and its version word is there whole
 record Within (count : ℕ) (s : Stream) : Type 0 where
   bytes : sum_by message_size s.messages + length (unread_bytes s.end) ≤ count
   begun : is_begun s.end ≡ true

@@ -1,4 +1,4 @@
--- What the answers of a splitter tell of its stream.
+-- What the answers of a splitter say of its stream.
 use Rattle.std.proofs.Common.{◌≡◌, ◌≤◌, ℕ, Bool, true, false, cond, ltb, length, take, List, [], ◌∷◌, ◌++◌, None, refl, sym, ap, ◌∙◌, append_assoc, arith, ltb-false}
 use Rattle.std.proofs.lemmas.List.{append-nil, take_all}
 use Rattle.wire_words.specs.declared.message.Message.{Message}
@@ -32,7 +32,7 @@ received_more c bytes piece taken h =
       | false ↦ read_more client_limit c bytes (take (room c) piece) taken (ltb (room c) (length piece)) h
     ]
 
--- where no byte was without room, all of a piece was read
+-- if no byte was without room, all of a piece was read
 pub all_read : (c : Conn) (piece : List ℕ) → (received c piece).full ≡ false → read_of c piece ≡ piece
 all_read c piece e = all_of c.full c piece refl e where
   all_of : (b : Bool) (c : Conn) (piece : List ℕ) → c.full ≡ b

@@ -106,12 +106,12 @@ pub record Counts (splitter : Splitting) (waiting : List Message) (begun : Bool)
   pub counted : count ≡ sum_by message_size waiting
   pub within : length (unread_bytes splitter.end) + count ≤ 33554432 + version_room splitter.end
 
--- Of these bytes, where a message may have so many words, so many messages were taken, in order, and the others wait.
+-- Of these bytes, if a message may have this many words, this many messages were taken, in order, and the others wait.
 pub record HasTakenBy (limit : ℕ) (c : Conn) (bytes : List ℕ) (taken : List Message) : Type 0 where
   pub messages : (stream limit bytes).messages ≡ taken ++ c.waiting
   pub end : (stream limit bytes).end ≡ c.end
 
--- so it is of a client's stream
+-- this holds for a client's stream
 abbrev pub HasTaken : Conn → List ℕ → List Message → Type 0
 HasTaken c bytes taken = HasTakenBy client_limit c bytes taken
 
@@ -119,7 +119,7 @@ HasTaken c bytes taken = HasTakenBy client_limit c bytes taken
 abbrev pub PeerHasTaken : Conn → List ℕ → List Message → Type 0
 PeerHasTaken c bytes taken = HasTakenBy peer_limit c bytes taken
 
--- A call gave the first message that waits, or none where none does.
+-- A call gave the first message that waits, or none if none does.
 abbrev pub TakesFirst : Conn → Conn → Option Message → Type 0
 TakesFirst old new result =
     MatchOption result ((old.waiting ≡ []) × (new ≡ old)) (λ m. old ≡ record { end = new.end; waiting = m ∷ new.waiting; full = new.full })

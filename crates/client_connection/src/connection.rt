@@ -14,7 +14,7 @@ use wire_words::{Message, SplitFault, Splitter};
 pub enum CloseReason {
     /// Number 1: the stream begins with another version than 1.
     Version,
-    /// Number 2: a header claims more words than a message may have.
+    /// Number 2: a header states more words than a message may have.
     TooLong,
     /// Number 3: there is no room for a client or for a byte of it.
     Limit,
@@ -46,7 +46,7 @@ pub const MAX_HELD_BYTES: u64 = 33_554_432;
 /// there was no room.
 ///
 /// It holds the messages that were not taken and the part of a message that is unread, each byte once. The messages of
-/// the last piece stand in a list of their own until the next piece comes: so a piece that finds no memory changes
+/// the last piece are in their own list until the next piece comes: so a piece that finds no memory changes
 /// nothing.
 #[derive(Drop)]
 pub struct Connection {
@@ -99,7 +99,7 @@ pub(crate) fn end_reason(splitter: &Splitter) -> Option<CloseReason>
     }
 }
 
-// The reason at the stream's end, and where there is none that of a byte for which there was no room.
+// The reason at the stream's end, and without one that of a byte for which there was no room.
 pub(crate) fn closes_for(end: Option<CloseReason>, is_full: bool) -> Option<CloseReason>
     ensures { result ≡ option_or end (limit_reason is_full) }
 {
@@ -110,7 +110,7 @@ pub(crate) fn closes_for(end: Option<CloseReason>, is_full: bool) -> Option<Clos
     }
 }
 
-// The first of the earlier messages, and where there are none the first of the latest.
+// The first of the earlier messages, and if there are none the first of the latest.
 pub(crate) fn first_of(
     earlier: &mut VecDeque<Message>,
     latest: &mut VecDeque<Message>,
@@ -161,7 +161,7 @@ fn version_room(is_begun: bool) -> u64
     if is_begun { 0 } else { 8 }
 }
 
-// Whether the version word is there whole, where so many bytes are unread.
+// Whether the version word is there whole, if this many bytes are unread.
 fn begins(is_begun: bool, unread: u64) -> bool
     ensures { result ≡ (is_begun || not (nat_lt unread 8)) }
 {
@@ -224,9 +224,9 @@ impl Connection {
         Ok(())
     }
 
-    /// Takes the next piece of the stream, of any length: the messages that are whole with it wait behind those that wait
+    /// Takes the next piece of the stream, of any length: the messages that are whole with it wait after those that wait
     /// already. After the end of the stream nothing is read any more, nor is a byte for which there is no room, or any byte
-    /// behind it. `Err` means out of memory, and leaves the connection as it was before the piece, so that the piece may be
+    /// after it. `Err` means out of memory, and leaves the connection as it was before the piece, so that the piece may be
     /// given again. Each byte is copied once, into its message; a message that waits is moved once more, without its bytes.
     pub fn receive(&mut self, piece: &[u8]) -> Result<(), AllocError>
         ensures ok { OnOk result (self.new ≡ received self.old piece.now) }
@@ -250,8 +250,8 @@ impl Connection {
         Some(message)
     }
 
-    /// Why the connection closes behind the messages that wait, if its stream is at its end or there was no room for a byte.
-    /// Where both are so, it is what came first.
+    /// Why the connection closes after the messages that wait, if its stream is at its end or there was no room for a byte.
+    /// If both are so, it is what came first.
     pub fn close_reason(&self) -> Option<CloseReason>
         ensures { result ≡ reason_of self.now }
     {

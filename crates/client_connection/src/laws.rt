@@ -4,7 +4,7 @@ ghost use Rattle.wire_words.specs.Stream.{fault_in};
 ghost use Rattle.client_connection.specs.Connection.{Conn, HasTaken, PeerHasTaken, opened, received, peer_received, read_of};
 
 /// In whatever pieces a stream comes: the messages that were taken, and then those that wait, are those of what is read of the
-/// pieces, joined, and so is the end. All of a piece is read, as long as there is room.
+/// pieces, joined, and the same holds for the end. All of a piece is read, while there is room.
 pub fn pieces_are_joined()
     ensures opened { HasTaken opened [] [] }
     ensures received { (c : Conn) (bytes piece : List ℕ) (taken : List Message) → HasTaken c bytes taken →
@@ -15,7 +15,7 @@ pub fn pieces_are_joined()
 {}
 
 /// In whatever pieces a peer's stream comes: the messages that were taken, before it was handed over and since, and then those
-/// that wait, are those of the pieces, joined, as if a peer's limit of words had held from the start; and so is the end. Where a
+/// that wait, are those of the pieces, joined, as if a peer's limit of words had held from the start; and the same holds for the end. If a
 /// client's stream was at a fault, it stays so.
 pub fn peer_pieces_are_joined()
     ensures handed { (c : Conn) (bytes : List ℕ) (taken : List Message) → fault_in c.end ≡ None → HasTaken c bytes taken → PeerHasTaken c bytes taken }

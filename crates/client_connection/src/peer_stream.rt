@@ -49,8 +49,8 @@ fn feed(alloc: Global, splitter: &mut Splitter, piece: &[u8]) -> Result<Vec<Mess
 }
 
 impl PeerStream {
-    /// Takes the next piece of the stream, of any length: the messages that are whole with it wait behind those that wait already.
-    /// After the end of the stream nothing is read any more, nor behind a byte for which there was no room before the stream was a
+    /// Takes the next piece of the stream, of any length: the messages that are whole with it wait after those that wait already.
+    /// After the end of the stream nothing is read any more, nor after a byte for which there was no room before the stream was a
     /// peer's. `Err` means out of memory, and leaves it as it was before the piece, so that the piece may be given again.
     pub fn receive(&mut self, piece: &[u8]) -> Result<(), AllocError>
         ensures ok { OnOk result (self.new ≡ peer_received self.old piece.now) }
@@ -72,7 +72,7 @@ impl PeerStream {
         first_of(&mut self.earlier, &mut self.latest)
     }
 
-    /// Why it closes behind the messages that wait, if its stream is at its end or there was no room for a byte.
+    /// Why it closes after the messages that wait, if its stream is at its end or there was no room for a byte.
     pub fn close_reason(&self) -> Option<CloseReason>
         ensures { result ≡ reason_of self.now }
     {

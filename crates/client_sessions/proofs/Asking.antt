@@ -109,7 +109,7 @@ is_sends v g conn (Proposes session contents note) now act is keeps = subst ActC
 is_sends v g conn (Lends session job) now act is keeps = subst ActCanSend (sym is.1) tt
 is_sends v g conn (Affects effect) now act is keeps = subst ActCanSend (sym is.1) (effect_sends effect)
 
--- what a request comes to is kept
+-- the outcome of a request is kept
 turned_kept : (m : Meaning) (kind : EngineKind) (v : View) (machine : Machine) (g : Gateway) (conn : ℕ) (request : Request) (before now : Option Told) (after : Gateway) (act : Act)
     → IsConfigured v → HasNoNul request → may_ask (g.session conn) ≡ true → (t : TurnsByAnswers (call_of m kind before now) (scene v machine g conn) request after act)
     → Keeps (g.session conn) (on_request v machine g conn request t.answers)
@@ -164,6 +164,6 @@ turned_sound m kind v machine g conn request before now after act configured tex
     (turned_kept m kind v machine k.sessions conn request before now after act configured text asks turned)
     (lists conn (subst (λ (h : Gateway). IsListed (h.session conn).tx) same (sound.listed conn))) sound
 
--- where nothing has changed, neither has what holds of clients
+-- if nothing has changed, neither has what holds of clients
 pub failed_sound : (g after : Gateway) → after ≡ g → (k : Clients) → k.sessions ≡ g → Sound k → Sound (with_sessions k after)
 failed_sound g after failed k same sound = still_sound k after (failed ∙ sym same) sound

@@ -18,7 +18,7 @@ use Rattle.client_sessions.proofs.Standing.{alike, updated, same_entries}
 
 -- ---- numbers that are taken
 
--- a number is taken where its connection is open, or a proposal of its session is in flight
+-- a number is taken where its connection is open, or a proposal of its session is pending
 taken_by : (stream : Option Conn) (s : Session) (busy : Bool) → is_busy s ≡ busy → Fits stream s → (is_some stream || busy) ≡ s.there
 taken_by (Some c) s busy is fits = sym fits.0
 taken_by None s true is fits = sym (fits.1 is)

@@ -1,4 +1,4 @@
--- Where no transaction is open, none begins while the node doesn't serve.
+-- If no transaction is open, none begins while the node doesn't serve.
 use Rattle.std.proofs.Common.{◌≡◌, ℕ, true, false, true≢false, cond, List, Option, Some, None, Result, Ok, Err, IfOk, OnErr, refl, sym, subst, ◌∙◌}
 use Rattle.std.specs.Prelude.{◌==◌, is_none}
 use Rattle.std.proofs.lemmas.Bool.{cond_both}

@@ -19,7 +19,7 @@ use Rattle.client_sessions.proofs.Soundness.{applied_sound, lost_sound}
 use Rattle.client_sessions.proofs.Standing.{alike, sound_as}
 use Rattle.client_sessions.proofs.Telling.{applied_sent, lost_sent}
 
--- what is told can be sent
+-- what is reported can be sent
 pub applied_can : (held : Held) (databases : List Database) (index : ℕ) (told : List (ℕ × Response)) → AreValidOver held databases → told ≡ all_told (told_applied index (seen held.gateway databases))
     → AllByRecursion (λ (t : ℕ × Response). IsWritable t.1) told
 unfolding clients_of

@@ -29,7 +29,7 @@ pub record Follows (before after : Session) : Type 0 where
   pub sends : FlightCanSend after.flight
   pub awaits : Awaits after.database after.flight after.later
 
--- so it is of what comes of a request, of which the reply can be sent
+-- this holds for what comes of a request, of which the reply can be sent
 abbrev pub Keeps : Session → Turned → Type 0
 Keeps s (Refused cause) = Unit {0}
 Keeps s Lacks = Unit {0}

@@ -1,4 +1,4 @@
--- A query that is run later than it was asked, and what a reader tells of one.
+-- A query that is run later than it was asked, and what a reader says of one.
 use Rattle.std.proofs.Common.{◌≡◌, ℕ, Bool, true, false, true≢false, cond, not, ◌||◌, List, Option, Some, None, is_none, refl, sym, ap, subst, ◌∙◌}
 use Rattle.std.specs.Prelude.{nat_lt, length, IsSome}
 use Rattle.std.proofs.lemmas.Bool.{eq-eqb}
@@ -83,7 +83,7 @@ module _ (m : Meaning) (kind : EngineKind) (v : View) (machine : Machine) (g : G
       (ap (λ (s : Session). s.flight) (here g conn) ∙ (later_alone (g.session conn) later is awaits).0)
       (ap (λ (s : Session). s.later) (here g conn))
 
-  -- what it comes to can be sent
+  -- its outcome can be sent
   pub resumed_sends : (query : Option Statement) (given : Option GatewayAct) (act : GatewayAct) → given ≡ Some act → later_query (g.session conn).later ≡ query → Awaits (g.session conn).database (g.session conn).flight (g.session conn).later
       → Resumed (call_of m kind before now) (scene v machine g conn) query after given → ActCanSend act
   resumed_sends None None act some is awaits r = absurd cc
@@ -116,7 +116,7 @@ has_lent None statement is = absurd cc
 has_lent (Some l) statement is = (l, refl)
 
 module _ (g : Gateway) (conn : ℕ) (after : Gateway) where
-  -- what is told can be sent
+  -- what is reported can be sent
   pub done_sends : (query : Option Statement) (reply : Option Reply) (given : Option GatewayAct) (act : GatewayAct) → given ≡ Some act → ToldCanSend reply → ReadDone g conn query reply after given → ActCanSend act
   done_sends None reply given act some can r = let none = r.1 in absurd cc
   done_sends (Some statement) None given act some can r = let none = r.1 in absurd cc

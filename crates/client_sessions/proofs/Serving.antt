@@ -148,7 +148,7 @@ pub idle_held : (old new : Held) (before after : List Database) → ((q : ℕ) �
     → clients_of new after ≡ freed (clients_of old before) (clients_of new after).sessions []
 idle_held old new before after streams same = turned_held old new before after [] streams (same ∙ no_more old.turns.items)
 
--- the same, over a machine that hasn't changed
+-- the same, over a state machine that hasn't changed
 pub read_stand : (old new : Held) (databases : List Database) → AreValidOver old databases → ((k : Clients) → k.sessions ≡ seen old.gateway databases → Sound k → Sound (with_sessions k (seen new.gateway databases)))
     → ((q : ℕ) → get nat_cmp new.connections q ≡ get nat_cmp old.connections q) → pins_of new.gateway ≡ pins_of old.gateway → AreValidOver new databases
 read_stand old new databases stand keeps streams pins =

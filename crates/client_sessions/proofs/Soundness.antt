@@ -108,7 +108,7 @@ session_sound k conn stream s opens follows listed sound =
 
 -- ---- entries that are applied, and leadership that is lost
 
--- A session that hasn't hung up goes on, with no proposal.
+-- A session that hasn't hung up continues, with no proposal.
 record Frees (s after : Session) : Type 0 where
   there : after.there ≡ s.there
   hung : after.hung ≡ s.hung
@@ -128,7 +128,7 @@ gone_good : (stream : Option Conn) (s : Session) → s.hung ≡ true → Good st
 gone_good None s hung g = absent_good
 gone_good (Some c) s hung g = let stays = g.fits.1 in absurd (cc (hung, stays))
 
--- where a proposal is in flight, no query is yet to be answered
+-- if a proposal is pending, no query waits for its answer
 flies_alone : (database : List ℕ) (f : Flight) (later : Option Later) → Awaits database (Some f) later → (later ≡ None) × KindIsOpened database f.kind
 flies_alone database f None awaits = (refl, awaits)
 flies_alone database f (Some later) awaits = absurd awaits

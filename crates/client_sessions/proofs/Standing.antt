@@ -1,4 +1,4 @@
--- The clients that code holds, as the rules see them, and that they stand over a machine.
+-- The clients that code holds, as the rules see them, and that they stand over a state machine.
 use Rattle.std.proofs.Common.{◌≡◌, ℕ, ◌<◌, Bool, true, false, cond, eqb, ltb, ◌==◌, List, [], Option, Some, None, is_none, is_some, not, Result, Ok, Err, OnErr, refl, sym, ap, subst, ◌∙◌, arith}
 use Rattle.std.specs.Ordering.{nat_cmp, is_eq}
 use Rattle.std.specs.BTreeMap.{BTreeMap, get, is_at}
@@ -36,7 +36,7 @@ sound_as j k sessions streams sound =
     let same : j ≡ record { sessions = k.sessions; streams = k.streams; turns = j.turns } = alike j _ sessions streams refl in
     subst Sound (sym same) (record { fits = sound.fits; sends = sound.sends; listed = sound.listed; awaits = sound.awaits })
 
--- the same of maps with the same entries
+-- the same for maps with the same entries
 pub entries_alike : (old new : Held) (before after : List Database) → seen new.gateway after ≡ seen old.gateway before → new.connections.entries ≡ old.connections.entries
     → new.turns.items ≡ old.turns.items → clients_of new after ≡ clients_of old before
 entries_alike old new before after sessions entries turns =
@@ -129,7 +129,7 @@ same_entries old new databases conn updates none sessions turns =
     held_alike old new databases databases sessions
     (λ q. updated old.connections new.connections conn None updates q ∙ kept (λ k. get nat_cmp old.connections k) conn None none q) turns
 
--- the same clients stand where they stood
+-- the same clients are where they stood
 pub same_stand : (old new : Held) (databases : List Database) → clients_of new databases ≡ clients_of old databases → PinsOf new.gateway databases → AreValidOver old databases → AreValidOver new databases
 same_stand old new databases same pins stand = record { pins = pins; sound = subst Sound (sym same) stand.sound }
 

@@ -66,7 +66,7 @@ pub lost_sent : (k : Clients) → AllByRecursion (λ (t : ℕ × Response). IsWr
 unfolding told_lost
 lost_sent k = all_told_writable _ (all_lost _)
 
--- ---- loops over what is told
+-- ---- loops over what is reported
 
 -- an item of a list of which all items are so
 pub item_of_all : {X : Type 0} (P : X → Type 0) (xs : List X) (i : ℕ) (x : X) → AllByRecursion P xs → i < length xs → x ≡ get_or xs i x → P x

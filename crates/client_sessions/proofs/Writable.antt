@@ -1,4 +1,4 @@
--- That what is told can be written: the texts of refusals, the rows of answers, and what a request is told at once.
+-- That what is reported can be written: the texts of refusals, the rows of answers, and what a request is sent at once.
 use Rattle.std.proofs.Common.{rules, ⊎_elim, sym, subst, ◌≡◌, ℕ, Bool, true, false, cond, ◌||◌, ◌==◌, List, [], ◌∷◌, ◌++◌, map, codes, Option, Some, None, Result, Ok, Err, refl}
 use Rattle.std.specs.List.{AllByRecursion, flat_map}
 use Rattle.dq_base.specs.declared.images.Image.{Image}
@@ -99,13 +99,13 @@ reply_sent false answer = ((tt, (tt, tt)), tt)
 pub result_sent : (n : ℕ) → CanSend (Single (responses.Result 0 n))
 result_sent n = ((tt, (tt, tt)), tt)
 
--- ---- what is told, if anything
+-- ---- what is reported, if anything
 
 abbrev pub ToldCanSend : Option Reply → Type 0
 ToldCanSend None = Unit {0}
 ToldCanSend (Some reply) = CanSend reply
 
--- what a reader tells
+-- what a reader answers
 pub read_sent : (read : Read) → ToldCanSend (read_named read)
 read_sent (reads.Answers answer) = rows_sent answer
 read_sent (reads.Refused cause) = refusal_sent (cause_named cause)
@@ -115,9 +115,9 @@ pub optional_spelled : (tail : Option ℕ) → HaveSpellings (optional tail)
 optional_spelled None = tt
 optional_spelled (Some n) = (tt, tt)
 
--- ---- what a request is told at once
+-- ---- what a request is sent at once
 
--- a response that is told at once can be written
+-- a response that is sent at once can be written
 abbrev pub TellsWell : Asked → Type 0
 TellsWell (Never cause) = Unit {0}
 TellsWell (Tells response) = IsWritable response

@@ -1,4 +1,4 @@
--- What comes of a message, and what is told to connections, as code tells it.
+-- What comes of a message, and what is told to connections, as code says it.
 use Rattle.std.specs.Prelude.{◌≡◌, ◌<◌, ℕ, List, [], ◌∷◌, map, Option, Some, None, Result, Ok, Err}
 use Rattle.wire_words.specs.declared.message.Message.{Message}
 use Rattle.client_connection.specs.Connection.{Conn}
@@ -48,8 +48,8 @@ TookNext old new None = (next_offer old ≡ None) × (new ≡ taken old None)
 TookNext old new (Some took) = (offer : Offer) × (next_offer old ≡ Some offer) × (offer.conn ≡ took.0) × (offer.message ≡ took.1)
     × (new ≡ taken old (Some offer))
 
--- A request came to this act and these sessions by answers that the engine may give and told. It is refused as over no
--- database only where one more opening was refused.
+-- A request ended with this act and these sessions by answers that the engine may give and gave. It is refused as over no
+-- database only if one more opening was refused.
 pub record Asked (c : EngineCall) (at : Scene) (request : Request) (refused_before refused_now : ℕ) (now : Gateway) (act : Act) : Type 0 where
   pub gateway_act : GatewayAct
   pub turned : TurnsByAnswers c at request now gateway_act
@@ -62,12 +62,12 @@ pub record Unread (g : Gateway) (conn : ℕ) (fault : MsgFault) (told_before tol
   pub untold : told_now ≡ told_before
   pub act_is : act ≡ Reply conn (bytes_of (failure (unread_cause fault) ∷ []))
 
--- What a message came to, by what it reads as.
+-- The outcome of a message, by what it reads as.
 abbrev pub Comes : EngineCall → Scene → Result Request MsgFault → ℕ → ℕ → Gateway → Act → Type 0
 Comes c at (Ok request) refused_before refused_now sessions act = Asked c at request refused_before refused_now sessions act
 Comes c at (Err fault) refused_before refused_now sessions act = Unread at.sessions at.conn fault c.told_before c.told_now sessions act
 
--- The message whose turn it was was taken, and came to this act; all other messages, streams and turns are as they were.
+-- The message whose turn it was was taken, and ended with this act; all other messages, streams and turns are as they were.
 pub record TookOffer (c : EngineCall) (v : View) (machine : Machine) (old : Clients) (refused_before refused_now : ℕ) (new : Clients)
     (act : Act) : Type 0 where
   pub offer : Offer
@@ -98,14 +98,14 @@ told_conns told = map (λ (t : ℕ × Response). t.0) told
 
 -- ---- what happens to all clients at once
 
--- the clients after the entry of an index was applied, and what is told
+-- the clients after the entry of an index was applied, and what is reported
 abbrev pub landed_at : ℕ → Clients → Clients
 landed_at index k = freed k (on_applied index k.sessions) (told_conns (all_told (told_applied index k.sessions)))
 
 abbrev pub told_at : ℕ → Clients → List (ℕ × List ℕ)
 told_at index k = sent (all_told (told_applied index k.sessions))
 
--- the clients after leadership was lost, and what is told
+-- the clients after leadership was lost, and what is reported
 abbrev pub lost_all : Clients → Clients
 lost_all k = freed k (on_lost k.sessions) (told_conns (all_told (told_lost k.sessions)))
 

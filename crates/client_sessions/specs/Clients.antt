@@ -13,7 +13,7 @@ use Rattle.client_sessions.specs.declared.connect_result.ConnectResult.{ConnectR
 use Rattle.client_sessions.specs.declared.connect_result.ConnectResult.TheVariants.{Joined, Full, Taken}
 
 -- The sessions; the streams of the open connections; and the connections whose turn it is, in order. A connection gets a
--- turn where its bytes come, and where its session is freed. Between two steps of the node none has one.
+-- turn where its bytes come, and if its session is freed. Between two steps of the node none has one.
 pub record Clients : Type 0 where
   pub sessions : Gateway
   pub streams : ℕ → Option Conn
@@ -30,7 +30,7 @@ with_stream streams conn stream other = if other == conn then stream else stream
 -- ---- connections that come and go
 
 -- How a connection comes: its number may be taken, by one that is open or by one that hung up and whose proposal is in
--- flight; there may be no room; or it gets a session.
+-- pending proposal; there may be no room; or it gets a session.
 unfoldable pub joining : Gateway → ℕ → ConnectResult
 joining g conn = if (g.session conn).there then Taken else if connects g conn then Joined else Full
 
@@ -56,7 +56,7 @@ abbrev pub closing : Option Conn → Option CloseReason
 closing None = None
 closing (Some stream) = reason_of stream
 
--- the clients after a connection was closed, where it was to be
+-- the clients after a connection was closed, if it was to be
 unfoldable pub closed : Clients → ℕ → Clients
 closed k conn = if is_none (closing (k.streams conn)) then k else without k conn
 
@@ -71,7 +71,7 @@ heard_on k conn bytes (Some stream) =
 unfoldable pub heard : Clients → ℕ → List ℕ → Clients
 heard k conn bytes = heard_on k conn bytes (k.streams conn)
 
--- A message whose turn it is: its connection, the message, the stream behind it, and the turns from this one on.
+-- A message whose turn it is: its connection, the message, the stream after it, and the turns from this one on.
 pub record Offer : Type 0 where
   pub conn : ℕ
   pub message : Message
@@ -83,7 +83,7 @@ first_of conn turns stream [] = None
 first_of conn turns stream (m ∷ ms) =
     Some (record { conn = conn; message = m; stream = record { end = stream.end; waiting = ms; full = stream.full }; turns = conn ∷ turns })
 
--- the first message that waits on a connection, where it is open and its session isn't busy
+-- the first message that waits on a connection, if it is open and its session isn't busy
 abbrev pub offered_on : ℕ → List ℕ → Bool → Option Conn → Option Offer
 offered_on conn turns true stream = None
 offered_on conn turns false None = None
@@ -101,14 +101,14 @@ unfoldable pub next_offer : Clients → Option Offer
 next_offer k = offer_of k k.turns
 
 -- What that means: the message is the first that waits on a connection that is open and whose session isn't busy, and the
--- offer's stream is what is left behind it.
+-- offer's stream is what is left after it.
 pub record IsOffered (k : Clients) (offer : Offer) : Type 0 where
   pub stream : Conn
   pub opens : k.streams offer.conn ≡ Some stream
   pub first : stream ≡ record { end = offer.stream.end; waiting = offer.message ∷ offer.stream.waiting; full = offer.stream.full }
   pub idle : is_busy (k.sessions.session offer.conn) ≡ false
 
--- the clients without it; where there is none, nobody's turn is left
+-- the clients without it; without one, no connection's turn is left
 abbrev pub taken : Clients → Option Offer → Clients
 taken k None = record { sessions = k.sessions; streams = k.streams; turns = [] }
 taken k (Some offer) = record { sessions = k.sessions; streams = with_stream k.streams offer.conn (Some offer.stream); turns = offer.turns }
@@ -117,7 +117,7 @@ taken k (Some offer) = record { sessions = k.sessions; streams = with_stream k.s
 abbrev pub with_sessions : Clients → Gateway → Clients
 with_sessions k sessions = record { sessions = sessions; streams = k.streams; turns = k.turns }
 
--- the clients with other sessions, of which these connections get a turn behind the others
+-- the clients with other sessions, of which these connections get a turn after the others
 abbrev pub freed : Clients → Gateway → List ℕ → Clients
 freed k sessions conns = record { sessions = sessions; streams = k.streams; turns = k.turns ++ conns }
 
@@ -130,8 +130,8 @@ HasNoTransactions k = NoneIsOpen k.sessions
 
 -- ---- what holds of clients at all times
 
--- A connection is open exactly where its session is there and hasn't hung up. A session that has hung up has a proposal in
--- flight, and one that has yet to answer its last request is there.
+-- A connection is open exactly if its session is there and hasn't hung up. A session that has hung up has a proposal in
+-- pending proposal, and one that has yet to answer its last request is there.
 abbrev pub Fits : Option Conn → Session → Type 0
 Fits None s = (s.there ≡ true → (s.hung ≡ true) × (is_flying s ≡ true)) × (is_busy s ≡ true → s.there ≡ true)
 Fits (Some stream) s = (s.there ≡ true) × (s.hung ≡ false)
@@ -144,15 +144,15 @@ KindIsOpened database (Writing reply) = Unit {0}
 KindIsOpened database Committing = Unit {0}
 KindIsOpened database (Querying statement) = nat_lt 0 (length database) ≡ true
 
--- A session waits for one thing at most: for its proposal, or for its query to be run. A query that is yet to be answered, and
--- one whose barrier is in flight, is asked of a database that the session has opened.
+-- A session waits for one thing at most: for its proposal, or for its query to be run. A query that waits for its answer, and
+-- one whose barrier is pending, is asked of a database that the session has opened.
 abbrev pub Awaits : List ℕ → Option Flight → Option Later → Type 0
 Awaits database None None = Unit {0}
 Awaits database None (Some later) = nat_lt 0 (length database) ≡ true
 Awaits database (Some f) None = KindIsOpened database f.kind
 Awaits database (Some f) (Some later) = ⊥
 
--- So it is with every connection; the reply that a proposal in flight gets can be sent; an open transaction has the numbers of all
+-- This holds for every connection; the reply that a pending proposal gets can be sent; an open transaction has the numbers of all
 -- pages that it changed; and what each session waits for is one thing.
 pub record Sound (k : Clients) : Type 0 where
   pub fits : (conn : ℕ) → Fits (k.streams conn) (k.sessions.session conn)

@@ -1,4 +1,4 @@
--- What comes of queries that are answered later than they were asked, as code tells it.
+-- What comes of queries that are answered later than they were asked, as code says it.
 use Rattle.std.specs.Prelude.{◌≡◌, ◌<◌, ℕ, List, [], ◌∷◌, Option, Some, None}
 use Rattle.sql_engine.specs.Replies.{Statement}
 use Rattle.session_spec.specs.Causes.{NotADatabase, failure}
@@ -13,22 +13,22 @@ use Rattle.client_sessions.specs.declared.act.Act.{Act}
 use Rattle.client_sessions.specs.declared.act.Act.TheVariants.{Reply}
 use Rattle.client_sessions.specs.Calls.{act_on, bytes_of}
 
--- A query came to this act and these sessions by answers that the engine may give and told, at its session without it. It is
--- refused as over no database only where one more opening was refused.
+-- A query ended with this act and these sessions by answers that the engine may give and gave, at its session without it. It is
+-- refused as over no database only if one more opening was refused.
 pub record RanLater (c : EngineCall) (at : Scene) (statement : Statement) (refused_before refused_now : ℕ) (now : Gateway) (act : Act) : Type 0 where
   pub gateway_act : GatewayAct
   pub ran : RunsWaitingByAnswers c (record at { sessions = without_later at.sessions at.conn }) statement now gateway_act
   pub act_is : act ≡ act_on at.conn gateway_act
   pub unopened : gateway_act ≡ gateway.Reply (failure NotADatabase ∷ []) → refused_before < refused_now
 
--- The query that a connection has yet to answer was run; where there is none, nothing was done.
+-- The query that a connection has yet to answer was run; without one, nothing was done.
 abbrev pub Resumes : EngineCall → Scene → Option Statement → ℕ → ℕ → Gateway → Option Act → Type 0
 Resumes c at None refused_before refused_now now None = (now ≡ at.sessions) × (c.told_before ≡ c.told_now)
 Resumes c at None refused_before refused_now now (Some act) = ⊥
 Resumes c at (Some statement) refused_before refused_now now None = ⊥
 Resumes c at (Some statement) refused_before refused_now now (Some act) = RanLater c at statement refused_before refused_now now act
 
--- What a reader tells of the query that it has is told to the connection, which then waits for it no more. Where it has none of
+-- What a reader says of the query that it has is told to the connection, which then waits for it no more. If it has none of
 -- the connection, or gives it back, nothing is done.
 abbrev pub Finishes : Gateway → ℕ → Option Statement → Option RuleReply → Gateway → Option Act → Type 0
 Finishes g conn None reply now act = (now ≡ g) × (act ≡ None)

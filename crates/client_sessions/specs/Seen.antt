@@ -1,4 +1,4 @@
--- The clients of a node as the rules see them, over the machine in which their transactions have pinned images.
+-- The clients of a node as the rules see them, over the state machine in which their transactions have pinned images.
 use Rattle.std.specs.Prelude.{List}
 use Rattle.std.specs.Ordering.{nat_cmp}
 use Rattle.std.specs.BTreeMap.{get}
@@ -14,12 +14,12 @@ use Rattle.client_sessions.specs.Clients.{Clients, Sound}
 unfoldable pub clients_of : Held → List Database → Clients
 clients_of held databases = record { sessions = seen held.gateway databases; streams = λ conn. get nat_cmp held.connections conn; turns = held.turns.items }
 
--- The clients stand over a machine: its live marks are those of their transactions, and all is as it has to be of clients.
+-- The clients stand over a state machine: its live marks are those of their transactions, and all is as it has to be of clients.
 pub record AreValidOver (held : Held) (databases : List Database) : Type 0 where
   pub pins : PinsOf held.gateway databases
   pub sound : Sound (clients_of held databases)
 
--- no number stands for two images: neither for an engine, nor for the clients' transactions, nor for the databases
+-- no number represents two images: neither for an engine, nor for the clients' transactions, nor for the databases
 abbrev pub Agrees : List Known → Held → List Database → Type 0
 Agrees known held databases = gateway.Agrees known held.gateway databases
 

@@ -1,4 +1,4 @@
--- How many bytes a node holds of what clients have said, and of what they are to be told.
+-- How many bytes a node holds of what clients have said, and of what they are to be sent.
 use Rattle.std.specs.Prelude.{◌+◌, ℕ, List, [], ◌∷◌, Option, Some, None}
 use Rattle.std.specs.BTreeMap.{get, values}
 use Rattle.std.specs.Ordering.{nat_cmp}
@@ -20,6 +20,6 @@ abbrev pub stream_size : Option Conn → ℕ
 stream_size None = 0
 stream_size (Some stream) = footprint stream
 
--- the same of one connection
+-- the same for one connection
 abbrev pub held_for : ℕ → Held → ℕ
 held_for conn clients = held (size_at conn clients.gateway.sessions + stream_size (get nat_cmp clients.connections conn))

@@ -17,13 +17,13 @@ pub enum Act {
         conn: u64,
         entries: Entries,
     },
-    /// Have a reader run this query. What it tells goes to `Clients::on_read_done`; where it gives the query back,
+    /// Have a reader run this query. What it tells goes to `Clients::on_read_done`; if it gives the query back,
     /// `Clients::on_later` runs it.
     Lend {
         conn: u64,
         job: ReadJob,
     },
-    /// Hand leadership to the server of this id, where it is another one, and send this message to the client.
+    /// Hand leadership to the server of this id, if it is another one, and send this message to the client.
     Transfer {
         conn: u64,
         to: u64,

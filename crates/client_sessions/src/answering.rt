@@ -63,7 +63,7 @@ fn give_up_for_memory(fault: MsgFault) -> Result<(), AllocError>
     }
 }
 
-/// The request that a message stands for, or the fault in it. `Err` means out of memory, which comes only where the message
+/// The request that a message represents, or the fault in it. `Err` means out of memory, which comes only if the message
 /// may have a text or a value to be kept.
 pub fn read_message(
     alloc: Global,
@@ -181,7 +181,7 @@ pub(crate) fn resume<E: Engine>(
     }
 }
 
-/// Tells a connection what a reader tells of its query. Clients that were sound are so after it, at an `Err` too, which means out
+/// Tells a connection what a reader says of its query. Clients that were sound are so after it, at an `Err` too, which means out
 /// of memory.
 pub(crate) fn finish(
     alloc: Global,

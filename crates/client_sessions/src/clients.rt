@@ -39,9 +39,9 @@ use wire_words::{Message, WireBytes};
 
 /// All clients of a node: their sessions, and the streams of their open connections.
 ///
-/// Clauses see them by `clients_of`, over the machine in which open transactions have pinned images. The calls that take the
-/// machine want the clients to stand over it, and leave it so: its live marks are those of their transactions, and a
-/// connection is open exactly where its session is there and hasn't hung up.
+/// Clauses see them by `clients_of`, over the state machine in which open transactions have pinned images. The calls that take the
+/// state machine want the clients to stand over it, and leave it so: its live marks are those of their transactions, and a
+/// connection is open exactly if its session is there and hasn't hung up.
 #[derive(Drop)]
 pub struct Clients {
     alloc: Global,
@@ -50,7 +50,7 @@ pub struct Clients {
     turns: VecDeque<u64>,
 }
 
-// Gives the connections that are told something a turn behind the others.
+// Gives the connections that are told something a turn after the others.
 fn give_turns(turns: &mut VecDeque<u64>, told: &[(u64, Response)]) -> Result<(), AllocError>
     ensures { OnOk result (turns.new.items ≡ turns.old.items ++ told_conns told.now) }
 {
@@ -60,7 +60,7 @@ fn give_turns(turns: &mut VecDeque<u64>, told: &[(u64, Response)]) -> Result<(),
     Ok(())
 }
 
-// How many bytes the streams of connections hold, behind so many others. The sum stops at the last number of 64 bits.
+// How many bytes the streams of connections hold, after this many others. The sum stops at the last number of 64 bits.
 fn with_streams(size: u64, connections: &BTreeMap<u64, Connection>) -> u64
     ensures { result ≡ held (size + streams_size (values connections.now)) }
 {
@@ -93,13 +93,13 @@ impl Clients {
         self.connections.contains_key(&conn)
     }
 
-    /// How many bytes are held of what clients have said, and of what they are to be told: of each connection what is unread and the
+    /// How many bytes are held of what clients have said, and of what they are to be sent: of each connection what is unread and the
     /// messages that wait (`Connection::footprint`); and what the sessions keep (`Gateway::held`), those of clients that have gone
     /// included: prepared statements, queries that wait or that a reader has, and rows that wait for the entry of their write. The sum
     /// stops at the last number of 64 bits.
     ///
     /// Not counted is what the rules of sessions bound or what the databases' size does, as the working image of an open transaction;
-    /// nor a query that a reader has still, where its client has gone.
+    /// nor a query that a reader has still, if its client has gone.
     ///
     /// Looks at each connection and at each number of a statement.
     pub fn held(&self) -> u64
@@ -108,7 +108,7 @@ impl Clients {
         with_streams(self.gateway.held(), &self.connections)
     }
 
-    /// The same of one connection; 0 where there is no session of it.
+    /// How many bytes it holds for one connection; 0 if there is no session of it.
     pub fn held_bytes_of(&self, conn: u64) -> u64
         ensures { result ≡ held_for conn self.now }
     {
@@ -156,8 +156,8 @@ impl Clients {
         }
     }
 
-    /// Bytes come on a connection: they are cut into messages, which wait behind those that wait already, and the connection
-    /// gets a turn behind the others. On one that isn't open nothing happens. `Err` means out of memory; nothing has changed
+    /// Bytes come on a connection: they are split into messages, which wait after those that wait already, and the connection
+    /// gets a turn after the others. On one that isn't open nothing happens. `Err` means out of memory; nothing has changed
     /// then, so the bytes may be given again.
     pub fn receive(&mut self, conn: u64, bytes: &[u8]) -> Result<(), AllocError>
         ensures heard { OnOk result ((databases : List Database) → clients_of self.new databases ≡ heard (clients_of self.old databases) conn bytes.now) }
@@ -189,8 +189,8 @@ impl Clients {
     /// What the node has to do for a message of a connection, by what the message reads as; one that doesn't read as a request is
     /// refused. The connection's session may be asked, as that of a message is which `take` gives.
     ///
-    /// The request may have been handled then and its reply be lost, so the node can't go on as if nothing had been; but the
-    /// clients stand over the machine as ever.
+    /// The request may have been handled then and its reply be lost, so the node can't continue as if nothing had been; but the
+    /// clients stand over the state machine as ever.
     pub fn answer<E: Engine>(
         &mut self,
         conn: u64,
@@ -204,16 +204,16 @@ impl Clients {
         requires text { IfOk asked HasNoNul }
         requires term { HasShortTerm view.now }
         requires configured { IsConfigured view.now }
-        // No number stands for two images, for the engine, the transactions and the databases; and so it is afterwards.
+        // No number represents two images, for the engine, the transactions and the databases; and this holds afterwards.
         requires agrees { Agrees (E.known engine.old) self.old machine.old }
         ensures agrees { Agrees (E.known engine.new) self.new machine.new }
-        // The definition's outcome, by answers that the engine may give and told.
+        // The definition's outcome, by answers that the engine may give and gave.
         ensures came { IfOk result (Comes (call_on E.meaning E.kind E.told engine.old engine.new)
             (scene view.now (machine_of machine.old) (clients_of self.old machine.old).sessions conn) asked (E.refused_openings engine.old)
             (E.refused_openings engine.new) (clients_of self.new machine.new).sessions) }
         ensures rest { clients_of self.new machine.new ≡ with_sessions (clients_of self.old machine.old) (clients_of self.new machine.new).sessions }
         ensures stands { AreValidOver self.new machine.new }
-        // Where the node doesn't serve, no transaction begins.
+        // If the node doesn't serve, no transaction begins.
         ensures idle { view.now.serving ≡ false → HasNoTransactions (clients_of self.old machine.old) →
             HasNoTransactions (clients_of self.new machine.new) }
         // The databases stay except for their marks.
@@ -238,8 +238,8 @@ impl Clients {
     ///
     /// To be called again until it answers `None`; what it answers is to be done before.
     ///
-    /// The message may have been handled then and its reply be lost, so the node can't go on as if nothing had been; but the
-    /// clients stand over the machine as ever.
+    /// The message may have been handled then and its reply be lost, so the node can't continue as if nothing had been; but the
+    /// clients stand over the state machine as ever.
     pub fn next<E: Engine>(
         &mut self,
         view: &View,
@@ -249,14 +249,14 @@ impl Clients {
         requires stand { AreValidOver self.old machine.old }
         requires term { HasShortTerm view.now }
         requires configured { IsConfigured view.now }
-        // No number stands for two images, for the engine, the transactions and the databases; and so it is afterwards.
+        // No number represents two images, for the engine, the transactions and the databases; and this holds afterwards.
         requires agrees { Agrees (E.known engine.old) self.old machine.old }
         ensures agrees { Agrees (E.known engine.new) self.new machine.new }
-        // The definition's outcome, by answers that the engine may give and told.
+        // The definition's outcome, by answers that the engine may give and gave.
         ensures turn { IfOk result (TookTurn (call_on E.meaning E.kind E.told engine.old engine.new) view.now (machine_of machine.old)
             (clients_of self.old machine.old) (E.refused_openings engine.old) (E.refused_openings engine.new) (clients_of self.new machine.new)) }
         ensures stands { AreValidOver self.new machine.new }
-        // Where the node doesn't serve, no transaction begins.
+        // If the node doesn't serve, no transaction begins.
         ensures idle { view.now.serving ≡ false → HasNoTransactions (clients_of self.old machine.old) →
             HasNoTransactions (clients_of self.new machine.new) }
         // The databases stay except for their marks.
@@ -272,7 +272,7 @@ impl Clients {
         Ok(Some(act))
     }
 
-    /// The first connection whose query is to be run next, since its barrier is applied; none where there is none. Looks at each
+    /// The first connection whose query is to be run next, since its barrier is applied; none without one. Looks at each
     /// session.
     pub fn next_due(&self) -> Option<u64>
         ensures { (databases : List Database) → MatchOption result
@@ -283,10 +283,10 @@ impl Clients {
     }
 
     /// Runs the query that a connection has yet to answer: its barrier is applied, or its reader gave it back. It is run as if it was
-    /// asked now, but with no barrier and no reader any more; where the node doesn't serve any more it is refused. The connection
-    /// then gets a turn behind the others. `None` where it has no such query; then nothing is done.
+    /// asked now, but with no barrier and no reader any more; if the node doesn't serve any more it is refused. The connection
+    /// then gets a turn after the others. `None` where it has no query; then nothing is done.
     ///
-    /// The query may have been run then and its reply be lost; the clients stand over the machine as ever.
+    /// The query may have been run then and its reply be lost; the clients stand over the state machine as ever.
     pub fn on_later<E: Engine>(
         &mut self,
         conn: u64,
@@ -296,10 +296,10 @@ impl Clients {
     ) -> Result<Option<Act>, AllocError>
         requires stand { AreValidOver self.old machine.old }
         requires term { HasShortTerm view.now }
-        // No number stands for two images, for the engine, the transactions and the databases; and so it is afterwards.
+        // No number represents two images, for the engine, the transactions and the databases; and this holds afterwards.
         requires agrees { Agrees (E.known engine.old) self.old machine.old }
         ensures agrees { Agrees (E.known engine.new) self.new machine.new }
-        // The definition's outcome, by answers that the engine may give and told.
+        // The definition's outcome, by answers that the engine may give and gave.
         ensures resumed { IfOk result (Resumes (call_on E.meaning E.kind E.told engine.old engine.new)
             (scene view.now (machine_of machine.old) (clients_of self.old machine.old).sessions conn)
             (later_query ((clients_of self.old machine.old).sessions.session conn).later) (E.refused_openings engine.old) (E.refused_openings engine.new)
@@ -307,7 +307,7 @@ impl Clients {
         ensures rest { IfOk result (λ act. clients_of self.new machine.new ≡
             freed (clients_of self.old machine.old) (clients_of self.new machine.new).sessions (turn_for conn act)) }
         ensures stands { AreValidOver self.new machine.new }
-        // Where the node doesn't serve, no transaction begins.
+        // If the node doesn't serve, no transaction begins.
         ensures idle { view.now.serving ≡ false → HasNoTransactions (clients_of self.old machine.old) →
             HasNoTransactions (clients_of self.new machine.new) }
         // The databases stay except for their marks.
@@ -324,10 +324,10 @@ impl Clients {
     }
 
     /// A reader is done with the query of a connection, and tells this of it: what the node has to do for the connection, which gets
-    /// a turn behind the others. `None` where no reader has a query of the connection any more, since its client has gone; and where
+    /// a turn after the others. `None` where no reader has a query of the connection any more, since its client has gone; and where
     /// the reader gives the query back, which `on_later` then runs. Nothing has changed at `None`.
     ///
-    /// The query may be done then and its reply be lost; the clients stand over the machine as ever.
+    /// The query may be done then and its reply be lost; the clients stand over the state machine as ever.
     pub fn on_read_done(&mut self, conn: u64, read: Read) -> Result<Option<Act>, AllocError>
         ensures finished { IfOk result (λ act. (databases : List Database) → Finishes (clients_of self.old databases).sessions conn
             (lent_query ((clients_of self.old databases).sessions.session conn).later) (read_named read) (clients_of self.new databases).sessions act) }
@@ -346,10 +346,10 @@ impl Clients {
     }
 
     /// The entry of an index is applied: the proposal that ends with it is done. Answers the messages that tell its client so, if
-    /// it is there, with the number of its connection, which gets a turn behind the others; but where it was the barrier before a
-    /// query, nothing is told, and the query is to be run next: `next_due` tells it. The machine has the entry applied.
+    /// it is there, with the number of its connection, which gets a turn after the others; but if it was the barrier before a
+    /// query, nothing is reported, and the query is to be run next: `next_due` tells it. The state machine has the entry applied.
     ///
-    /// The proposal may be done then and its reply be lost; the clients stand over the machine as ever.
+    /// The proposal may be done then and its reply be lost; the clients stand over the state machine as ever.
     pub fn on_applied(
         &mut self,
         index: u64,
@@ -367,11 +367,11 @@ impl Clients {
         messages_to(self.alloc, told.as_slice())
     }
 
-    /// The node no longer leads the term of the proposals in flight: they and all transactions end. Answers the messages that
+    /// The node no longer leads the term of the pending proposals: they and all transactions end. Answers the messages that
     /// tell each client that waits so, in the order of the proposals' last entries, with the numbers of their connections,
-    /// which get a turn behind the others. Databases and statements stay, and readers go on.
+    /// which get a turn after the others. Databases and statements stay, and readers continue.
     ///
-    /// Proposals and transactions may have ended then and replies be lost; the clients stand over the machine as ever.
+    /// Proposals and transactions may have ended then and replies be lost; the clients stand over the state machine as ever.
     pub fn on_lost(&mut self, machine: &mut Machine) -> Result<Vec<(u64, WireBytes)>, AllocError>
         requires stand { AreValidOver self.old machine.old }
         ensures lost { OnOk result (clients_of self.new machine.new ≡ lost_all (clients_of self.old machine.old)) }
@@ -387,8 +387,8 @@ impl Clients {
         messages_to(self.alloc, told.as_slice())
     }
 
-    /// A law: clients without an open transaction have pinned no image; and over any databases no number stands for two images,
-    /// where no engine knows one. So a node whose transactions have ended may take over the databases of a snapshot, with an
+    /// A law: clients without an open transaction have pinned no image; and over any databases no number represents two images,
+    /// if no engine knows one. So a node whose transactions have ended may take over the databases of a snapshot, with an
     /// engine that has forgotten all numbers; `clients_change_databases` has the rest.
     pub fn have_ended(&self)
         ensures unmarked { (databases : List Database) → HasNoTransactions (clients_of self.now databases) →
@@ -399,7 +399,7 @@ impl Clients {
     }
 
     /// The client of a connection hangs up: its session goes with its transaction, with the messages that wait and with a query that
-    /// is yet to be answered. A proposal in flight, and the turn to write with it, stays until it is applied or lost. Of a
+    /// waits for its answer. A pending proposal, and the write lock with it, stays until it is applied or lost. Of a
     /// connection that isn't open nothing changes.
     pub fn hang_up(&mut self, conn: u64, machine: &mut Machine)
         requires stand { AreValidOver self.old machine.old }
@@ -411,7 +411,7 @@ impl Clients {
         let _stream = self.remove(conn, machine);
     }
 
-    /// Hands over the stream of a connection that carries a peer's messages from now on: the messages that wait behind those that were
+    /// Hands over the stream of a connection that carries a peer's messages from now on: the messages that wait after those that were
     /// taken, what is unread, and why it closes. The connection goes as one that hangs up. `None` where it isn't open; then nothing
     /// changes. To be called where `Act::Peer` is answered, before anything else is.
     pub fn hand_over(&mut self, conn: u64, machine: &mut Machine) -> Option<PeerStream>
@@ -445,7 +445,7 @@ impl Clients {
         Some(reason)
     }
 
-    // Takes out a connection, where it is open, with its session.
+    // Takes out a connection, if it is open, with its session.
     fn remove(&mut self, conn: u64, machine: &mut Machine) -> Option<Connection>
         requires stand { AreValidOver self.old machine.old }
         ensures found { result ≡ (clients_of self.old machine.old).streams conn }
@@ -461,7 +461,7 @@ impl Clients {
         stream
     }
 
-    // Whether a number is that of a connection that is open, or of one that hung up while its proposal is in flight.
+    // Whether a number is that of a connection that is open, or of one that hung up while its proposal is pending.
     fn is_taken(&self, conn: u64) -> bool
         ensures there { (databases : List Database) → AreValidOver self.now databases → result ≡ ((clients_of self.now databases).sessions.session conn).there }
         ensures closed { result ≡ false → get nat_cmp self.now.connections conn ≡ None }
@@ -469,7 +469,7 @@ impl Clients {
         self.connections.contains_key(&conn) || self.gateway.busy(conn)
     }
 
-    // Gives a connection that isn't open a session and a stream; false where it gets no session. Then, and at an `Err`,
+    // Gives a connection that isn't open a session and a stream; false if it gets no session. Then, and at an `Err`,
     // nothing has changed.
     fn join(&mut self, conn: u64) -> Result<bool, AllocError>
         requires { get nat_cmp self.old.connections conn ≡ None }
@@ -494,7 +494,7 @@ impl Clients {
         }
     }
 
-    // Why a connection is to be closed, where it is open and is to be.
+    // Why a connection is to be closed, if it is open and is to be.
     fn reason(&self, conn: u64) -> Option<CloseReason>
         ensures { (databases : List Database) → result ≡ closing ((clients_of self.now databases).streams conn) }
     {
@@ -504,7 +504,7 @@ impl Clients {
         }
     }
 
-    // Takes the first message that waits on a connection, where it is open and its session isn't busy.
+    // Takes the first message that waits on a connection, if it is open and its session isn't busy.
     fn take_from(&mut self, conn: u64) -> Option<Message>
         ensures took { (databases : List Database) (turns : List ℕ) →
             TookFrom (clients_of self.old databases) (clients_of self.new databases) conn turns result }

@@ -5,7 +5,7 @@ pub enum ConnectResult {
     Joined,
     /// There are 64 sessions already: the connection closes, with the reason `CloseReason::Limit`.
     Full,
-    /// The number is that of a connection that is open, or of one that hung up while its proposal is in flight. Nothing has
+    /// The number is that of a connection that is open, or of one that hung up while its proposal is pending. Nothing has
     /// changed.
     Taken,
 }

@@ -14,13 +14,13 @@ ghost use Rattle.client_sessions.specs.Clients.{heard, Offer, next_offer, IsOffe
 ghost use Rattle.client_sessions.specs.Seen.{clients_of, Agrees, HasNoMarks, AreValidOver};
 
 /// A law: the message whose turn it is is the first that waits on a connection that is open and whose session has no proposal
-/// in flight. So the requests of a connection come in the order of its stream, one at a time.
+/// pending. So the requests of a connection come in the order of its stream, one at a time.
 pub fn offers_are_first()
     ensures { (k : Clients) (offer : Offer) → next_offer k ≡ Some offer → IsOffered k offer }
 {}
 
-/// A law: whoever comes and goes, whatever is applied and whenever leadership is lost, a connection is open exactly where its
-/// session is there and hasn't hung up, and the reply that a proposal in flight gets can be sent.
+/// A law: whoever comes and goes, whatever is applied and whenever leadership is lost, a connection is open exactly if its
+/// session is there and hasn't hung up, and the reply that a pending proposal gets can be sent.
 pub fn clients_stay_sound()
     ensures started { Sound no_clients }
     ensures joined { (k : Clients) (conn : ℕ) → Sound k → Sound (joined k conn) }
@@ -29,7 +29,7 @@ pub fn clients_stay_sound()
     ensures lost { (k : Clients) (conns : List ℕ) → Sound k → Sound (freed k (events.on_lost k.sessions) conns) }
 {}
 
-/// A law: a command that the machine does leaves the clients as they are, and standing over it. What it asks of the machine is
+/// A law: a command that the state machine does leaves the clients as they are, and standing over it. What it asks of the state machine is
 /// the clause `shown` of `Machine::act`. And it leaves no number standing for two images.
 pub fn commands_keep_clients()
     ensures clients { (held : Held) (databases : List Database) (command : Command) → ((pin : Pinning) → StillPinned databases (act databases command) pin) →
@@ -47,8 +47,8 @@ pub fn clients_change_databases()
     ensures stand { (held : Held) (old new : List Database) → HasNoMarks old → HasNoMarks new → AreValidOver held old → AreValidOver held new }
 {}
 
-/// A law: where no transaction is open, none begins by clients that come and go, by bytes, nor by entries that are applied; and
-/// after lost leadership none is open. The calls that handle requests say the same of a node that doesn't serve. So between a lost
+/// A law: if no transaction is open, none begins by clients that come and go, by bytes, nor by entries that are applied; and
+/// after lost leadership none is open. The calls that handle requests say the same for a node that doesn't serve. So between a lost
 /// leadership and the next service none begins.
 pub fn no_transaction_begins()
     ensures started { HasNoTransactions no_clients }

@@ -18,7 +18,7 @@ const SEVEN: &[u8] =
 /// FAILURE 10506.
 const LOST: &[u8] = b"\x02\0\0\0\0\0\0\0\x0a\x29\0\0\0\0\0\0lost\0\0\0\0";
 
-/// What is answered to the statement, where an address can be dialled, the status of the end, what is printed, and how many
+/// What is answered to the statement, if an address can be dialled, the status of the end, what is printed, and how many
 /// calls are made on the dialer.
 const RUNS: &[(&[u8], u8, &[u8], usize)] = &[
     (SEVEN, 0, b"v\n7\n", 10),
@@ -43,7 +43,7 @@ fn client(alloc: Global) -> Result<ClientCore, AllocError>
     Ok(ClientCore::new(alloc, addresses, name, sql, true))
 }
 
-/// A dialer with one link on which this is answered to the statement, or none.
+/// A dialer with one connection on which this is answered to the statement, or none.
 fn dialer(alloc: Global, answer: &[u8]) -> Result<MemDialer, AllocError> {
     let mut answers = Vec::new(alloc);
     if !answer.is_empty() {

@@ -4,9 +4,9 @@ use std::io::{Read, Write};
 use std::net::TcpListener;
 use std::test::*;
 
-/// What comes of calls over a link to a port of this machine: whether it is there, the bytes that come to its other side and those
-/// that come back, the link's end once the other side is gone, and whether a dial of a port where nobody listens and a write
-/// without a link fail.
+/// What comes of calls over a connection to a port of this machine: whether it is there, the bytes that come to its other side and those
+/// that come back, the connection's end once the other side is gone, and whether a dial of a port where nobody listens and a write
+/// without a connection fail.
 fn talk(rt: HostRuntime) -> Option<([u8; 5], [u8; 4], usize, bool, bool)> {
     let listener = TcpListener::bind(&rt, "127.0.0.1:0").ok()?;
     let address = listener.local_addr().ok()?;
@@ -22,7 +22,7 @@ fn talk(rt: HostRuntime) -> Option<([u8; 5], [u8; 4], usize, bool, bool)> {
     Some((asked, told, end, refused, unlinked))
 }
 
-/// What the other side of the link hears, which answers and is gone.
+/// What the other side of the connection hears, which answers and is gone.
 fn hear<D: Dialer>(listener: &TcpListener, dialer: &mut D) -> Option<[u8; 5]> {
     let (mut peer, _) = listener.accept().ok()?;
     dialer.write_all(b"asked").ok()?;

@@ -119,7 +119,7 @@ module _ (mean : Meaning) (vs : Setup) (es fs : List Event) (n : ℕ) (k : Commi
       let g = mine_woven.at k.last k.name (tx_of k.term k.first) k.term true (commit_last mean (log_seen (log_at vs es n)) k whole).0 last_pos last_bears in
       tx_term term k.term f.first g.first f.small g.small (sym f.is ∙ g.is)
 
-  -- where both have an entry of the proposal's term they agree
+  -- if both have an entry of the proposal's term they agree
   agrees : (e : ℕ) (a b : List ℕ) (x y : ℕ) (c d : Bool) (t u : ℕ) (ps qs : List NumberedPage) → 0 < e → t ≡ u → Bears (log_seen (chosen vs (es ++ fs))) e a x c t ps → Bears (log_seen (log_at vs es n)) e b y d u qs → take e (chosen vs (es ++ fs)) ≡ take e (log_at vs es n)
   agrees e a b x y c d t u ps qs p q l m =
       chosen_agree vs es fs n e (bears_within (chosen vs (es ++ fs)) e a x c t ps p l) (bears_within (log_at vs es n) e b y d u qs p m)

@@ -1,4 +1,4 @@
--- What lives applied is a front of the chosen entries, and what was answered stands in the logs of later leaders.
+-- What lives applied is a front of the chosen entries, and what was answered is in the logs of later leaders.
 use Rattle.std.proofs.Common.{◌≡◌, ℕ, zero, suc, ◌<◌, ◌≤◌, true, true≢false, List, [], ◌∷◌, ◌++◌, length, take, drop, refl, sym, ap, ◌∙◌, subst, arith, length-append, append_assoc, take-append-drop}
 use Rattle.std.proofs.lemmas.List.{take-append-le, append-nil, take-take}
 use Rattle.session_spec.specs.Entries.{Entry as Line}
@@ -110,7 +110,7 @@ ended_chosen vs es e w h =
       is = h.front ∙ ap log_seen a.2 ∙ sym (seen_take x.applied (chosen vs (es ++ e ∷ []))) ∙ ap (λ k. take k (log_seen (chosen vs (es ++ e ∷ [])))) (sym applied);
     }
 
--- where a reply that waited was said
+-- if a reply that waited was said
 pub record Root (vs : Setup) (es : List Event) (x : Said) : Type 0 where
   pub first : List Event
   pub rest : List Event

@@ -9,7 +9,7 @@ use Rattle.raft_safety.specs.Properties.{EventsKeep}
 use Rattle.raft_safety.proofs.Properties.{chosen_step}
 use Rattle.cluster_model.specs.Weaving.{IsWoven}
 
--- the chosen entries are a front of the log of this node after so many events
+-- the chosen entries are a front of the log of this node after this many events
 pub record Held (vs : Setup) (es : List Event) : Type 0 where
   pub moment : ℕ
   pub within : moment ≤ length es

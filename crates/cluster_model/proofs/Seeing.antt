@@ -55,7 +55,7 @@ life_from vs (a ∷ more) c n h =
     let p = head_starts n a more h in
     life_from vs more (acted vs c a) n p.1 ∙ ap (λ w. lives_on w (all_doings n more)) (life_after vs c a n p.0) ∙ sym (lives_append (c.lives n) (doings n a) (all_doings n more))
 
--- the life of a node that isn't started goes on
+-- the life of a node that isn't started continues
 pub life_later : (vs : Setup) (acts more : List Act) (n : ℕ) → NoneStarts n more → (cluster vs (acts ++ more)).lives n ≡ lives_on ((cluster vs acts).lives n) (all_doings n more)
 unfolding cluster
 life_later vs acts more n h = ap (λ (d : Cluster). d.lives n) (cluster_join vs acts more first_cluster) ∙ life_from vs more (cluster_from vs first_cluster acts) n h

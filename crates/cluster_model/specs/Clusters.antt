@@ -141,11 +141,11 @@ pub record Ended (w : Life) (x : Stored) : Type 0 where
   pub applied : w.applied ≡ x.applied
   pub front : applied_entries w ≡ log_seen (take x.applied x.log)
 
--- what stands after so many acts of these steps, where no more than so many indexes were applied
+-- what is after this many acts of these steps, if no more than this many indexes were applied
 abbrev pub stands_after : Setup → ℕ → Node → List Input → ℕ → ℕ → Stored
 stands_after setup me s is acts applied = applied_to applied (enacted (stored_of s) (take acts (account (member_step setup me) s is)))
 
--- What a node shows of an event that is stopped after so many acts: the life is a front of what it would have been.
+-- What a node shows of an event that is stopped after this many acts: the life is a front of what it would have been.
 pub record StopFits (m : Meaning) (kind : EngineKind) (setup : Setup) (me : ℕ) (s : Node) (is : List Input) (acts applied : ℕ) (w : Life) (life : List Doing) : Type 0 where
   pub weaves : ProposalsKeep IsWoven setup me s is
   pub fits : AllFitIn m kind (step_logs setup me s is) w life

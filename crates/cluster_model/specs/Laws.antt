@@ -30,7 +30,7 @@ use Rattle.cluster_model.specs.Clusters.{Cluster, Act, Moves, Breaks, Crashes, S
 abbrev pub chosen_seen : Setup → Cluster → List Entry
 chosen_seen setup c = log_seen (chosen setup c.raft)
 
--- A reply that waited for an entry, to a commit, an OPEN or a change of the servers: its entry and all before it stand in the
+-- A reply that waited for an entry, to a commit, an OPEN or a change of the servers: its entry and all before it are in the
 -- whole log of each node that leads its term or a greater one.
 abbrev pub Stands : Setup → Cluster → Said → Type 0
 Stands setup c x = 0 < x.index → (n t : ℕ) → Leads setup c.raft n t → x.term ≤ t → (x.index ≤ length (log_at setup c.raft n)) × (take x.index (log_at setup c.raft n) ≡ take x.index (chosen setup c.raft))
@@ -47,12 +47,12 @@ pub record SafeCluster (m : Meaning) (setup : Setup) (c : Cluster) : Type 0 wher
   pub servers : (n : ℕ) → (node_at setup c.raft n).up ≡ true → configuration setup (take (c.lives n).applied (log_at setup c.raft n)) ≡ configuration setup (take (c.lives n).applied (chosen setup c.raft))
   -- each reply is right by the chosen entries
   pub said : AllSaid m (chosen_seen setup c) c.said
-  -- what was answered stands in the logs of later leaders
+  -- what was answered is in the logs of later leaders
   pub stands : AllStand setup c c.said
-  -- the entries of each transaction stand in one piece in the chosen entries
+  -- the entries of each transaction are in one piece in the chosen entries
   pub woven : Woven (chosen_seen setup c)
 
--- Where each act is what a node's step does, the cluster is safe at every moment, that is after any list of acts.
+-- If each act is what a node's step does, the cluster is safe at every moment, that is after any list of acts.
 abbrev pub ClustersAreSafe : Meaning → EngineKind → Type 0
 ClustersAreSafe m kind = (setup : Setup) (acts : List Act) → ActsFit m kind setup first_cluster acts → SafeCluster m setup (cluster setup acts)
 
@@ -66,7 +66,7 @@ abbrev pub AllInTime : Setup → List Event → List Event → ℕ → List Said
 AllInTime setup before after n [] = Unit {0}
 AllInTime setup before after n (x ∷ xs) = (0 < x.index → SaidInTime setup before after n x) × AllInTime setup before after n xs
 
--- So is all that is said in an act.
+-- Each reply of an act that waited for an entry is said in time.
 abbrev pub AnswersInTime : Meaning → EngineKind → Type 0
 AnswersInTime m kind =
     (setup : Setup) (acts : List Act) (a : Act) → ActsFit m kind setup first_cluster (acts ++ a ∷ []) →
@@ -107,17 +107,17 @@ StopsAreSafe = (setup : Setup) (events : List Event) (e : Event) → let x = tur
 abbrev pub AlikeFiles : Meaning → EngineKind → Type 0
 AlikeFiles m kind = (setup : Setup) (acts : List Act) (n k : ℕ) → ActsFit m kind setup first_cluster acts → let c = cluster setup acts in (c.lives n).applied ≡ (c.lives k).applied → databases (c.lives n) ≡ databases (c.lives k)
 
--- A write that once stood whole in a node's log, as each write in flight does: where the chosen entries have a commit of its
--- transaction, it stands there whole, at its place, and is right by them.
+-- A write that once was whole in a node's log, as each write pending does: if the chosen entries have a commit of its
+-- transaction, it is there whole, at its place, and is right by them.
 abbrev pub ChosenWhole : Meaning → Type 0
 ChosenWhole m =
     (setup : Setup) (events more : List Event) (n : ℕ) (k : Commit) → EventsKeep IsWoven setup (start setup) (events ++ more) → CommitOk m (log_seen (log_at setup events n)) k →
     (i term : ℕ) (name : List ℕ) (pages : List NumberedPage) → 0 < i → Bears (log_seen (chosen setup (events ++ more))) i name (tx_of k.term k.first) true term pages →
     (i ≡ k.last) × CommitOk m (log_seen (chosen setup (events ++ more))) k
 
--- So it is with a write that is refused as its leadership was lost: it is in flight at a running node at some moment, whatever
--- is said to its client. Where the chosen entries have a commit of its transaction at a later moment, that is its last entry,
--- with all its entries right before it, and it is right by them. Where they have none, no image has its pages.
+-- This holds for a write that is refused as its leadership was lost: it is pending at a running node at some moment, whatever
+-- is said to its client. If the chosen entries have a commit of its transaction at a later moment, that is its last entry,
+-- with all its entries right before it, and it is right by them. If they have none, no image has its pages.
 abbrev pub FlightsWhole : Meaning → EngineKind → Type 0
 FlightsWhole m kind =
     (setup : Setup) (acts more : List Act) (n conn : ℕ) (f : Flight) → ActsFit m kind setup first_cluster (acts ++ more) →

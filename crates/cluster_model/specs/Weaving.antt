@@ -1,4 +1,4 @@
--- How the entries of transactions stand in the logs of all nodes, as sessions see them.
+-- How the entries of transactions are in the logs of all nodes, as sessions see them.
 use Rattle.std.specs.Prelude.{◌≡◌, ℕ, true, List}
 use Rattle.session_spec.specs.Seen.{log_seen}
 use Rattle.session_safety.specs.Woven.{Woven}
@@ -10,11 +10,11 @@ use Rattle.raft_safety.specs.Chosen.{actor, chosen}
 use Rattle.raft_safety.specs.Sources.{midway}
 use Rattle.raft_safety.specs.Properties.{EventKeeps, EventsKeep}
 
--- the entries of each transaction stand in one piece in a log of Raft
+-- the entries of each transaction are in one piece in a log of Raft
 abbrev pub IsWoven : List raft.Entry → Type 0
 IsWoven log = Woven (log_seen log)
 
--- Where each proposal of a leader keeps its log woven, all logs of all nodes are woven, at all times.
+-- If each proposal of a leader keeps its log woven, all logs of all nodes are woven, at all times.
 abbrev pub LogsWeave : Type 0
 LogsWeave = (setup : Setup) (events : List Event) → EventsKeep IsWoven setup (start setup) events → (n : ℕ) → IsWoven (log_at setup events n)
 

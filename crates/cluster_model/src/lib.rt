@@ -22,7 +22,7 @@ ghost use Rattle.cluster_model.specs.Weaving.{ChosenWeaves, LogsWeave, LogsWeave
 
 use sql_engine::Engine;
 
-/// Where each proposal of a leader keeps its log woven, so are all logs of all nodes, at all times and after each step, and so
+/// If each proposal of a leader keeps its log woven, so are all logs of all nodes, at all times and after each step, and so
 /// are the chosen entries.
 #[tactic(auto, using(crate::proofs::Weavings::logs_weave_hold, crate::proofs::Weavings::midway_weave_holds, crate::proofs::Weavings::chosen_weaves_hold))]
 pub fn logs_weave()
@@ -31,7 +31,7 @@ pub fn logs_weave()
     ensures chosen { ChosenWeaves }
 {}
 
-/// A leader's proposal adds its contents to the log that sessions see, and keeps it woven, where it is a write's split pages,
+/// A leader's proposal adds its contents to the log that sessions see, and keeps it woven, if it is a write's split pages,
 /// numbered by the term and its first index, or has no pages.
 pub fn proposals_weave()
     ensures seen { ProposalsSeen }
@@ -85,12 +85,12 @@ pub fn files_are_alike<E: Engine>()
     ensures { (kind : _) → AlikeFiles (E.meaning kind) kind }
 {}
 
-/// A write that once stood whole in a node's log stands whole in the chosen entries, at its place, where these have its commit.
+/// A write that once was whole in a node's log is whole in the chosen entries, at its place, if these have its commit.
 pub fn chosen_whole<E: Engine>()
     ensures { (kind : _) → ChosenWhole (E.meaning kind) }
 {}
 
-/// A write in flight, refused as leadership was lost or not, stands whole in the chosen entries, where these have its commit.
+/// A pending write, refused as leadership was lost or not, is whole in the chosen entries, if these have its commit.
 pub fn flights_whole<E: Engine>()
     ensures { (kind : _) → FlightsWhole (E.meaning kind) kind }
 {}

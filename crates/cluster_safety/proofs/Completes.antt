@@ -35,7 +35,7 @@ use Rattle.cluster_safety.proofs.Runs.{goes, runs_make_acts_hold}
 use Rattle.cluster_safety.proofs.Safes.{up_at, applied_is}
 use Rattle.cluster_safety.proofs.Speaks.{last_fits, mine}
 
--- a request that is yet to be answered at the beginning, of which nothing is asked but that it waits
+-- a request that waits for its answer at the beginning, of which nothing is asked but that it waits
 some_request : Handled
 some_request = record { request = requests.Leader; before = []; own = [] }
 
@@ -70,7 +70,7 @@ module _ (mean : Meaning) (kind : EngineKind) where
   flight_of : (w : Life) (conn : ℕ) (o : Option Flight) (f : Flight) → o ≡ Some f → FlightIs mean w.log w.applied w.term (w.trail conn) o → FlightOk mean w.log w.applied w.term (w.trail conn) f
   flight_of w conn o f e a = subst (FlightIs mean w.log w.applied w.term (w.trail conn)) e a
 
-  -- a proposal in flight waits for an entry that isn't applied, at a node that leads its term
+  -- a pending proposal waits for an entry that isn't applied, at a node that leads its term
   waits_so : (vs : Setup) (new : Node) (t : raft.Node) (v : Life) (conn : ℕ) (f : Flight) → Stands vs new t v → LifeOk mean v → (new.sessions.session conn).flight ≡ Some f → WaitsForEntry new conn
   waits_so vs new t v conn f st ok e =
       let in_life : (v.gate.session conn).flight ≡ Some f = ap (λ (g : Gateway). (g.session conn).flight) st.sessions ∙ e in

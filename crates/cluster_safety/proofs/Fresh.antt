@@ -1,4 +1,4 @@
--- A connection that asks for barrier reads: its next reply, if it tells rows, read an image past the log that the leader had.
+-- A connection that asks for barrier reads: its next reply, if it gives rows, read an image past the log that the leader had.
 use Rattle.std.proofs.Common.{◌≡◌, ◌≢◌, ◌⊎◌, inl, inr, ℕ, suc, ◌+◌, ◌<◌, ◌≤◌, Bool, true, false, true≢false, List, [], ◌∷◌, ◌++◌, length, refl, sym, ap, ◌∙◌, subst, ⊎_elim, arith, append_assoc, length-append}
 use Rattle.std.specs.Prelude.{cond, ◌==◌, ◌&&◌, not, is_none, Option, Some, None}
 use Rattle.std.proofs.lemmas.Bool.{cond-true, cond-false, cond_both, eqb-true, eq-eqb, ne_eqb, cases_eq, cases_Bool, and_parts, or_cases, or_parts}

@@ -1,4 +1,4 @@
--- Messages of a run stand for those of Raft's world.
+-- Messages of a run represent those of Raft's world.
 use Rattle.std.proofs.Common.{◌≡◌, ◌⊎◌, ℕ, zero, suc, ◌+◌, ◌<◌, Bool, true, false, List, [], ◌∷◌, ◌++◌, length, map, take, refl, sym, ap, ◌∙◌, subst, ⊎_elim, arith, append_assoc, length-append}
 use Rattle.std.specs.Prelude.{cond, ◌==◌, Option, Some, None, slice_get}
 use Rattle.raft_spec.specs.Log.{Entry, LogEnd}
@@ -18,7 +18,7 @@ pub letters_join : (vs : Setup) (ms ns : List Message) (ls ks : List Letter) →
 letters_join vs [] ns ls ks a b = subst (λ (l : List Letter). LettersAre vs ns (l ++ ks)) (sym a) b
 letters_join vs (m ∷ ms) ns ls ks a b = (a.0, a.1 ++ ks, ap (λ (l : List Letter). l ++ ks) a.2, a.3, letters_join vs ms ns a.1 ks a.4 b)
 
--- a message of the world at a number, and the one that stands for it
+-- a message of the world at a number, and the one that represents it
 abbrev pub Found : Setup → Option Message → Option Letter → Type 0
 Found vs None o = o ≡ None
 Found vs (Some m) o = (l : Letter) × (o ≡ Some l) × LetterIs vs m l
@@ -120,7 +120,7 @@ no_letters (l ∷ ls) e = absurd (cc)
 head_is : (a b : Message) (xs ys : List Message) → a ∷ xs ≡ b ∷ ys → (b ≡ a) × (ys ≡ xs)
 head_is a b xs ys e = (cc, cc)
 
--- letters whose snapshots are kept ones
+-- peer messages whose snapshots are kept ones
 pub letters_sent : (vs : Setup) (c : List Entry) (old new : Kept) → KeepsFront vs c old → KeepsFront vs c new → (ms : List Message) (ls : List Letter) → AlikeAll ms (map (λ (l : Letter). l.message) ls) → AllSent old new ls → ((k : ℕ) (m : Message) → slice_get ms k ≡ Some m → WhatFront c m.what) → LettersAre vs ms ls
 letters_sent vs c old new f g [] ls a b h = no_letters ls a
 letters_sent vs c old new f g (m ∷ ms) [] a b h = absurd (no_more a.0 a.1 a.2)

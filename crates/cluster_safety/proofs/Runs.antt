@@ -243,7 +243,7 @@ module _ (mean : Meaning) (kind : EngineKind) where
     pub completes : Completes old new (taken r n came added) ((cluster vs acts).lives n) life
     pub says : replies ≡ map told (said_of (cluster vs acts) (Moves n (causes came added) places life))
 
-  -- what a reader tells is so for the life, whose query has the job that was handed out last
+  -- what a reader answers is so for the life, whose query has the job that was handed out last
   reads_in : (r : Run) (n : ℕ) (came : Comes) (w : Life) → JobsAre (r.jobs n) w → ReadsJob mean kind r n came → ReadsIn mean kind w (read_in came)
   reads_in r n (Reads conn reply) w jobs h = by (lent_query (w.gate.session conn).later) refl
     where
@@ -258,7 +258,7 @@ module _ (mean : Meaning) (kind : EngineKind) where
   reads_in r n (Hangup conn) w jobs h = tt
   reads_in r n (Gets k) w jobs h = tt
 
-  -- and behind an event it has the one that this handed out, or that from before
+  -- and after an event it has the one that this handed out, or that from before
   jobs_after : (vs : Setup) (acts : List Act) (n : ℕ) (cs : List Cause) (places : List ℕ) (life : List Doing) (before : ℕ → Option Job) (jobs : List (ℕ × Job)) → ActsFit mean kind vs first_cluster acts →
       ActsFit mean kind vs first_cluster (acts ++ Moves n cs places life ∷ []) → jobs ≡ lent_in ((cluster vs acts).lives n) life → JobsAre before ((cluster vs acts).lives n) →
       JobsAre (handed_on before jobs) ((cluster vs (acts ++ Moves n cs places life ∷ [])).lives n)
@@ -380,7 +380,7 @@ module _ (mean : Meaning) (kind : EngineKind) where
       (subst (ArePartOf w) (sym (ap (λ l. w ++ l) is_asks ∙ append-nil w)) (part_same w)))
       (cases_eq n k)
 
-  -- where nothing is handled
+  -- if nothing is handled
   pub none_handles : (r : Run) (n k conn : ℕ) (p : Place) → waits p conn ≡ [] → ArePartOf (waits ((with_place r k p no_jobs [] []).places n) conn) (waits (r.places n) conn ++ [])
   none_handles r n k conn p e =
       let w = waits (r.places n) conn in

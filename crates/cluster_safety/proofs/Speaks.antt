@@ -331,7 +331,7 @@ module _ (mean : Meaning) (kind : EngineKind) where
       ∙ ap (drop (length c)) (grown vs (acts ++ one) two ∙ ap (λ l. l ++ n2) (grown vs acts one) ∙ append_assoc c n1 n2)
       ∙ drop-append_seam c (n1 ++ n2)
 
-  -- a run that goes on, and what each node says
+  -- a run that continues, and what each node says
   pub record Speaks (vs : Setup) (r : Run) (acts : List Act) (events : List Event) : Type 0 where
     pub on : GoesOn mean kind vs r acts events
     pub speaks : (n : ℕ) → NotStarted n events → Spoke vs acts on.later n (replies_in n events) (spoken_in events)

@@ -77,7 +77,7 @@ use Rattle.raft_spec.specs.Account.{step_acts}
 use Rattle.raft_safety.specs.Members.{fixed, change_at, configuration, voters_after, may_change, member_step}
 use Rattle.raft_safety.specs.World.{put, run}
 
--- ---- what a node without open transactions stands for
+-- ---- what a node without open transactions represents
 
 twin_is : (s v : raft.Node) → v.base ≡ 0 → Twin s v → s ≡ v
 twin_is s v e t =
@@ -334,7 +334,7 @@ part_asked : (b : Bool) (r : Request) → ArePartOf ((cond b (r ∷ []) [] ++ []
 part_asked true r = inl (refl, tt)
 part_asked false r = tt
 
--- the session of a client whose proposal is in flight, and then applied
+-- the session of a client whose proposal is pending, and then applied
 abbrev session_at : List ℕ → Option Flight → Session
 session_at name flight = record { there = true; hung = false; database = name; barriers = false; later = None; statements = []; tx = None; lost = false; flight = flight }
 
@@ -378,7 +378,7 @@ opens_so trail before =
 abbrev writes_life : List Doing
 writes_life = lives.sets 5 empty_image 7 ∷ Apply ∷ []
 
--- what the engine told of it
+-- what the engine said of it
 abbrev set_answers : List Answer
 set_answers = Ok (lives.set_on empty_image 7) ∷ []
 

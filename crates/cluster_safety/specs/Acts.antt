@@ -1,4 +1,4 @@
--- What a run stands for: acts of a cluster that fit.
+-- What a run represents: acts of a cluster that fit.
 use Rattle.std.specs.Prelude.{cond, ◌==◌, ◌≡◌, ◌≢◌, ℕ, Option, Some, List, [], ◌∷◌, ◌++◌, map}
 use Rattle.sql_engine.specs.declared.kind.EngineKind.{EngineKind}
 use Rattle.sql_engine.specs.Meanings.{Meaning}
@@ -19,7 +19,7 @@ use Rattle.node_spec.specs.Nodes.{KeptIs, Stands}
 use Rattle.node_spec.specs.Steps.{Letter, FrontIs, Counts, told, calls, ArePartOf}
 use Rattle.cluster_safety.specs.Runs.{Place, Up, Down, Spoken, Run, Goes, Fails, Crashes, Starts, StartFails, Event, joins_in, asks_in, first_run, run_from, run, AllHold}
 
--- A message stands for one of Raft's world, and its bytes for the front of that one.
+-- A message represents one of Raft's world, and its bytes for the front of that one.
 pub record LetterIs (setup : Setup) (m : raft.Message) (l : Letter) : Type 0 where
   pub alike : AlikeMessage m l.message
   pub front : FrontIs setup l.bytes m.what
@@ -29,8 +29,8 @@ abbrev pub LettersAre : Setup → List raft.Message → List Letter → Type 0
 LettersAre setup [] ls = ls ≡ []
 LettersAre setup (m ∷ ms) ls = (l : Letter) × (rest : List Letter) × (ls ≡ l ∷ rest) × LetterIs setup m l × LettersAre setup ms rest
 
--- A node that is up stands for one of Raft's world and its life, and the last job of a connection whose query a reader has is that of the
--- life; what one that is down has kept stands for what Raft's node has stored.
+-- A node that is up represents one of Raft's world and its life, and the last job of a connection whose query a reader has is that of the
+-- life; what one that is down has kept represents what Raft's node has stored.
 abbrev pub PlaceIs : Setup → Place → (ℕ → Option Job) → raft.Node → Life → Type 0
 PlaceIs setup (Up node) jobs s w = Stands setup node s w × Counts setup node s × JobsAre jobs w
 PlaceIs setup (Down kept) jobs s w = KeptIs setup kept (stored_of s)
@@ -38,14 +38,14 @@ PlaceIs setup (Down kept) jobs s w = KeptIs setup kept (stored_of s)
 abbrev pub spoken_to : Spoken → ℕ × Reply
 spoken_to x = (x.conn, x.reply)
 
--- The run stands for these acts.
+-- The run represents these acts.
 pub record RunIs (m : Meaning) (kind : EngineKind) (setup : Setup) (r : Run) (acts : List Act) : Type 0 where
   pub fit : ActsFit m kind setup first_cluster acts
   pub places : (n : ℕ) → PlaceIs setup (r.places n) (r.jobs n) (node_at setup (cluster setup acts).raft n) ((cluster setup acts).lives n)
   pub letters : LettersAre setup (raft_run setup (cluster setup acts).raft).messages r.letters
   pub said : map spoken_to r.said ≡ map told (cluster setup acts).said
 
--- Every run stands for acts that fit.
+-- Every run represents acts that fit.
 abbrev pub RunsMakeActs : Meaning → EngineKind → Type 0
 RunsMakeActs m kind = (setup : Setup) (events : List Event) → AllHold m kind setup first_run events → (acts : List Act) × RunIs m kind setup (run events) acts
 
@@ -58,7 +58,7 @@ NotStarted n (Crashes k ∷ events) = NotStarted n events
 NotStarted n (Starts k servers new ∷ events) = (n ≢ k) × NotStarted n events
 NotStarted n (StartFails k kept ∷ events) = NotStarted n events
 
--- no connection of this number comes to the node in these events
+-- no connection of this number reaches the node in these events
 abbrev pub NotJoined : ℕ → ℕ → List Event → Type 0
 NotJoined n conn [] = Unit {0}
 NotJoined n conn (Goes k came added new letters replies jobs ∷ events) = (n ≡ k → joins_in came ≢ Some conn) × NotJoined n conn events
@@ -81,7 +81,7 @@ abbrev pub waits : Place → ℕ → List Request
 waits (Up node) conn = node.waiting conn
 waits (Down kept) conn = []
 
--- A run that goes on makes further acts. They start a node only where the run does, and a connection comes only where one comes
+-- A run that continues makes further acts. They start a node only if the run does, and a connection comes only if one comes
 -- in the run; and what they handle was asked in the run, each request at most once and in order.
 pub record GoesOn (m : Meaning) (kind : EngineKind) (setup : Setup) (r : Run) (acts : List Act) (events : List Event) : Type 0 where
   pub later : List Act

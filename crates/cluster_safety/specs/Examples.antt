@@ -22,7 +22,7 @@ use Rattle.cluster_model.specs.Examples.{opening, writing}
 use Rattle.node_spec.specs.Nodes.{Node, first_node}
 use Rattle.cluster_safety.specs.Runs.{Timeout, Connect, Asks, Hangup, Event, Goes, Crashes, Starts, nothing_kept, first_run, AllHold}
 
--- a lone node that was started over nothing, in a cluster that was opened with some servers, and was told others with the same voters
+-- a lone node that was started over nothing, in a cluster that was opened with some servers, and was given others with the same voters
 abbrev pub lone : List Server → List Server → Node
 lone opening servers = record {
   raft = record { id = 1; term = 0; vote = 0; entries = []; role = Follower; leader = 0; commit = 0; grants = []; servers = servers; rows = []; snapshot = record { index = 0; term = 0 }; base = 0 };

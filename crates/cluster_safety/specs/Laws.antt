@@ -25,7 +25,7 @@ use Rattle.node_spec.specs.Steps.{Letter, ArePartOf, told}
 use Rattle.cluster_safety.specs.Runs.{Up, Run, Spoken, spoken, Comes, Goes, Fails, Crashes, Starts, StartFails, Event, joins_in, asks_in, kept_at, first_run, run, AllHold}
 use Rattle.cluster_safety.specs.Acts.{spoken_to, NotStarted, NotJoined, asked}
 
--- Two machines have the same databases; their counts may differ.
+-- Two state machines have the same databases; their counts may differ.
 pub record SameFiles (a b : Machine) : Type 0 where
   pub names : a.names ≡ b.names
   pub images : (name : List ℕ) → (a.base name).image ≡ (b.base name).image
@@ -39,12 +39,12 @@ applied v = v.raft.commit
 abbrev pub log_end : Node → ℕ
 log_end v = v.raft.base + length v.raft.entries
 
--- The node's log reaches the index, and up to there has these entries past its cut. What is cut off is in its snapshot.
+-- The node's log reaches the index, and up to there has these entries past its cut. What is compacted is in its snapshot.
 pub record HasFront (chosen : List Line) (v : Node) (i : ℕ) : Type 0 where
   pub within : i ≤ log_end v
   pub entries : take (i - v.raft.base) (log_seen v.raft.entries) ≡ drop v.raft.base (take i chosen)
 
--- A reply that waited for an entry: this entry and all before it stand in the log of each node that leads the reply's term or a
+-- A reply that waited for an entry: this entry and all before it are in the log of each node that leads the reply's term or a
 -- greater one.
 abbrev pub StandsIn : List Line → Run → Said → Type 0
 StandsIn chosen r x = 0 < x.index → (n : ℕ) (v : Node) → r.places n ≡ Up v → v.raft.role ≡ Leader → x.term ≤ v.raft.term → HasFront chosen v x.index
@@ -80,7 +80,7 @@ pub record SafeRun (m : Meaning) (setup : Setup) (r : Run) (chosen : List Line) 
   -- what is kept of a node that is up or down, as its snapshot, is of a front too
   pub kept : (n : ℕ) → 0 < (kept_at (r.places n)).snap.index → KeepsOf setup chosen (kept_at (r.places n)).snap.index (kept_at (r.places n)).snap.bytes
   -- the servers that a node that is up knows of what it has applied are the configuration of a front; any two that know those of
-  -- the same front know the same, also where voters change
+  -- the same front know the same, also if voters change
   pub servers : (n index : ℕ) (v : Node) (servers : List Server) → r.places n ≡ Up v → Knows v index servers → ConfiguredBy setup chosen index servers
   pub alike_servers : (n k index : ℕ) (v u : Node) (xs ys : List Server) → r.places n ≡ Up v → r.places k ≡ Up u → Knows v index xs → Knows u index ys → xs ≡ ys
   -- and each snapshot that is in a message
@@ -89,12 +89,12 @@ pub record SafeRun (m : Meaning) (setup : Setup) (r : Run) (chosen : List Line) 
   pub replies : map spoken_to r.said ≡ map told said
   -- each is right by the list
   pub right : AllSaid m chosen said
-  -- and what was answered stands in the logs of later leaders
+  -- and what was answered is in the logs of later leaders
   pub stands : AllStandIn chosen r said
-  -- the entries of each transaction stand in one piece
+  -- the entries of each transaction are in one piece
   pub woven : Woven chosen
 
--- Where each call of a node has met its clauses, the run is safe, at every moment.
+-- If each call of a node has met its clauses, the run is safe, at every moment.
 abbrev pub RunsAreSafe : Meaning → EngineKind → Type 0
 RunsAreSafe m kind = (setup : Setup) (events : List Event) → AllHold m kind setup first_run events → (chosen : List Line) × (said : List Said) × SafeRun m setup (run events) chosen said
 
@@ -121,7 +121,7 @@ RunsAnswer m kind =
 
 -- ---- every request is answered
 
--- how many requests of a connection wait for a reply: those that aren't handled, and the last one that is, where it is yet to be
+-- how many requests of a connection wait for a reply: those that aren't handled, and the last one that is, if it is yet to be
 -- answered
 abbrev pub owed : Node → ℕ → ℕ
 owed v conn = length (v.waiting conn) + (if is_busy (v.sessions.session conn) then 1 else 0)
@@ -131,7 +131,7 @@ abbrev pub told_to : ℕ → List (ℕ × Reply) → ℕ
 told_to conn [] = 0
 told_to conn (p ∷ replies) = (if p.0 == conn then 1 else 0) + told_to conn replies
 
--- the connection's proposal is in flight, and the node, which leads its term, hasn't applied its last entry
+-- the connection's proposal is pending, and the node, which leads its term, hasn't applied its last entry
 pub record WaitsForEntry (v : Node) (conn : ℕ) : Type 0 where
   pub flight : Flight
   pub is : (v.sessions.session conn).flight ≡ Some flight
@@ -149,7 +149,7 @@ pub record Completed (conn : ℕ) (old new : Node) (came : Comes) (replies : Lis
   pub each : told_to conn replies + owed new conn ≡ owed old conn + length (asks_in came conn)
   pub waits : 0 < owed new conn → Waits new conn
 
--- So it is in each call for each connection that is open after it and didn't come by it.
+-- This holds in each call for each connection that is open after it and didn't come by it.
 abbrev pub RunsComplete : Meaning → EngineKind → Type 0
 RunsComplete m kind =
     (setup : Setup) (events : List Event) (n : ℕ) (came : Comes) (added : List LocalEvent) (new : Node) (letters : List Letter) (replies : List (ℕ × Reply)) (jobs : List (ℕ × Job)) (conn : ℕ) →
@@ -224,14 +224,14 @@ pub record SafeLater (m : Meaning) (setup : Setup) (events more : List Event) : 
   pub stays : take (length said) all ≡ said
   -- its part about a node has the node's replies in these events
   pub tells : (n : ℕ) → map told (news more said all n) ≡ replies_in n more
-  -- a write that was in flight at a node that is up: where the list has a commit of its transaction later, that is its last
-  -- entry, and it stands whole and is right
+  -- a write that was pending at a node that is up: if the list has a commit of its transaction later, that is its last
+  -- entry, and it is whole and is right
   pub flights : (n conn : ℕ) (v : Node) (f : Flight) → (run events).places n ≡ Up v → (v.sessions.session conn).flight ≡ Some f → is_write f.kind ≡ true →
       (i term : ℕ) (name : List ℕ) (pages : List NumberedPage) → 0 < i → Bears later i name (tx_of f.term f.first) true term pages → (i ≡ f.last) × (ss : List Statement) × CommitOk m later (commit_of f ss)
   -- a node that led a term and still does: what it has applied past the log that it had is above all that was answered by then
   pub barriers : (n a : ℕ) (v u : Node) → (run events).places n ≡ Up v → (run (events ++ more)).places n ≡ Up u → v.raft.role ≡ Leader → u.raft.role ≡ Leader → u.raft.term ≡ v.raft.term →
       log_end v < a → a ≤ applied u → AllBelow a said
-  -- a connection that asks for barrier reads, at a node that led a term and still does: where its next reply tells rows, these are
+  -- a connection that asks for barrier reads, at a node that led a term and still does: if its next reply gives rows, these are
   -- of an image that has all that any node had answered by then; so a query that waits for a barrier shows every commit that was
   -- answered before it was asked
   pub fresh : (n conn : ℕ) (v u : Node) → (run events).places n ≡ Up v → (run (events ++ more)).places n ≡ Up u → NotStarted n more → NotJoined n conn more →

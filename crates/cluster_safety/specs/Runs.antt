@@ -32,7 +32,7 @@ pub record Run : Type 0 where
   pub letters : List Letter
   pub said : List Spoken
 
--- What comes to a running node from outside. A message is any that was ever made, by its number. A reader tells the reply to the query
+-- What comes to a running node from outside. A message is any that was ever made, by its number. A reader answers the reply to the query
 -- that was lent of a connection.
 pub data Comes : Type 0 where
   Timeout : Comes
@@ -63,7 +63,7 @@ abbrev pub taken_letter : ℕ → Option Letter → List raft.Input
 taken_letter n None = []
 taken_letter n (Some l) = cond (l.message.to == n) (raft.Receive l.message ∷ []) []
 
--- what comes to Raft's part
+-- what reaches Raft's part
 abbrev pub comes_in : ℕ → List Letter → Comes → List raft.Input
 comes_in n letters Timeout = raft.Local raft.Timeout ∷ []
 comes_in n letters Beat = raft.Local raft.Beat ∷ []
@@ -100,7 +100,7 @@ joins_in (Hangup conn) = None
 joins_in (Gets k) = None
 joins_in (Reads conn reply) = None
 
--- what a reader tells, if one does
+-- what a reader answers, if one does
 abbrev pub read_in : Comes → Option (ℕ × Reply)
 read_in (Reads conn reply) = Some (conn, reply)
 read_in Timeout = None
@@ -164,8 +164,8 @@ run events = run_from first_run events
 
 -- ---- what the calls show
 
--- What a reader tells is what it makes of answers that its engine may give over the image of its job: the last one that was handed out
--- for its connection. Where there was none, nothing comes of it.
+-- What a reader answers is what it makes of answers that its engine may give over the image of its job: the last one that was handed out
+-- for its connection. If there was none, nothing comes of it.
 abbrev pub TellsOf : Meaning → EngineKind → Option Job → Reply → Type 0
 TellsOf m kind None reply = Unit {0}
 TellsOf m kind (Some job) reply =
@@ -181,7 +181,7 @@ ReadsJob m kind r n (Asks conn requests) = Unit {0}
 ReadsJob m kind r n (Hangup conn) = Unit {0}
 ReadsJob m kind r n (Gets k) = Unit {0}
 
--- A running node's call has met its clauses, for what came in, and with some answers that its engine told in it; a crash may come at any
+-- A running node's call has met its clauses, for what came in, and with some answers that its engine answered in it; a crash may come at any
 -- time; and a node that is down is started.
 abbrev pub Holds : Meaning → EngineKind → Setup → Run → Event → Type 0
 Holds m kind setup r (Goes n came added new letters replies jobs) =

@@ -4,7 +4,7 @@ use Rattle.node_core.specs.declared.node.Node.{Node}
 use Rattle.node_core.specs.Stepping.{IsUp}
 use Rattle.node_core.specs.Whole.{Agrees, IsSound}
 
--- it is sound, and no number stands for two images, where it isn't down and the engine knows none
+-- it is sound, and no number represents two images, if it isn't down and the engine knows none
 abbrev pub RunsWell : Option Node → Type 0
 RunsWell None = Unit {0}
 RunsWell (Some node) = IsSound node × (IsUp node → Agrees [] node)

@@ -23,7 +23,7 @@ fn proposed(cluster: &mut Cluster) -> Result<usize, Fail> {
     Ok(cluster.lose_mail())
 }
 
-/// How many nodes a leader tells of its change; whether it stops at this call of its disk, while another leader removes the change
+/// How many nodes a leader informs of its change; whether it stops at this call of its disk, while another leader removes the change
 /// from its log; and how many nodes it asks for their votes then.
 fn told_and_asked(alloc: Global, stop: Stop) -> Result<(usize, bool, usize), Fail> {
     let mut cluster = Cluster::fresh(alloc, 3, THREE)?;

@@ -37,7 +37,7 @@ const ROWS: u8 = 7;
 /// How many messages are delivered at most, until none is under way.
 const MESSAGES: u32 = 1_000;
 
-/// A reply: its connection, its number, and the first value of its first row, as a small number, where it has one.
+/// A reply: its connection, its number, and the first value of its first row, as a small number, if it has one.
 #[derive(Clone, Copy)]
 struct Reply {
     conn: u64,
@@ -64,7 +64,7 @@ pub(crate) struct Cluster {
 }
 
 impl Cluster {
-    /// So many nodes, which have kept nothing, and of which these are the servers.
+    /// This many nodes, which have kept nothing, and of which these are the servers.
     pub(crate) fn fresh(
         alloc: Global,
         nodes: u64,

@@ -81,7 +81,7 @@ impl TestNode {
         self.start()
     }
 
-    /// An event happens, and the node says this; none runs behind a step in which the disk stopped.
+    /// An event happens, and the node says this; none runs after a step in which the disk stopped.
     pub(crate) fn happens(&mut self, event: Event) -> Result<Option<StepOutputs>, Fail> {
         let Some(node) = &mut self.node else {
             return Ok(None);

@@ -9,7 +9,7 @@ use std::test::Fail;
 const CHANGES: &[u8] = b"\x02\0\0\0\x0c\0\0\0\x02\0\0\0\0\0\0\0m\0\0\0\0\0\0\0\
     \x01\0\0\0\x0e\0\0\0\x02\0\0\0\0\0\0\0";
 
-/// How often these come before the entry that is the 64th. Before them are the barrier, the entry that opens the database, and
+/// How many times these come before the entry that is the 64th. Before them are the barrier, the entry that opens the database, and
 /// that of the first write.
 const TIMES: u32 = 30;
 
@@ -60,7 +60,7 @@ fn reads(cluster: &mut Cluster) -> Result<(Option<u8>, Option<u8>), Fail> {
     Ok((first, cluster.read(2)))
 }
 
-/// What is read behind a stop at this call, or `None` where the step has no such call.
+/// What is read after a stop at this call, or `None` where the step doesn't make this call.
 fn after(alloc: Global, stop: Stop) -> Result<Option<(Option<u8>, Option<u8>)>, Fail> {
     let mut cluster = filled(alloc)?;
     cluster.aim(1, stop)?;
@@ -72,7 +72,7 @@ fn after(alloc: Global, stop: Stop) -> Result<Option<(Option<u8>, Option<u8>)>, 
     Ok(Some(reads(&mut cluster)?))
 }
 
-/// Which outcomes come of a stop at this call. `None` where the step has no such call.
+/// Which outcomes come of a stop at this call. `None` where the step doesn't make this call.
 fn outcomes(alloc: Global, call: u64) -> Result<Option<(bool, bool)>, Fail> {
     let mut found = (false, false);
     for pick in 0..PICKS {

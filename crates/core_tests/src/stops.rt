@@ -35,7 +35,7 @@ fn goes_on(cluster: &mut Cluster) -> Result<bool, Fail> {
     Ok(has_read && cluster.wrote(2) && cluster.are_alike())
 }
 
-/// Whether a node stopped, and whether all went on behind that.
+/// Whether a node stopped, and whether all went on after that.
 fn ends(alloc: Global, id: u64, stop: Stop) -> Result<(bool, bool), Fail> {
     let mut cluster = Cluster::fresh(alloc, 3, THREE)?;
     cluster.aim(id, stop)?;

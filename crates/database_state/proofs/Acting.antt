@@ -1,4 +1,4 @@
--- A machine stays one whatever a command does, and live pins go on showing what they showed.
+-- A state machine stays one whatever a command does, and live pins continue showing what they showed.
 use Rattle.std.proofs.Common.{◌≡◌, ◌≢◌, ℕ, ◌<◌, Bool, true, false, cond, eqb, inl, inr, ◌⊎◌, List, [], ◌∷◌, ◌++◌, length, map, Option, Some, None, Result, Ok, Err, refl, sym, ap, subst, ◌∙◌, arith, Ordering, Less, Equal, Greater}
 use Rattle.std.specs.Prelude.{is_none, IfOk, OnOk, OnErr}
 use Rattle.std.specs.Option.{option_map}
@@ -116,7 +116,7 @@ none_is_mark m e = cc
 pub fresh_within : MarksWithin (fresh_store empty_image)
 fresh_within id m e = absurd (none_is_mark m (sym (no_mark_at_first id) ∙ e))
 
--- ---- a machine stays one
+-- ---- a state machine stays one
 
 machine_changed : (name : List ℕ) (f : Database → Database) → Keeps f → (ds : List Database) → IsMachine ds → IsMachine (changed name f ds)
 machine_changed name f keeps ds m = machine_at f keeps (opened (length ds) name) name ds refl refl fresh_within tt m
@@ -171,7 +171,7 @@ module _ (f : Database → Database) (place : (d : Database) → (f d).place ≡
           let found : cond (has_place p x) (Some x) (at_place p (at_name (λ (d : Database). d.name) new name f ds)) ≡ at_place p (at_name (λ (d : Database). d.name) new name f ds) = ap (λ (b : Bool). cond b (Some x) (at_place p (at_name (λ (d : Database). d.name) new name f ds))) is in
           subst (AsWas f d) (sym found) (next later)
 
-  -- where the first that passes a test is changed, it is that one or it stays
+  -- if the first that passes a test is changed, it is that one or it stays
   pub place_first : (test : Database → Bool) (ds : List Database) (d first : Database) → find test ds ≡ Some first → at_place p ds ≡ Some d
       → (at_place p (change_first test f ds) ≡ Some d) ⊎ ((d ≡ first) × (at_place p (change_first test f ds) ≡ Some (f d)))
   unfolding change_first
@@ -323,7 +323,7 @@ find_all test P (x ∷ ds) d all e = by (λ later. find_all test P ds d all.1 la
     by on true is = subst P (some_is x d (sym (ap (λ (c : Bool). cond c (Some x) (find test ds)) is) ∙ e)) all.0
     by on false is = on (sym (ap (λ (c : Bool). cond c (Some x) (find test ds)) is) ∙ e)
 
--- where no two have one place, the one that was found by a test is found by its place
+-- if no two have one place, the one that was found by a test is found by its place
 pub own_place : (test : Database → Bool) (ds : List Database) (d : Database) → AreApart ds → find test ds ≡ Some d → at_place d.place ds ≡ Some d
 own_place test [] d apart e = absurd (none_is_some d e)
 own_place test (x ∷ ds) d apart e = by (λ later. own_place test ds d apart.1 later) (test x) refl
@@ -337,7 +337,7 @@ own_place test (x ∷ ds) d apart e = by (λ later. own_place test ds d apart.1 
         let other : x.place ≢ d.place = find_all test (λ y. x.place ≢ y.place) ds d apart.0 later in
         ap (λ (c : Bool). cond c (Some x) (at_place d.place ds)) (ne_eqb x.place d.place other) ∙ on later
 
--- where it is changed, it is found by its place as it was changed
+-- if it is changed, it is found by its place as it was changed
 own_changed : (test : Database → Bool) (f : Database → Database) → ((d : Database) → (f d).place ≡ d.place) → (ds : List Database) (d : Database) → AreApart ds → find test ds ≡ Some d → at_place d.place (change_first test f ds) ≡ Some (f d)
 unfolding change_first
 own_changed test f place [] d apart e = absurd (none_is_some d e)

@@ -113,7 +113,7 @@ order_from : (contents : List Content) (commands : List Command) → AreInOrder 
 order_from contents [] order = order
 order_from contents (command ∷ commands) order = order_from (act contents command) commands (act_keeps_order contents command order)
 
--- The contents that commands make stand in order.
+-- The contents that commands make are in order.
 pub files_in_order : (commands : List Command) → AreInOrder (files commands)
 unfolding IsStrictlySortedBy
 files_in_order commands = order_from [] commands tt

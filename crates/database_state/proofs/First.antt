@@ -44,7 +44,7 @@ module _ {X : Type 0} (test : X → Bool) (xs : List X) (i : ℕ) (x : X) (lt : 
 pub never : {X : Type 0} (test : X → Bool) (xs : List X) (i : ℕ) → length xs ≤ i → NoneBefore test xs i → find test xs ≡ None
 never test xs i past before = before.finding ∙ ap (find test) (drop_all i xs past)
 
--- where none is found, all stay
+-- if none is found, all stay
 pub stays : {X : Type 0} (test : X → Bool) (f : X → X) (xs : List X) → find test xs ≡ None → change_first test f xs ≡ xs
 unfolding change_first
 stays test f [] e = refl

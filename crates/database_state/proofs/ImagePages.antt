@@ -35,7 +35,7 @@ pages_more number (suc count) image =
     ∙ sym (append_assoc (listed number (page_at image number)) (pages_from (suc number) count image) (listed (suc number + count) (page_at image (suc number + count))))
     ∙ ap (λ (n : ℕ). (listed number (page_at image number) ++ pages_from (suc number) count image) ++ listed n (page_at image n)) next
 
--- what holds of each page is true of the pages of so many numbers
+-- what holds of each page is true of the pages of this many numbers
 pub pages_all : (P : NumberedPage → Type 0) (number count : ℕ) (image : Image) → ((n : ℕ) (page : List ℕ) → number ≤ n → n < number + count → page_at image n ≡ Some page → P (numbered n page)) → AllByRecursion P (pages_from number count image)
 unfolding pages_from
 pages_all P number zero image each = tt
@@ -113,7 +113,7 @@ side_held image k =
     let start : 4096 * (n / 2 - 1) ≡ 4096 * k = omega arith in
     held image n image.side (file_of_side image n mine) (omega arith) k start
 
--- the pages of so many pairs of numbers
+-- the pages of this many pairs of numbers
 pairs_held : (count k : ℕ) (image : Image) → length (pages_from (2 * k + 2) (2 * count) image) ≡ min count (pages_in image.main - k) + min count (pages_in image.side - k)
 unfolding pages_from
 pairs_held zero k image = omega arith

@@ -1,4 +1,4 @@
--- What stays true of a machine's databases, and what live pins show, after each change of one of them or of each.
+-- What stays true of a state machine's databases, and what live pins show, after each change of one of them or of each.
 use Rattle.std.proofs.Common.{◌≡◌, ◌≢◌, ℕ, suc, ◌<◌, Bool, true, false, cond, inl, inr, ◌⊎◌, List, [], ◌∷◌, length, map, refl, sym, ap, subst, ◌∙◌, arith, Ordering, Less, Equal, Greater}
 use Rattle.std.specs.List.{AllByRecursion}
 use Rattle.std.specs.Ordering.{match_ordering}
@@ -9,7 +9,7 @@ use Rattle.database_state.specs.Machines.{names_of, AreApart, AreBelow, AllWithi
 use Rattle.database_state.proofs.Named.{compare}
 use Rattle.database_state.proofs.Ordered.{order_kept, same_names}
 
--- a change of a database that keeps what a machine needs
+-- a change of a database that keeps what a state machine needs
 pub record Keeps (f : Database → Database) : Type 0 where
   pub name : (d : Database) → (f d).name ≡ d.name
   pub place : (d : Database) → (f d).place ≡ d.place
@@ -113,7 +113,7 @@ module _ (f : Database → Database) (keeps : Keeps f) (new : Database) (name : 
     numbers = all_at (λ d. IsPendingLow d.pending) (keeps.numbers new low) (λ d h. keeps.numbers d h) ds m.numbers;
   }
 
--- ---- the same where the first that passes a test is changed, and where each is
+-- ---- the same where the first that passes a test is changed, and if each is
 
 module _ (f : Database → Database) (keeps : Keeps f) where
   all_first : (P : Database → Type 0) → ((d : Database) → P d → P (f d)) → (test : Database → Bool) (ds : List Database) → AllByRecursion P ds → AllByRecursion P (change_first test f ds)

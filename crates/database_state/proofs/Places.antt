@@ -12,7 +12,7 @@ use Rattle.database_state.specs.Databases.{opened, changed, StandsAt, BelongsAt}
 abbrev pub at : Database → List ℕ → (Database → Database) → List Database → List Database
 at new name f ds = at_name (λ database. database.name) new name f ds
 
--- what was found so far: none of the first databases has the name, and it stands behind them
+-- what was found so far: none of the first databases has the name, and it follows them
 abbrev pub SoFar : List ℕ → List Database → ℕ → Type 0
 SoFar name ds i = (new : Database) (f : Database → Database) → at new name f ds ≡ take i ds ++ at new name f (drop i ds)
 
@@ -54,6 +54,6 @@ belongs_last name ds i past so_far = (
 pub stands_same : (name : List ℕ) (ds : List Database) (i : ℕ) → StandsAt name ds i → changed name (λ database. database) ds ≡ ds
 stands_same name ds i s = s.1 (opened (length ds) name) (opened (length ds) name) (λ database. database) ∙ set-get_or ds i (opened (length ds) name)
 
--- behind the last database nothing is left to be done
+-- after the last database nothing is left to be done
 pub all_done : (f : Database → Database) (ds total : List Database) (i : ℕ) → length ds ≤ i → take i ds ++ map f (drop i ds) ≡ total → ds ≡ total
 all_done f ds total i past so_far = sym (rw (take_all i ds past, drop_all i ds past) (append-nil ds)) ∙ so_far

@@ -114,7 +114,7 @@ image_read at image short =
     ∙ ap (λ (r : Result Image SnapFault). r >>= λ im. cond (bytes_eq text (wal 0 (image_frames im))) (Ok im) (Err (Order at))) sound
     ∙ cond-true (bytes_eq text text) (Ok image) (Err (Order at)) (same_text text)
 
--- what is read of an image's log is spelled so
+-- what is read of an image's log is encoded so
 pub record IsImageLog (text : List ℕ) (image : Image) : Type 0 where
   pub text_is : text ≡ image_log image
   pub short : IsShort image

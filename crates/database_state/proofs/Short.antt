@@ -1,4 +1,4 @@
--- No file of a machine is longer than a sizes page may state.
+-- No file of a state machine is longer than a sizes page may state.
 use Rattle.std.proofs.Common.{◌≡◌, ℕ, zero, suc, ◌-◌, ◌≤◌, ◌<◌, Bool, true, false, cond, List, [], ◌∷◌, ◌++◌, length, take, drop, map, set, get_or, Option, None, Result, Ok, Err, sym, ap, subst, ◌∙◌, arith, Ordering, Less, Equal, Greater}
 use Rattle.std.specs.Prelude.{IfOk, OnOk, OnErr}
 use Rattle.std.specs.List.{AllByRecursion}
@@ -106,7 +106,7 @@ pub moved_short : (name : List ℕ) (old new : List Database) → new ≡ change
 moved_short name old new is all =
     subst AllShort (sym is) (short_first (λ d. moved d) (λ d h. subst IsShort (sym (checkpointed_image d.store)) h) (has_name name) old all)
 
--- ---- calls of a machine
+-- ---- calls of a state machine
 
 pub short_after : {F : Type 0} (result : Result (Unit {0}) F) (old new : List Database) → OnOk result (AllShort old → AllShort new) → OnErr result (new ≡ old) → AllShort old → AllShort new
 short_after (Ok done) old new ok kept all = ok all

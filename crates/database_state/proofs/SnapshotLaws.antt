@@ -1,4 +1,4 @@
--- A snapshot is read exactly where the bytes are one.
+-- A snapshot is read exactly if the bytes are one.
 use Rattle.std.proofs.Common.{◌≡◌, ◌≢◌, ℕ, zero, suc, ◌+◌, ◌<◌, ◌≤◌, ◌^◌, true, false, cond, eqb, leb, inl, inr, List, [], ◌∷◌, ◌++◌, length, Option, Some, None, Result, Ok, Err, OnOk, refl, sym, ap, subst, ◌∙◌, append_assoc, append-nil, ◌&&◌, arith, Ordering, Less, Equal, Greater}
 use Rattle.std.specs.List.{AllByRecursion}
 use Rattle.std.specs.Ordering.{match_ordering}
@@ -49,7 +49,7 @@ done_is x y e = cc
 
 -- ---- names
 
--- a name is above the one before, where there is one
+-- a name is above the one before, if there is one
 abbrev Above : Option (List ℕ) → List ℕ → Type 0
 Above None name = Unit {0}
 Above (Some before) name = compare before name ≡ Less
@@ -165,7 +165,7 @@ set_stood old new set kept p =
     ap (λ (r : Result (ℕ × Unread) WordFault). in_snapshot r >>= λ tx. pages_at tx.1 >>= λ pages. Ok (record { tx = tx.0; pages = pages.0 }, pages.1)) (word_stood old mid set.tx kept.tx (passed_first old new (word set.tx) rest p))
     ∙ ap (λ (r : Result (List NumberedPage × Unread) SnapFault). r >>= λ pages. Ok (record { tx = set.tx; pages = pages.0 }, pages.1)) (pages_stood mid new set.pages kept.low kept.sizes kept.fits (passed_second old new (word set.tx) rest p))
 
--- what stood behind a flag
+-- what followed a flag
 record PassedFlag (flag : ℕ) (pending : Option PageSet) (mid new : Unread) : Type 0 where
   rest : List ℕ
   spelled : word flag ++ rest ≡ pending_text pending
@@ -317,7 +317,7 @@ all_above_none : (names : List (List ℕ)) → AllByRecursion (Above None) names
 all_above_none [] = tt
 all_above_none (n ∷ names) = (tt, all_above_none names)
 
--- what is read is spelled so
+-- what is read is encoded so
 pub snapshot_passed : (bytes : List ℕ) (contents : List Content) → AreBytes bytes → snapshot_of bytes ≡ Ok contents → IsSnapshot contents bytes
 unfolding snapshot_of
 snapshot_passed bytes contents fits e =
@@ -334,7 +334,7 @@ snapshot_passed bytes contents fits e =
     subst (λ (cs : List Content). IsSnapshot cs bytes) (done_is b.0.0 contents kept.1)
     (record { kept = rest.kept; in_order = rest.in_order; count = subst (λ (n : ℕ). n < 2 ^ 64) (sym rest.many) head.0; parts = parts })
 
--- what is spelled so is read
+-- what is encoded so is read
 pub snapshot_stood : (bytes : List ℕ) (contents : List Content) → IsSnapshot contents bytes → snapshot_of bytes ≡ Ok contents
 unfolding snapshot_of
 snapshot_stood bytes contents s =
@@ -347,13 +347,13 @@ snapshot_stood bytes contents s =
     ap (λ (r : Result (ℕ × Unread) SnapFault). r >>= λ count. contents_at count.0 None count.1 >>= ended) (head_stood (unread bytes) mid (length contents) s.count (passed_first (unread bytes) end front (contents_text contents) p))
     ∙ ap (λ (r : Result (List Content × Unread) SnapFault). r >>= ended) (contents_stood None contents mid end s.kept (all_above_none (names_of contents)) s.in_order (passed_second (unread bytes) end front (contents_text contents) p))
 
--- ---- the machine that is read
+-- ---- the state machine that is read
 
 pub restored_shown : (place : ℕ) (contents : List Content) → contents_of (restored_from place contents) ≡ contents
 restored_shown place [] = refl
 restored_shown place (c ∷ contents) = ap (λ (cs : List Content). c ∷ cs) (restored_shown (suc place) contents)
 
--- ---- the machine that is written
+-- ---- the state machine that is written
 
 same_names : (ds : List Database) → names_of (contents_of ds) ≡ machines.names_of ds
 same_names [] = refl
@@ -424,7 +424,7 @@ restored_short : (place : ℕ) (contents : List Content) → AllByRecursion IsKe
 restored_short place [] kept = tt
 restored_short place (c ∷ contents) kept = (kept.0.image, restored_short (suc place) contents kept.1)
 
--- what is read of a snapshot is a machine
+-- what is read of a snapshot is a state machine
 pub restored_machine : (contents : List Content) (bytes : List ℕ) → IsSnapshot contents bytes → IsMachine (restored_from 0 contents) × AllShort (restored_from 0 contents)
 restored_machine contents bytes s = (
   record {

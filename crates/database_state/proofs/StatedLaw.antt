@@ -26,7 +26,7 @@ use Rattle.database_state.proofs.Named.{compare, compare_tie}
 
 -- ---- pages that are applied
 
--- the last of pages behind others
+-- the last of pages after others
 last_behind : (front pages : List NumberedPage) → 1 ≤ length pages → last_page (front ++ pages) ≡ last_page pages
 last_behind front pages some =
     let h = has_last pages some in

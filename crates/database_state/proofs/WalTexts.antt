@@ -141,7 +141,7 @@ log_is at text pages e = checked_is at text (header_of text) pages e
 
 -- ---- what a reader found
 
--- a log that was read to its end, behind the header that is written here
+-- a log that was read to its end, after the header that is written here
 pub read_whole : (at : ℕ) (text : List ℕ) (start : Reading) (pages : List NumberedPage) (new : Reading) → Opened text start → TookPages start pages new → start.header ≡ written_header 0 → length new.rest ≡ 0 → log_pages at text ≡ Ok pages
 read_whole at text start pages new opened took head ended =
     let fs : List Frame = took.0 in

@@ -17,7 +17,7 @@ use Rattle.database_state.specs.Logs.{listed, pages_from, frame_of, plain_frames
 use Rattle.database_state.proofs.ImagePages.{pages_more}
 use Rattle.database_state.proofs.WalTexts.{log_blob, pending_log_length}
 
--- ---- one behind the other
+-- ---- one after the other
 
 pub continues_none : (out : List ℕ) (writer : Place) → Continues [] out writer out writer
 continues_none out writer start sequence frames w = subst (λ (fs : List Frame). Wrote start sequence fs out writer) (sym (append-nil frames)) w
@@ -102,7 +102,7 @@ blob_written (Err fault) o0 o1 o2 o3 text n count first same size len last = tt
 blob_written (Ok done) o0 o1 o2 o3 text n count first same size len last =
     last ∙ ap (λ (o : List ℕ). o ++ text) (same ∙ first) ∙ append_assoc o0 (word n) text ∙ ap (λ (k : ℕ). o0 ++ (word k ++ text)) size ∙ ap (λ (b : List ℕ). o0 ++ b) (sym (log_blob text count len))
 
--- ---- items behind items
+-- ---- items after items
 
 pub behind_two : {F : Type 0} (r : Result (Unit {0}) F) (o0 o1 o2 a b : List ℕ) → o1 ≡ o0 ++ a → OnOk r (o2 ≡ o1 ++ b) → OnOk r (o2 ≡ o0 ++ (a ++ b))
 behind_two (Err fault) o0 o1 o2 a b first last = tt

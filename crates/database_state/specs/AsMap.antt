@@ -14,7 +14,7 @@ names_of contents = map (λ (content : Content). content.name) contents
 abbrev pub AreInOrder : List Content → Type 0
 AreInOrder contents = Ascend (names_of contents)
 
--- the database of a name, where there is one
+-- the database of a name, if there is one
 abbrev pub content_named : List ℕ → List Content → Option Content
 content_named name contents = find (λ (content : Content). bytes_eq name content.name) contents
 
@@ -22,7 +22,7 @@ content_named name contents = find (λ (content : Content). bytes_eq name conten
 abbrev pub named_or_new : List ℕ → List Content → Content
 named_or_new name contents = unwrap_or (content_named name contents) (new_content name)
 
--- The database of a name is changed so, a new one where there was none, and each other is as it was.
+-- The database of a name is changed so, a new one if there was none, and each other is as it was.
 pub record ChangesOne (name : List ℕ) (f : Content → Content) (before after : List Content) : Type 0 where
   pub own : content_named name after ≡ Some (f (named_or_new name before))
   pub others : (other : List ℕ) → other ≢ name → content_named other after ≡ content_named other before

@@ -1,4 +1,4 @@
--- A machine as its databases, by the bytes of their names, each with its base, sets and live marks.
+-- A state machine as its databases, by the bytes of their names, each with its base, sets and live marks.
 use Rattle.std.specs.Prelude.{◌≡◌, ◌==◌, ℕ, ◌+◌, ◌-◌, ◌<◌, ◌≤◌, ◌^◌, min, Bool, true, false, List, [], ◌++◌, find, length, map, set, insert, get_or, bytes_eq, is_none, Option, Some, None, if◌then◌else◌}
 use Rattle.std.specs.Option.{option_map}
 use Rattle.dq_base.specs.declared.pages.NumberedPage.{NumberedPage}
@@ -11,7 +11,7 @@ use Rattle.database_state.specs.declared.database.Database.{Database}
 use Rattle.database_state.specs.ByName.{at_name, change_first}
 use Rattle.database_state.specs.Files.{Content, empty_image, pending_of, pending_without}
 
--- what the commands of a machine made of a database: its newest image, and the pages that are pending
+-- what the commands of a state machine made of a database: its newest image, and the pages that are pending
 abbrev pub content_of : Database → Content
 content_of database = record { name = database.name; image = newest_image database.store; pending = database.pending }
 
@@ -21,19 +21,19 @@ contents_of databases = map content_of databases
 abbrev pub has_name : List ℕ → Database → Bool
 has_name name database = bytes_eq name database.name
 
--- the database of a name, where there is one
+-- the database of a name, if there is one
 abbrev pub named : List ℕ → List Database → Option Database
 named name databases = find (has_name name) databases
 
--- a new database, which was opened when so many were there
+-- a new database, which was opened when this many were there
 abbrev pub opened : ℕ → List ℕ → Database
 opened place name = record { name = name; place = place; store = fresh_store empty_image; pending = None; since = 0 }
 
--- a count of 64 bits that grew by so much; it stands still at its type's end
+-- a count of 64 bits that grew by so much; it is still at its type's end
 abbrev pub grown : ℕ → ℕ → ℕ
 grown count by = min (count + by) (2 ^ 64 - 1)
 
--- the pages are one more commit, where they can be applied; else the database stays, and they count nowhere
+-- the pages are one more commit, if they can be applied; else the database stays, and they count nowhere
 abbrev pub with_commit : List NumberedPage → Database → Database
 with_commit pages database =
     if is_none (page_fault pages)
@@ -62,7 +62,7 @@ undone tx database = with_pending (pending_without tx database.pending) database
 abbrev pub moved : Database → Database
 moved database = record { name = database.name; place = database.place; store = checkpointed database.store; pending = database.pending; since = 0 }
 
--- what is done to the database of a name, a new one where there is none
+-- what is done to the database of a name, a new one if there is none
 abbrev pub changed : List ℕ → (Database → Database) → List Database → List Database
 changed name f databases = at_name (λ database. database.name) (opened (length databases) name) name f databases
 
@@ -73,7 +73,7 @@ act databases (Frames name tx truncate commit pages) = changed name (frames tx c
 act databases (Undo tx) = map (undone tx) databases
 act databases (Checkpoint name) = change_first (has_name name) moved databases
 
--- the database of the name stands at this place
+-- the database of the name is at this place
 abbrev pub StandsAt : List ℕ → List Database → ℕ → Type 0
 StandsAt name databases place = (place < length databases) × ((new d : Database) (f : Database → Database) → at_name (λ database. database.name) new name f databases ≡ set databases place (f (get_or databases place d)))
 

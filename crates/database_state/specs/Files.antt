@@ -33,7 +33,7 @@ abbrev pub pending_without : ℕ → Option PageSet → Option PageSet
 pending_without tx None = None
 pending_without tx (Some set) = if set.tx == tx then None else Some set
 
--- the image after pages, where they can be applied; else it stays
+-- the image after pages, if they can be applied; else it stays
 abbrev pub image_after : Image → List NumberedPage → Image
 image_after image pages = if is_none (page_fault pages) then applied image pages else image
 
@@ -47,7 +47,7 @@ frames tx false pages content = record { name = content.name; image = content.im
 abbrev pub undone : ℕ → Content → Content
 undone tx content = record { name = content.name; image = content.image; pending = pending_without tx content.pending }
 
--- what is done to the database of a name, a new one where there is none
+-- what is done to the database of a name, a new one if there is none
 abbrev pub changed : List ℕ → (Content → Content) → List Content → List Content
 changed name f contents = at_name (λ content. content.name) (new_content name) name f contents
 

@@ -1,4 +1,4 @@
--- The numbers of the newest images of a machine's databases.
+-- The numbers of the newest images of a state machine's databases.
 use Rattle.std.specs.Prelude.{◌≡◌, ◌⊎◌, ◌≤◌, List, length, map}
 use Rattle.std.specs.List.{AllByRecursion, Contains}
 use Rattle.dq_base.specs.declared.images.Image.{Image}
@@ -20,18 +20,18 @@ pub record Numbered : Type 0 where
 abbrev pub numbered : Database → Numbered
 numbered database = record { number = number_of database; image = newest_image database.store }
 
--- A database is another one later on: it was opened at the same place, it had as many commits or more, and where it had as
+-- A database is another one later on: it was opened at the same place, it had as many commits or more, and if it had as
 -- many, its newest image is the same.
 pub record Follows (old new : Database) : Type 0 where
   pub place : new.place ≡ old.place
   pub commits : newest old.store ≤ newest new.store
   pub image : newest new.store ≡ newest old.store → newest_image new.store ≡ newest_image old.store
 
--- a database is one of those before, later on, or it is new, and its place is behind theirs
+-- a database is one of those before, later on, or it is new, and its place is after theirs
 abbrev pub ComesFrom : List Database → Database → Type 0
 ComesFrom before new = ((old : Database) × Contains before old × Follows old new) ⊎ (length before ≤ new.place)
 
--- No number stands for another image than before: each database is one of those before, later on, or a new one; and there
+-- No number represents another image than before: each database is one of those before, later on, or a new one; and there
 -- are as many databases as before, or more.
 pub record NumbersGoOn (before after : List Database) : Type 0 where
   pub count : length before ≤ length after

@@ -14,12 +14,12 @@ pub record IsShort (image : Image) : Type 0 where
   pub main : length image.main ≤ longest_file
   pub side : length image.side ≤ longest_file
 
--- what is listed of a number: its page, where there is one
+-- what is listed of a number: its page, if there is one
 abbrev pub listed : ℕ → Option (List ℕ) → List NumberedPage
 listed number None = []
 listed number (Some page) = record { number = number; page = page } ∷ []
 
--- the pages that an image has at so many numbers, from one on
+-- the pages that an image has at this many numbers, from one on
 unfoldable pub pages_from : ℕ → ℕ → Image → List NumberedPage
 pages_from number zero image = []
 pages_from number (suc count) image = listed number (page_at image number) ++ pages_from (suc number) count image
@@ -52,7 +52,7 @@ image_log image = wal 0 (image_frames image)
 unfoldable pub pending_log : List NumberedPage → List ℕ
 pending_log pages = wal 0 (plain_frames pages)
 
--- These frames were written behind the others, whatever stood before.
+-- These frames were written after the others, whatever was before.
 abbrev pub Continues : List Frame → List ℕ → Place → List ℕ → Place → Type 0
 Continues more out writer new_out new_writer = (start : List ℕ) (sequence : ℕ) (frames : List Frame) →
     Wrote start sequence frames out writer → Wrote start sequence (frames ++ more) new_out new_writer

@@ -1,4 +1,4 @@
--- What is true of the databases of every machine.
+-- What is true of the databases of every state machine.
 use Rattle.std.specs.Prelude.{◌≢◌, ℕ, ◌<◌, List, [], ◌∷◌, length, map, Option, Some, None}
 use Rattle.std.specs.List.{AllByRecursion}
 use Rattle.dq_base.specs.declared.pages.PageSet.{PageSet}

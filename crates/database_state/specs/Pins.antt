@@ -1,4 +1,4 @@
--- Pins of a machine's databases.
+-- Pins of a state machine's databases.
 use Rattle.std.specs.Prelude.{◌≡◌, ℕ, ◌==◌, List, ◌<◌, Bool, find, Option, Some, None}
 use Rattle.page_store.specs.Marks.{mark_at, live_count}
 use Rattle.page_store.specs.declared.marks.MarkFault.{MarkFault}
@@ -29,7 +29,7 @@ abbrev pub is_live_in : Option Database → ℕ → Type 0
 is_live_in None mark = ⊥
 is_live_in (Some database) mark = IsLive database.store mark
 
--- a pin is live in a machine: its mark is, in the database of its place
+-- a pin is live in a state machine: its mark is, in the database of its place
 abbrev pub IsPinned : List Database → Pinning → Type 0
 IsPinned databases pin = is_live_in (at_place pin.place databases) pin.mark
 
@@ -45,11 +45,11 @@ pinned_image databases pin = shown_by (at_place pin.place databases) pin.mark
 abbrev pub of_mark_fault : MarkFault → PinFault
 of_mark_fault (mark_faults.Full marks) = Full marks
 
--- a machine where a mark is pinned in the database of a name: it sees all sets of the database
+-- a state machine where a mark is pinned in the database of a name: it sees all sets of the database
 abbrev pub with_pin : List ℕ → ℕ → List Database → List Database
 with_pin name mark databases = change_first (has_name name) (λ database. with_store (pinned database.store mark) database) databases
 
--- a machine where a pin is released
+-- a state machine where a pin is released
 abbrev pub without_pin : Pinning → List Database → List Database
 without_pin pin databases = change_first (has_place pin.place) (λ database. with_store (released database.store pin.mark) database) databases
 
@@ -69,7 +69,7 @@ abbrev pub IsRefused : Option Database → PinFault → Type 0
 IsRefused None fault = fault ≡ Unknown
 IsRefused (Some database) fault = (fault ≡ Full 64) × (live_count database.store.marks ≡ 64)
 
--- Where the pin was live it still is, and it shows the image that it showed.
+-- If the pin was live it still is, and it shows the image that it showed.
 pub record StillPinned (old new : List Database) (pin : Pinning) : Type 0 where
   pub live : IsPinned old pin → IsPinned new pin
   pub same_image : IsPinned old pin → pinned_image new pin ≡ pinned_image old pin

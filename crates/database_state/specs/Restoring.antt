@@ -46,12 +46,12 @@ in_snapshot (Err fault) = Err (of_word fault)
 
 -- ---- logs
 
--- so many frames that bytes state, without a test
+-- this many frames that bytes state, without a test
 unfoldable pub stated_frames : ℕ → List ℕ → List Frame
 stated_frames zero bytes = []
 stated_frames (suc count) bytes = stated_frame (take 4120 bytes) ∷ stated_frames count (drop 4120 bytes)
 
--- the whole frames that a log states behind its header, without a test
+-- the whole frames that a log states after its header, without a test
 abbrev pub frames_in : List ℕ → List Frame
 frames_in log = stated_frames ((length log - 32) / 4120) (drop 32 log)
 
@@ -96,7 +96,7 @@ log_pending at log = do
 
 -- ---- items
 
--- the name of the last database, where there is one
+-- the name of the last database, if there is one
 abbrev pub last_name : List Database → Option (List ℕ)
 last_name databases = option_map (λ (database : Database). database.name) (slice_get databases (length databases - 1))
 
@@ -104,7 +104,7 @@ last_name databases = option_map (λ (database : Database). database.name) (slic
 abbrev pub has_name_length : List ℕ → Bool
 has_name_length name = nat_le 1 (length name) && nat_le (length name) 255
 
--- a name is above the one before, where there is one
+-- a name is above the one before, if there is one
 abbrev pub is_above : Option (List ℕ) → List ℕ → Bool
 is_above None name = true
 is_above (Some before) name = match_ordering (slice_cmp nat_cmp before name) true false false
@@ -136,14 +136,14 @@ set_at left = do
   pages ← pages_at tx.1
   Ok (record { tx = tx.0; pages = pages.0 }, pages.1)
 
--- what follows a flag that stands at this place
+-- what follows a flag that is at this place
 abbrev pub flagged : ℕ → ℕ → Unread → Result (Option PageSet × Unread) SnapFault
 flagged at flag left =
     if flag == 0 then Ok (None, left)
     else if flag == 1 then (set_at left >>= λ set. Ok (Some set.0, set.1))
     else Err (Order at)
 
--- what is pending: a flag, and where it is 1 a transaction and its pages
+-- what is pending: a flag, and if it is 1 a transaction and its pages
 unfoldable pub pending_at : Unread → Result (Option PageSet × Unread) SnapFault
 pending_at left = do
   flag ← in_snapshot (word_at left)
@@ -157,7 +157,7 @@ content_at before left = do
   pending ← pending_at image.1
   Ok (record { name = name.0; image = image.0; pending = pending.0 }, pending.1)
 
--- so many databases, of which the first name is above the one before
+-- this many databases, of which the first name is above the one before
 unfoldable pub contents_at : ℕ → Option (List ℕ) → Unread → Result (List Content × Unread) SnapFault
 contents_at zero before left = Ok ([], left)
 contents_at (suc count) before left = do
@@ -171,7 +171,7 @@ head_at left = do
   format ← in_snapshot (word_at left)
   if format.0 == 1 then in_snapshot (word_at format.1) else Err Format
 
--- what was read, where nothing is left
+-- what was read, if nothing is left
 abbrev pub ended : List Content × Unread → Result (List Content) SnapFault
 ended read = if length read.1.bytes == 0 then Ok read.0 else Err Tail
 
@@ -193,11 +193,11 @@ Fails fault reading = reading ≡ Err fault
 abbrev pub Gives : {X Y : Type 0} → (X → Y) → Result Y SnapFault → Result X SnapFault → Type 0
 Gives view reading result = MatchResult result (λ x. reading ≡ Ok (view x)) (λ fault. Fails fault reading)
 
--- The same of a part that a reader takes, where nothing is said of where a fault leaves it.
+-- What a reader of a part gave is what reading gives; nothing is said of where a fault leaves the reader.
 abbrev pub Finds : {X Y : Type 0} → (X → Y) → (Unread → Result (Y × Unread) SnapFault) → Unread → Unread → Result X SnapFault → Type 0
 Finds view read old new result = MatchResult result (λ x. read old ≡ Ok (view x, new)) (λ fault. Fails fault (read old))
 
--- ---- machines
+-- ---- state machines
 
 -- a database as a snapshot gives it: no commits and no live marks
 abbrev pub restored_at : ℕ → Content → Database
@@ -207,6 +207,6 @@ abbrev pub restored_from : ℕ → List Content → List Database
 restored_from place [] = []
 restored_from place (content ∷ contents) = restored_at place content ∷ restored_from (suc place) contents
 
--- the databases of a machine as a snapshot gives them, opened in the order of their names
+-- the databases of a state machine as a snapshot gives them, opened in the order of their names
 abbrev pub restored : List Content → List Database
 restored contents = restored_from 0 contents

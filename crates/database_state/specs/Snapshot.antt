@@ -1,4 +1,4 @@
--- The text of a machine's snapshot, and which bytes are one.
+-- The text of a state machine's snapshot, and which bytes are one.
 use Rattle.std.specs.Prelude.{◌≡◌, ℕ, ◌<◌, ◌^◌, List, [], ◌∷◌, ◌++◌, length, Option, Some, None}
 use Rattle.std.specs.List.{AllByRecursion}
 use Rattle.dq_base.specs.declared.pages.PageSet.{PageSet}
@@ -9,7 +9,7 @@ use Rattle.database_state.specs.AsMap.{AreInOrder}
 use Rattle.database_state.specs.Files.{Content}
 use Rattle.database_state.specs.Logs.{IsShort, image_log, pending_log}
 
--- Where pages are pending, 1, their transaction, and the blob of their log; else 0.
+-- If pages are pending, 1, their transaction, and the blob of their log; else 0.
 abbrev pub pending_text : Option PageSet → List ℕ
 pending_text None = word 0
 pending_text (Some set) = word 1 ++ (word set.tx ++ blob (pending_log set.pages))
@@ -37,13 +37,13 @@ abbrev pub IsKeptPending : Option PageSet → Type 0
 IsKeptPending None = Unit {0}
 IsKeptPending (Some set) = IsKeptSet set
 
--- what a database of a machine is: a name in UTF-8, files that are not too long, and what may be pending
+-- what a database of a state machine is: a name in UTF-8, files that are not too long, and what may be pending
 pub record IsKept (content : Content) : Type 0 where
   pub name : IsTextName content.name
   pub image : IsShort content.image
   pub pending : IsKeptPending content.pending
 
--- The bytes are the snapshot of a machine with these databases, which stand by their names, each once.
+-- The bytes are the snapshot of a state machine with these databases, which stand by their names, each once.
 pub record IsSnapshot (contents : List Content) (bytes : List ℕ) : Type 0 where
   pub kept : AllByRecursion IsKept contents
   pub in_order : AreInOrder contents

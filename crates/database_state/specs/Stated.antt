@@ -29,11 +29,11 @@ greatest_stated (command ∷ commands) name = max (stated_for name command) (gre
 abbrev pub length_of_files : Image → ℕ
 length_of_files image = length image.main + length image.side
 
--- some bytes stand for the command, so it may have been read
+-- some bytes represent the command, so it may have been read
 abbrev pub IsSpelled : Command → Type 0
 IsSpelled command = (bytes : List ℕ) × Writes command bytes
 
--- the name of the database that a command opens, and names behind it
+-- the name of the database that a command opens, and names after it
 abbrev pub opened_by : Command → List (List ℕ) → List (List ℕ)
 opened_by (OpenDb name) names = name ∷ names
 opened_by (Frames name tx truncate commit pages) names = name ∷ names

@@ -1,4 +1,4 @@
-//! A database as a machine holds it.
+//! A database as a state machine holds it.
 
 ghost use Rattle.std.specs.Prelude.{◌≡◌, ◌++◌, take, length, is_none, is_some, true, false, None, Some, OnOk, OnErr, IfOk, if◌then◌else◌};
 ghost use Rattle.dq_base.specs.Applying.{page_fault};
@@ -11,12 +11,12 @@ use dq_base::{Image, Items, Name, NumberedPage, PageFault, PageSet};
 use page_store::PageStore;
 use std::alloc::{AllocError, Global};
 
-/// A database of a machine: its pages under readers, and the pages of a transaction that has not ended. `Machine::databases`
+/// A database of a state machine: its pages under readers, and the pages of a transaction that has not ended. `Machine::databases`
 /// lends all of them to be read.
 #[derive(Drop)]
 pub struct Database {
     pub(crate) name: Name,
-    /// Its place in the machine's order of opening.
+    /// Its place in the state machine's order of opening.
     pub(crate) place: usize,
     pub(crate) store: PageStore,
     pub(crate) pending: Option<PageSet>,
@@ -53,7 +53,7 @@ impl Database {
         }
     }
 
-    /// Makes pages one more commit, where they can be applied. `Err` means out of memory; the database is then
+    /// Makes pages one more commit, if they can be applied. `Err` means out of memory; the database is then
     /// unchanged.
     fn commit(&mut self, pages: &[NumberedPage]) -> Result<(), AllocError>
         ensures ok { OnOk result (self.new ≡ with_commit pages.now self.old) }
@@ -95,8 +95,8 @@ impl Database {
         });
     }
 
-    /// Puts pages behind others, and commits all of them where the transaction ends. After `Err`, out of memory, the
-    /// others stand at the front, and the database is unchanged.
+    /// Puts pages after others, and commits all of them where the transaction ends. After `Err`, out of memory, the
+    /// others are at the front, and the database is unchanged.
     fn extend_and_commit(
         &mut self,
         all: &mut Vec<NumberedPage>,

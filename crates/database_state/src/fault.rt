@@ -10,7 +10,7 @@ use thiserror::Error;
 use wal_frames::WalFault;
 use wire_words::WordFault;
 
-/// Why bytes are no snapshot of a machine. The first fault from left to right is named.
+/// Why bytes are no snapshot of a state machine. The first fault from left to right is named.
 #[derive(Clone, Copy, Debug, PartialEq, Eq, Error)]
 pub enum SnapFault {
     /// The first word isn't 1.

@@ -21,21 +21,21 @@ ghost use Rattle.database_state.specs.Machines.{IsMachine};
 ghost use Rattle.database_state.specs.Pins.{Pinning, with_pin, without_pin};
 
 /// What a command does to databases under readers is what it does to the files and pending pages that these show. So a
-/// machine that was made by a list of commands shows the files of that list. A law: the function does nothing.
+/// state machine that was made by a list of commands shows the files of that list. A law: the function does nothing.
 pub fn machines_show_files()
     ensures act { (databases : List Database) (command : Command) → contents_of (act databases command) ≡ of_files.act (contents_of databases) command }
     ensures fold { (commands : List Command) → contents_of (fold act [] commands) ≡ files commands }
 {}
 
 /// The commands of a split set, done in order, apply the whole set and leave nothing pending, wherever nothing of its
-/// transaction was pending under its name; where the set can't be applied, the image stays.
+/// transaction was pending under its name; if the set can't be applied, the image stays.
 pub fn split_sets_apply_whole()
     ensures { (name : List ℕ) (set : PageSet) (contents : List Content) → NonePending name set.tx contents →
         fold of_files.act contents (split name set) ≡ changed name (applied_set set) contents }
 {}
 
 /// The two files of each database that commands make are together at most as long as a sizes page states with which one of
-/// the commands commits for its name. The commands are any that bytes stand for, so this holds after each front of a list.
+/// the commands commits for its name. The commands are any that bytes represent, so this holds after each front of a list.
 pub fn files_are_no_longer_than_stated()
     ensures { (commands : List Command) → AllByRecursion IsSpelled commands →
         AllByRecursion (λ content. length_of_files content.image ≤ greatest_stated commands content.name) (files commands) }
@@ -49,7 +49,7 @@ pub fn commands_do_what_they_say()
     ensures does { (commands : List Command) (command : Command) → Does command (files commands) (files (commands ++ command ∷ [])) }
 {}
 
-/// Where the greatest lengths that a list of commands states for its names are together within a limit, the files of all
+/// If the greatest lengths that a list of commands states for its names are together within a limit, the files of all
 /// databases are together within it after every front of the list. The names are any that hold each name that the list opens.
 pub fn limit_bounds_files()
     ensures { (front later : List Command) (names : List (List ℕ)) (limit : ℕ) → AllByRecursion IsSpelled (front ++ later) →
@@ -58,8 +58,8 @@ pub fn limit_bounds_files()
         sum_by (λ (content : Content). length_of_files content.image) (files front) ≤ limit }
 {}
 
-/// Bytes are read as a machine exactly where they are its snapshot: what is read is spelled so, and what is spelled so is
-/// read. What a machine that was read shows is what its snapshot says.
+/// Bytes are read as a state machine exactly if they are its snapshot: what is read is encoded so, and what is encoded so is
+/// read. What a state machine that was read shows is what its snapshot says.
 pub fn snapshots_read_back()
     ensures spelled { (contents : List Content) (bytes : List ℕ) → AreBytes bytes → snapshot_of bytes ≡ Ok contents → IsSnapshot contents bytes }
     ensures read { (contents : List Content) (bytes : List ℕ) → IsSnapshot contents bytes → snapshot_of bytes ≡ Ok contents }
@@ -76,9 +76,9 @@ pub fn images_are_their_pages()
     ensures whole { (image : Image) → IsShort image → applied empty_image (all_pages image) ≡ image }
 {}
 
-/// A number stands for one image, as long as the machine is one and the same. After a command each database is one of those
+/// A number represents one image, while the state machine is one and the same. After a command each database is one of those
 /// before, with the same number and the same newest image or with more commits, or it is new, and its place in the order of
-/// opening is behind theirs. A pin and a release change no number and no newest image. No two databases of a machine are of
+/// opening is after theirs. A pin and a release change no number and no newest image. No two databases of a state machine are of
 /// one place, and each place is below their number.
 pub fn numbers_stand_for_images()
     ensures act { (databases : List Database) (command : Command) → NumbersGoOn databases (act databases command) }

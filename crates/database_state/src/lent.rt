@@ -1,4 +1,4 @@
-//! A machine's databases, lent to be read.
+//! A state machine's databases, lent to be read.
 
 ghost use Rattle.std.specs.Prelude.{◌≡◌, length};
 ghost use Rattle.dq_base.specs.Images.{page_at};
@@ -10,7 +10,7 @@ use crate::machine::Machine;
 use dq_base::{Lengths, Name, Page};
 
 impl Machine {
-    /// The databases, lent by the bytes of their names; what is true of those of every machine.
+    /// The databases, lent by the bytes of their names; what is true of those of every state machine.
     pub fn databases(&self) -> &[Database]
         ensures all { result.now ≡ self.now }
         ensures stand { IsMachine self.now }
@@ -35,7 +35,7 @@ impl Database {
         self.store.lengths()
     }
 
-    /// The page of a number in its newest image, with zeros past the end of its file; `None` exactly where that image has
+    /// The page of a number in its newest image, with zeros past the end of its file; `None` exactly if that image has
     /// no such page. Costs a look-up and the copy of one page.
     pub fn newest_page(&self, number: u64) -> Option<Page>
         ensures { result ≡ page_at (newest_image self.now.store) number }

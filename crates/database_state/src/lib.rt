@@ -1,4 +1,4 @@
-//! The machine of a node: what replicated commands make of its databases, each under readers.
+//! The state machine of a node: what replicated commands make of its databases, each under readers.
 #![tactic(auto)]
 
 mod database;

@@ -24,7 +24,7 @@ fn numbers_above_one(store: &PageStore) -> usize
     2 * main.max(side)
 }
 
-/// Appends the page of a number, where the newest image has one.
+/// Appends the page of a number, if the newest image has one.
 fn put_page(
     out: &mut Vec<u8>,
     writer: &mut WalWriter,
@@ -40,7 +40,7 @@ fn put_page(
     }
 }
 
-/// Appends the pages of so many numbers from 2 on, where the newest image has them.
+/// Appends the pages of this many numbers from 2 on, if the newest image has them.
 fn put_pages_above_one(
     out: &mut Vec<u8>,
     writer: &mut WalWriter,

@@ -1,4 +1,4 @@
-//! The machine: databases by their names.
+//! The state machine: databases by their names.
 
 ghost use Rattle.std.specs.Prelude.{◌≡◌, [], map, OnOk, OnErr, IfOk};
 ghost use Rattle.std.specs.Arc.{arc_value};
@@ -23,7 +23,7 @@ use std::marker::Model;
 use std::sync::Arc;
 
 /// What replicated commands make of a node's databases. Each is under readers: a base image, the page sets committed over
-/// it, and live read marks. Contracts see a machine as the list of its databases, by the bytes of their names.
+/// it, and live read marks. Contracts see a state machine as the list of its databases, by the bytes of their names.
 #[derive(Drop)]
 pub struct Machine {
     pub(crate) databases: Vec<Database>,
@@ -42,7 +42,7 @@ impl Model for Machine {
     ghost invariant = { λ m. IsMachine m.databases.items × AllShort m.databases.items };
 }
 
-/// Takes pages of a transaction into the database of a name, which is made where there is none. `Err` means out of
+/// Takes pages of a transaction into the database of a name, which is made if it is missing. `Err` means out of
 /// memory; the databases are then unchanged.
 fn take_frames(
     alloc: Global,
@@ -70,7 +70,7 @@ fn take_frames(
     }
 }
 
-/// Makes a database of a name where there is none. `Err` means out of memory; the databases are then
+/// Makes the database of a name if it is missing. `Err` means out of memory; the databases are then
 /// unchanged.
 fn open(alloc: Global, databases: &mut Vec<Database>, name: &Name) -> Result<(), AllocError>
     ensures ok { OnOk result (databases.new.items ≡ changed name.now (λ database. database) databases.old.items) }
@@ -95,7 +95,7 @@ fn undo(databases: &mut [Database], tx: u64)
     }
 }
 
-/// A checkpoint of the database of a name, where there is one.
+/// A checkpoint of the database of a name, if there is one.
 fn checkpoint(databases: &mut [Database], name: &Name)
     ensures { databases.new ≡ change_first (has_name name.now) moved databases.old }
 {
@@ -116,7 +116,7 @@ fn names(alloc: Global, databases: &[Database]) -> Result<Vec<Name>, AllocError>
     Ok(names)
 }
 
-/// Keeps the newest image of the database of a name whole, where there is one.
+/// Keeps the newest image of the database of a name whole, if there is one.
 fn keep_newest(databases: &mut Vec<Database>, name: &str)
     ensures { databases.new.items ≡ databases.old.items }
 {
@@ -155,7 +155,7 @@ fn act_on(alloc: Global, databases: &mut Vec<Database>, command: &Command) -> Re
 }
 
 impl Machine {
-    /// A machine without databases.
+    /// A state machine without databases.
     pub fn new(alloc: Global) -> Machine
         ensures { result ≡ [] }
     {
@@ -177,8 +177,8 @@ impl Machine {
     /// No page of the command has a number above 4,294,967,295, as is so where `Command::numbers_fit`.
     ///
     /// Costs in the order of the command's pages, of the pending ones where a transaction ends, and of the names; a
-    /// checkpoint in the order of the frames that it moves. Where the newest image is kept whole, a commit changes it in
-    /// place, and copies it first where somebody else holds it. `Err` means out of memory; the machine is then unchanged.
+    /// checkpoint in the order of the frames that it moves. If the newest image is kept whole, a commit changes it in
+    /// place, and copies it first where somebody else holds it. `Err` means out of memory; the state machine is then unchanged.
     pub fn act(&mut self, command: &Command) -> Result<(), AllocError>
         requires { HasLowNumbers command.now }
         ensures done { OnOk result (self.new ≡ act self.old command.now) }
@@ -189,7 +189,7 @@ impl Machine {
         act_on(self.alloc, &mut self.databases, command)
     }
 
-    /// How many commits the database of a name had, those of sets that could be applied; `None` exactly where there is
+    /// How many commits the database of a name had, those of sets that could be applied; `None` exactly if there is
     /// none.
     pub fn newest(&self, name: &str) -> Option<u64>
         ensures { result ≡ option_map (λ (database : Database). newest database.store) (named name.now self.now) }
@@ -197,7 +197,7 @@ impl Machine {
         Some(named(self.databases.as_slice(), name)?.store.newest())
     }
 
-    /// The transaction whose pages are pending in the database of a name; `None` exactly where none are.
+    /// The transaction whose pages are pending in the database of a name; `None` exactly if none are.
     pub fn pending(&self, name: &str) -> Option<u64>
         ensures { result ≡ tx_pending (named name.now self.now) }
     {
@@ -208,7 +208,7 @@ impl Machine {
         }
     }
 
-    /// How many pages the newest image of a database has, the sizes page included; `None` exactly where there is no
+    /// How many pages the newest image of a database has, the sizes page included; `None` exactly if there is no
     /// database of the name.
     pub fn pages(&self, name: &str) -> Option<u64>
         ensures { result ≡ option_map (λ (database : Database). page_count (newest_image database.store)) (named name.now self.now) }
@@ -216,7 +216,7 @@ impl Machine {
         Some(named(self.databases.as_slice(), name)?.store.page_count())
     }
 
-    /// How many pages were committed in a database since its last checkpoint; `None` exactly where there is none of the
+    /// How many pages were committed in a database since its last checkpoint; `None` exactly if there is none of the
     /// name.
     pub fn since(&self, name: &str) -> Option<u64>
         ensures { result ≡ option_map (λ (database : Database). database.since) (named name.now self.now) }
@@ -224,7 +224,7 @@ impl Machine {
         Some(named(self.databases.as_slice(), name)?.since)
     }
 
-    /// The newest image of the database of a name; `None` exactly where there is none. Copies it.
+    /// The newest image of the database of a name; `None` exactly without one. Copies it.
     pub fn newest_image(&self, name: &str) -> Result<Option<Image>, AllocError>
         ensures { IfOk result (λ image. image ≡ option_map (λ (database : Database). newest_image database.store) (named name.now self.now)) }
     {
@@ -234,8 +234,8 @@ impl Machine {
         }
     }
 
-    /// The newest image of the database of a name, shared; `None` exactly where there is none. Copies nothing where the
-    /// machine keeps it whole, and else the image. Whoever holds it keeps that image, whatever the machine does later.
+    /// The newest image of the database of a name, shared; `None` exactly without one. Copies nothing if the
+    /// state machine keeps it whole, and else the image. Whoever holds it keeps that image, whatever the state machine does later.
     pub fn newest_shared(&self, name: &str) -> Result<Option<Arc<Image, Global>>, AllocError>
         ensures { IfOk result (λ shared. option_map arc_value shared
             ≡ option_map (λ (database : Database). newest_image database.store) (named name.now self.now)) }
@@ -246,7 +246,7 @@ impl Machine {
         }
     }
 
-    /// Keeps the newest image of the database of a name whole from here on, where there is one, and the memory for it. Each
+    /// Keeps the newest image of the database of a name whole from here on, if there is one, and the memory for it. Each
     /// commit brings it along, and no command fails for it. Copies the image at the first time and after it was let go.
     pub fn keep_newest(&mut self, name: &str)
         ensures { self.new ≡ self.old }
@@ -254,7 +254,7 @@ impl Machine {
         keep_newest(&mut self.databases, name);
     }
 
-    /// The number of the newest image of the database of a name; `None` exactly where there is none. As long as the machine
+    /// The number of the newest image of the database of a name; `None` exactly without one. While the state machine
     /// is one and the same, images of one number are one image.
     pub fn number(&self, name: &str) -> Option<ImageNumber>
         ensures { result ≡ option_map number_of (named name.now self.now) }

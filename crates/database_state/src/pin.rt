@@ -4,8 +4,8 @@ use page_store::{MarkFault, MarkId};
 use std::marker::Model;
 use thiserror::Error;
 
-/// A live read mark of one database of a machine: the image that was newest when it was pinned stays to be read. Contracts
-/// see it as the place of its database in the machine's order of opening, and the mark. It is made by `Machine::pin`
+/// A live read mark of one database of a state machine: the image that was newest when it was pinned stays to be read. Contracts
+/// see it as the place of its database in the state machine's order of opening, and the mark. It is made by `Machine::pin`
 /// alone, can't be copied, and is spent by `Machine::release`.
 #[derive(Debug, Drop)]
 pub struct Pin {

@@ -1,4 +1,4 @@
-//! Reading a machine's databases under pins.
+//! Reading a state machine's databases under pins.
 
 ghost use Rattle.std.specs.Prelude.{◌≡◌, ◌≢◌, IfOk, IfErr, OnErr};
 ghost use Rattle.dq_base.specs.Images.{page_at};
@@ -40,8 +40,8 @@ fn release_pin(databases: &mut Vec<Database>, pin: Pin)
 }
 
 impl Machine {
-    /// Pins the newest image of the database of a name. `Unknown` exactly where there is none, and `Full(64)` exactly
-    /// where 64 of its pins are live; the machine is then unchanged. Looks at the names.
+    /// Pins the newest image of the database of a name. `Unknown` exactly without one, and `Full(64)` exactly
+    /// where 64 of its pins are live; the state machine is then unchanged. Looks at the names.
     pub fn pin(&mut self, name: &str) -> Result<Pin, PinFault>
         ensures done { IfOk result (IsPin name.now self.old self.new) }
         ensures shows { IfOk result (ShowsNewest name.now self.old self.new) }
@@ -52,7 +52,7 @@ impl Machine {
         pin_named(&mut self.databases, name)
     }
 
-    /// Releases a pin that is live in this machine; it is spent. Looks at the databases.
+    /// Releases a pin that is live in this state machine; it is spent. Looks at the databases.
     pub fn release(&mut self, pin: Pin)
         requires { IsPinned self.old pin }
         ensures done { self.new ≡ without_pin pin self.old }
@@ -61,7 +61,7 @@ impl Machine {
         release_pin(&mut self.databases, pin);
     }
 
-    /// The page of a number in the image that a live pin shows; `None` exactly where that image has no such page. Page 1
+    /// The page of a number in the image that a live pin shows; `None` exactly if that image doesn't have the page. Page 1
     /// is the sizes page and always exists. Costs a look-up and the copy of one page, and looks at the databases.
     pub fn page(&self, pin: &Pin, number: u64) -> Option<Page>
         requires { IsPinned self.now pin.now }

@@ -1,4 +1,4 @@
-//! Reading a machine from a snapshot.
+//! Reading a state machine from a snapshot.
 
 ghost use Rattle.std.specs.Prelude.{◌≡◌, length, Ok, None, IfOk, List, ℕ};
 ghost use Rattle.page_store.specs.Store.{fresh_store, newest_image};
@@ -18,7 +18,7 @@ use std::alloc::Global;
 use std::cmp::Ordering;
 use wire_words::Words;
 
-/// Whether a name is above that of the last database, where there is one.
+/// Whether a name is above that of the last database, if there is one.
 fn is_above(name: &Name, databases: &[Database]) -> bool
     ensures { result ≡ is_above (last_name databases.now) name.now }
 {
@@ -91,7 +91,7 @@ fn pending(alloc: Global, words: &mut Words<'_>) -> Result<Option<PageSet>, Snap
     }
 }
 
-/// A database behind others, without commits and live marks.
+/// A database after others, without commits and live marks.
 #[tactic(auto, unfolding(crate::specs::Restoring::content_at))]
 fn database(
     alloc: Global,
@@ -113,7 +113,7 @@ fn database(
     })
 }
 
-/// So many databases.
+/// This many databases.
 fn databases(alloc: Global, words: &mut Words<'_>, count: u64) -> Result<Vec<Database>, SnapFault>
     ensures exact { Finds (λ databases. contents_of databases.items) (contents_at count None) words.old words.new result }
     ensures fresh { IfOk result (λ databases. databases.items ≡ restored (contents_of databases.items)) }
@@ -153,23 +153,23 @@ fn read_databases(alloc: Global, bytes: &[u8]) -> Result<Vec<Database>, SnapFaul
 }
 
 impl Machine {
-    /// Reads a machine from its snapshot, which has to be all of the bytes. Its databases had no commits since, and no mark
+    /// Reads a state machine from its snapshot, which has to be all of the bytes. Its databases had no commits since, and no mark
     /// is live in them.
     ///
     /// The first fault from left to right is named. A first word that isn't 1 is `Format`. `Word` is an item that isn't
-    /// there whole or isn't spelled as it has to be, with the place of the item. `Order` has the place of a name that
+    /// there whole or isn't encoded as it has to be, with the place of the item. `Order` has the place of a name that
     /// doesn't have 1 to 255 bytes or isn't above the one before it, of a flag above 1, or of a log. Of a log its header
     /// comes first, as `Wal`, then, as `Order`, that it isn't written so of its frames with the sequence number 0. Then its
-    /// pages, where they are those of an image, may be none that can be applied to two empty files, as `Pages`; and at last,
+    /// pages, if they are those of an image, may be none that can be applied to two empty files, as `Pages`; and at last,
     /// again as `Order`, the log may be another than that of the image, or a frame of pending pages may have a commit size.
-    /// Bytes behind the last database are `Tail`. `NoMemory` means out of memory, which may come before another fault.
+    /// Bytes after the last database are `Tail`. `NoMemory` means out of memory, which may come before another fault.
     ///
     /// Each log is read, and its pages are written once more to be compared.
     pub fn from_snapshot(alloc: Global, bytes: &[u8]) -> Result<Machine, SnapFault>
-        // What is read is spelled so.
+        // What is read is encoded so.
         ensures found { IfOk result (λ machine. IsSnapshot (contents_of machine) bytes.now) }
         ensures fresh { IfOk result (λ machine. machine ≡ restored (contents_of machine)) }
-        // What is spelled so is read, unless memory runs out.
+        // What is encoded so is read, unless memory runs out.
         ensures only { (contents : List Content) → IsSnapshot contents bytes.now → Gives contents_of (Ok contents) result }
         // Which fault it is.
         ensures exact { Gives contents_of (snapshot_of bytes.now) result }

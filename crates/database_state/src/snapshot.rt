@@ -1,4 +1,4 @@
-//! Writing a machine as a snapshot.
+//! Writing a state machine as a snapshot.
 
 ghost use Rattle.std.specs.Prelude.{◌≡◌, ◌<◌, ◌^◌, ◌++◌, length, IfOk, OnOk};
 ghost use Rattle.std.specs.List.{AllByRecursion};
@@ -132,7 +132,7 @@ fn put_snapshot(alloc: Global, out: &mut Vec<u8>, databases: &[Database]) -> Res
 }
 
 impl Machine {
-    /// Appends the machine as bytes: its databases by their names, each with its newest image and what is pending. Read
+    /// Appends the state machine as bytes: its databases by their names, each with its newest image and what is pending. Read
     /// marks, the counts of commits and of pages since a checkpoint are no part of it.
     ///
     /// Costs one buffer, which is the caller's: each page is looked up once and copied into it once, and no image is made
@@ -144,7 +144,7 @@ impl Machine {
         put_snapshot(self.alloc, out, self.databases.as_slice())
     }
 
-    /// The machine as bytes of their own, as `snapshot_into` appends them.
+    /// The state machine as bytes of their own, as `snapshot_into` appends them.
     pub fn snapshot(&self) -> Result<WireBytes, AllocError>
         ensures text { IfOk result (λ bytes. bytes ≡ snapshot_text (contents_of self.now)) }
         ensures spelled { IfOk result (λ bytes. IsSnapshot (contents_of self.now) bytes) }

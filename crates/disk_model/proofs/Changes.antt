@@ -57,7 +57,7 @@ put_length at bytes old h =
     let c : length (drop (at + length bytes) old) ≡ length old - (at + length bytes) = length-drop (at + length bytes) old in
     omega (arith, a, b, c)
 
--- a place that a write didn't touch lies before or behind it
+-- a place that a write didn't touch lies before or after it
 untouched_place : (at n i : ℕ) → (nat_le at i && nat_lt i (at + n)) ≡ false → (i < at) ⊎ (at + n ≤ i)
 untouched_place at n i e =
     ⊎_elim
@@ -78,7 +78,7 @@ still_bytes held since (Cut k) c left = record {
   no_longer = left.no_longer;
 }
 
--- a write to bytes that a crash may leave gives such bytes
+-- a write to bytes that a crash may leave gives bytes that a crash may leave
 pub put_bytes : (held : List ℕ) (since : List Change) (at : ℕ) (bytes c : List ℕ) → at ≤ length c → LeavesBytes held since c → LeavesBytes held (Wrote at bytes ∷ since) (put at bytes c)
 put_bytes held since at bytes c h left =
     let n : length c ≤ reach (length held) since = left.no_longer in

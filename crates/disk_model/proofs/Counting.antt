@@ -4,7 +4,7 @@ use Rattle.dq_base.specs.Faults.{one_more, last_count}
 use Rattle.disk_model.specs.Trait.{Text, after_calls, MakesCalls}
 use Rattle.disk_model.specs.Writing.{replace_calls}
 
--- calls behind calls
+-- calls after calls
 pub after_more : (a b before : ℕ) → after_calls (a + b) before ≡ after_calls b (after_calls a before)
 after_more zero b before = let e : 0 + b ≡ b = omega arith in ap (λ (k : ℕ). after_calls k before) e
 after_more (suc a) b before = let e : suc a + b ≡ suc (a + b) = omega arith in ap (λ (k : ℕ). after_calls k before) e ∙ after_more a b (one_more before)

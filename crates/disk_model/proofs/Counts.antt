@@ -21,7 +21,7 @@ caused old mid new result l k e = record { never_falls = omega (arith, l, k); fa
 pub spared : {T : Type 0} (old new : ℕ) (result : Result T DiskFault) → old ≤ new → (result ≡ Err Failed → ⊥) → HasCause old new result
 spared old new result l no_failure = record { never_falls = l; failed = λ r. absurd (no_failure r) }
 
--- the counts after one fault more, where the call was to answer so
+-- the counts after one fault more, if the call was to answer so
 pub counted_more : (old mid new : FaultInjector) → Counted old mid → fails_next old ≡ true → new ≡ record mid { faults = one_more mid.faults } → Counted old new
 counted_more old mid new c fails e = record {
   made = (λ i. (e i).made) ∙ c.made;

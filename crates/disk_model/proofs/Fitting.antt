@@ -162,7 +162,7 @@ module _ (h : Held) (r base : Found) (cs : List UnsyncedEffect) (holds : HoldsFi
       clean = λ e. let z : true ≡ false = sym now_there ∙ e in absurd cc;
     }
 
-  -- where no removal waits, a file that isn't there has no bytes
+  -- if no removal waits, a file that isn't there has no bytes
   pub no_bytes : (h.standing ≡ Gone → ⊥) → now.there ≡ false → now.bytes ≡ []
   no_bytes no_removal t = ⊎_elim (λ q. absurd (no_removal q)) (λ q. q) (holds.clean t)
 

@@ -45,7 +45,7 @@ front_done (Truncation k) s read base same =
 front_done Removal s read base same = same
 front_done Nothing s read base same = same
 
--- bytes that follow others, of which so many are there
+-- bytes that follow others, of which this many are there
 pub followed : (s : ℕ) (new old : List ℕ) → SameFront s new old → take (length new) (put s (drop s new) old) ≡ new
 followed s new old same =
     let rest = drop (s + length (drop s new)) old in

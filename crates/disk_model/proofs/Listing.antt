@@ -11,7 +11,7 @@ use Rattle.disk_model.specs.Folder.{file_of, has_name, ListsFiles}
 use Rattle.disk_model.specs.MemFiles.{MemFile}
 use Rattle.disk_model.proofs.Effects.{eq_here}
 
--- the first so many files of a list are looked at
+-- the first this many files of a list are looked at
 pub record Listing (files : List MemFile) (i : ℕ) (names : List Text) : Type 0 where
   pub there : (n : Text) → Among n names → (file_of files n).read.there ≡ true
   pub so_far : (k : ℕ) → k < i → (d : MemFile) → (file_of files (get_or files k d).name).read.there ≡ true → Among (get_or files k d).name names

@@ -14,7 +14,7 @@ seen_write h f at bytes t within was = record {
   left = λ e. put_bytes h.bytes h.since at bytes f.bytes within (was.left t);
 }
 
--- the write that makes a file, where all was at rest
+-- the write that makes a file, if all was at rest
 pub seen_new : (h : Held) (f : Found) (bytes : List ℕ) → f.there ≡ false → Rest h f → LeavesFile (after_write 0 bytes h) (found (put 0 bytes f.bytes))
 seen_new h f bytes t rest =
     let here : LeavesBytes h.bytes h.since f.bytes = subst (λ (c : List ℕ). LeavesBytes h.bytes h.since c) rest.bytes (subst (λ (s : List Change). LeavesBytes h.bytes s h.bytes) (sym rest.since) (same_bytes h.bytes)) in

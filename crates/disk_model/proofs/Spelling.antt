@@ -1,4 +1,4 @@
--- Calls on spelled names are calls on what they spell, where no two names are spelled alike.
+-- Calls on encoded names are calls on what they encode, if no two names are encoded alike.
 use Rattle.std.proofs.Common.{◌≡◌, inl, inr, List, [], ◌∷◌, ap}
 use Rattle.disk_model.specs.Disk.{Files, Disk, Leaves}
 use Rattle.disk_model.specs.Calls.{Call, WriteAt, CutTo, Sync, Remove, SyncNames, Others, Does, Fails, Done, Until}

@@ -1,4 +1,4 @@
--- Where the file of a name stands in a list, and what changing it does.
+-- Where the file of a name is in a list, and what changing it does.
 use Rattle.std.proofs.Common.{◌≡◌, ℕ, zero, suc, ◌<◌, Bool, true, false, cond, List, [], ◌∷◌, ◌++◌, length, set, get_or, refl, sym, ap, ◌∙◌, subst, arith, take, Result, OnOk, ◌+◌}
 use Rattle.std.specs.Str.{bytes_eq}
 use Rattle.std.proofs.lemmas.Bool.{cond-true, cond-false}
@@ -168,7 +168,7 @@ hidden_nowhere n files before = λ i. record { read = λ m. one m i; base = λ m
       | apart h ↦ ap (λ (b : Bool). cond b missing (file_of files m).read) (sym (eq_else n m h))
     ]
 
--- files that have another base each, by what is read and stands of them
+-- files that have another base each, by what is read and what is durable of them
 pub all_named : (files new : List MemFile) → length new ≡ length files → ((k : ℕ) → k < length files → (d : MemFile) → get_or new k d ≡ named_file (get_or files k d)) → tables_of new ≡ names_put_down (tables_of files)
 all_named files new len each = λ i. record { read = λ n. (one files new len each n).0 i; base = λ n. (one files new len each n).1 i }
   where
@@ -235,6 +235,6 @@ put_down_taken n was own files place x f r view same_tables at is ok =
     on_ok_weaker r (λ e. base_done n was files place f x (λ f. record { there = f.there; bytes = ((tables_of was).read n).bytes }) at tables
     ((λ i. (e i).name) ∙ ap (λ (f : MemFile). f.name) is) ((λ i. (e i).read) ∙ ap (λ (f : MemFile). f.read) is) ((λ i. (e i).base) ∙ (λ i. record { there = (is i).base.there; bytes = q i }))) ok
 
--- files that are settled, in a list of their own
+-- files that are settled, in their own list
 pub settled_as : (was own copies : List MemFile) → own ≡ was → copies ≡ all_settled own → tables_of copies ≡ settled (tables_of was)
 settled_as was own copies view is = ap tables_of is ∙ settled_tables own ∙ ap (λ (l : List MemFile). settled (tables_of l)) view

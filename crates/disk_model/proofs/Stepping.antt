@@ -181,7 +181,7 @@ module _ (n : Text) (m : Memory) (d : Disk Text) (holds : Holds m d) where
     pub write_fails : (e : Disk Text) × (Holds m e × Fails (WriteAt n at bytes) d e)
     write_fails = broken (after_write at bytes h) (not_written h (m.read n) (m.base n) (effects_on n m.uncovered) file may.blank at bytes)
 
-  -- after a call that changes a file only where it is there
+  -- after a call that changes a file only if it is there
   where_there : (k : Held) (P : Held → Type 0) → ((m.read n).there ≡ true → P k) → ((m.read n).there ≡ false → P h) → P (cond (d.read n).there k h)
   where_there k P if_there if_not = elim (cases_Bool (m.read n).there) [
     | inl t ↦ subst P (sym (cond-true (d.read n).there k h (there_read ∙ t))) (if_there t)

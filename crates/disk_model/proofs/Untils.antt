@@ -4,7 +4,7 @@ use Rattle.disk_model.specs.Disk.{Disk}
 use Rattle.disk_model.specs.Calls.{Call, Done, Until}
 use Rattle.disk_model.proofs.Elsewhere.{Elsewhere}
 
--- the moment falls among the first calls, or behind them
+-- the moment falls among the first calls, or after them
 pub until_append : {N : Type 0} (cs ds : List (Call N)) (d e : Disk N) → Until (cs ++ ds) d e → Until cs d e ⊎ ((m : Disk N) × (Done cs d m × Until ds m e))
 until_append {N} [] ds d e u = inr (d, (refl, u))
 until_append {N} (c ∷ cs) ds d e (inl q) = inl (inl q)

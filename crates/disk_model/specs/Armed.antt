@@ -10,7 +10,7 @@ use Rattle.disk_model.specs.declared.armed.CallOutcome.{CallOutcome}
 use Rattle.disk_model.specs.Memory.{Memory}
 use Rattle.disk_model.specs.declared.armed.CallOutcome.TheVariants.{Goes, Stops}
 
--- the pick of a stop, where it comes at this call
+-- the pick of a stop, if it comes at this call
 abbrev pub pick_at : Option Stop → ℕ → Option ℕ
 pick_at None call = None
 pick_at (Some stop) call = if stop.call == call then Some stop.pick else None
@@ -32,11 +32,11 @@ is_idle_next a = is_some a.stopped || is_number a.fail (one_more a.made)
 abbrev pub fails_next : FaultInjector → Bool
 fails_next a = is_some (stopped_next a) || is_number a.fail (one_more a.made)
 
--- how the next call begins: it fails at once, or goes on, and the disk stops in it or not
+-- how the next call begins: it fails at once, or continues, and the disk stops in it or not
 abbrev pub turn_next : FaultInjector → Result CallOutcome DiskFault
 turn_next a = cond (is_idle_next a) (Err Failed) (cond (is_some (stopped_next a)) (Ok Stops) (Ok Goes))
 
--- the same of a call that is done whole or not at all
+-- the same for a call that is done whole or not at all
 abbrev pub whole_next : FaultInjector → Result Unit DiskFault
 whole_next a = cond (fails_next a) (Err Failed) (Ok tt)
 
@@ -60,7 +60,7 @@ pub record Counted (old new : FaultInjector) : Type 0 where
   pub stopped : new.stopped ≡ stopped_next old
   pub faults : fails_next old ≡ false → new.faults ≡ old.faults
 
--- how the call goes on
+-- how the call continues
 abbrev pub IsTurn : Bool → CallOutcome → Type 0
 IsTurn fails Goes = fails ≡ false
 IsTurn fails Stops = fails ≡ true
@@ -90,7 +90,7 @@ disarmed a = record { made = 0; faults = a.faults; wants = a.wants; stop = None;
 abbrev pub unarmed : FaultInjector
 unarmed = record { made = 0; faults = 0; wants = 0; stop = None; fail = None; stopped = None }
 
--- a pick of its own, or else another one
+-- its own pick, or else another one
 abbrev pub picked : Option ℕ → ℕ → ℕ
 picked None pick = pick
 picked (Some own) pick = own

@@ -66,7 +66,7 @@ pub record NamesSynced {N : Type 0} (d e : Disk N) : Type 0 where
   pub read : (m : N) → e.read m ≡ d.read m
   pub held : (m : N) → e.held m ≡ after_names (d.read m) (d.held m)
 
--- an Ok call; a missing file is cut, synced and removed without a change
+-- an Ok call; a missing file is truncated, synced and removed without a change
 abbrev pub Does : {N : Type 0} → Call N → Disk N → Disk N → Type 0
 Does (WriteAt n at bytes) d e = Turns n d e (after_write at bytes (d.held n)) (found (put at bytes (d.read n).bytes))
 Does (CutTo n k) d e = Turns n d e (cond (d.read n).there (after_cut k (d.held n)) (d.held n)) (record { there = (d.read n).there; bytes = take k (d.read n).bytes })

@@ -1,4 +1,4 @@
--- A flat folder on a disk: what a read gives, what stood there at the last syncs, and what a crash may leave. The
+-- A flat folder on a disk: what a read gives, what was there at the last syncs, and what a crash may leave. The
 -- definitions say nothing of what a name is.
 use Rattle.std.specs.Prelude.{◌≡◌, ℕ, zero, suc, ◌+◌, ◌<◌, ◌≤◌, max, Bool, true, false, ◌&&◌, ◌||◌, nat_le, nat_lt, List, [], ◌∷◌, length}
 
@@ -44,7 +44,7 @@ byte_at [] i = 0
 byte_at (x ∷ xs) zero = suc x
 byte_at (x ∷ xs) (suc i) = byte_at xs i
 
--- the place was written over or cut off since
+-- the place was written over or truncated since
 abbrev pub loose : List Change → ℕ → Bool
 loose [] i = false
 loose (Wrote at bytes ∷ since) i = (nat_le at i && nat_lt i (at + length bytes)) || loose since i

@@ -1,4 +1,4 @@
--- A table of files over memory: what is read of each, and what surely stands.
+-- A table of files over memory: what is read of each, and what is durable.
 use Rattle.std.specs.Prelude.{◌≡◌, ◌<◌, ℕ, Bool, true, false, ◌||◌, cond, List, [], ◌∷◌, length, set, get_or}
 use Rattle.std.specs.Str.{bytes_eq}
 use Rattle.disk_model.specs.Disk.{Found, missing, Files}
@@ -8,7 +8,7 @@ use Rattle.disk_model.specs.Memory.{at_name, shown, named, done_in_turn, effects
 use Rattle.disk_model.specs.MemFiles.{MemFile}
 use Rattle.disk_model.specs.declared.open_calls.UnsyncedCall.{UnsyncedCall}
 
--- the files as they are read, and as they surely stand
+-- the files as they are read, and as they are on stable storage
 pub record Tables : Type 0 where
   pub read : Files Text
   pub base : Files Text
@@ -34,11 +34,11 @@ file_put_down n t = base_changed n (λ f. record { there = f.there; bytes = (t.r
 abbrev pub names_put_down : Tables → Tables
 names_put_down t = record { read = t.read; base = λ n. named (t.read n) (t.base n) }
 
--- what surely stands is what is read
+-- what is durable is what is read
 abbrev pub settled : Tables → Tables
 settled t = record { read = λ n. shown (t.base n); base = λ n. shown (t.base n) }
 
--- one file after a sync of the names, and after a crash that kept what surely stands
+-- one file after a sync of the names, and after a crash that kept what is durable
 abbrev pub named_file : MemFile → MemFile
 named_file f = record { name = f.name; read = f.read; base = named f.read f.base }
 
@@ -49,11 +49,11 @@ abbrev pub all_settled : List MemFile → List MemFile
 all_settled [] = []
 all_settled (f ∷ fs) = settled_file f ∷ all_settled fs
 
--- calls done again, in turn, to what surely stands
+-- calls done again, in turn, to what is durable
 abbrev pub replayed : List UnsyncedCall → Tables → Tables
 replayed us t = record { read = t.read; base = λ n. done_in_turn (effects_on n us) (t.base n) }
 
--- the file of a name stands at a place of the list
+-- the file of a name is at a place of the list
 pub record StandsAt (n : Text) (files : List MemFile) (place : ℕ) : Type 0 where
   pub within : place < length files
   pub name : (d : MemFile) → (get_or files place d).name ≡ n

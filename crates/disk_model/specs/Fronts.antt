@@ -3,7 +3,7 @@ use Rattle.std.specs.Prelude.{◌≡◌, ℕ, ◌≤◌, min, List, length, take
 use Rattle.disk_model.specs.declared.open_calls.UnsyncedEffect.{UnsyncedEffect}
 use Rattle.disk_model.specs.declared.open_calls.UnsyncedEffect.TheVariants.{Creation, Naming, Write, Truncation, Removal, Nothing}
 
--- so many bytes at the front of what is read also surely stand
+-- this many bytes at the front of what is read are durable too
 abbrev pub SameFront : ℕ → List ℕ → List ℕ → Type 0
 SameFront same read base = (same ≤ length read) × (take same read ≡ take same base)
 

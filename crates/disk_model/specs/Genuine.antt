@@ -8,6 +8,6 @@ WasWritten [] p x = ⊥
 WasWritten (Wrote at bytes ∷ since) p x = ((at ≤ p) × (take (length x) (drop (p - at) bytes) ≡ x)) ⊎ WasWritten since p x
 WasWritten (Cut n ∷ since) p x = WasWritten since p x
 
--- or stood there at the last sync
+-- or was there at the last sync
 pub record Genuine (h : Held) (p : ℕ) (x : List ℕ) : Type 0 where
   pub why : (take (length x) (drop p h.bytes) ≡ x) ⊎ WasWritten h.since p x

@@ -1,4 +1,4 @@
--- A disk over memory: what is read, what surely stands, and the calls that no sync covers yet. And which of these calls
+-- A disk over memory: what is read, what is durable, and the calls that no sync covers yet. And which of these calls
 -- a crash keeps, by a number that picks.
 use Rattle.std.specs.Prelude.{ℕ, ◌+◌, ◌/◌, ◌%◌, Bool, true, false, cond, ◌==◌, nat_lt, List, [], ◌∷◌, ◌++◌, length, take, drop}
 use Rattle.std.specs.Str.{bytes_eq}
@@ -9,7 +9,7 @@ use Rattle.disk_model.specs.declared.open_calls.UnsyncedEffect.{UnsyncedEffect}
 use Rattle.disk_model.specs.declared.open_calls.UnsyncedEffect.TheVariants.{Creation, Naming, Write, Truncation, Removal, Nothing}
 use Rattle.disk_model.specs.declared.open_calls.UnsyncedCall.{UnsyncedCall}
 
--- What is read of each file; what surely stands of it, where one that isn't sure to be there may have bytes that were
+-- What is read of each file; what is durable of it, if one that isn't sure to be there may have bytes that were
 -- synced; and the calls that no sync covers yet, in order.
 pub record Memory : Type 0 where
   pub read : Files Text
@@ -51,7 +51,7 @@ abbrev pub effects_on : Text → List UnsyncedCall → List UnsyncedEffect
 effects_on n [] = []
 effects_on n (u ∷ us) = cond (bytes_eq u.name n) (u.effect ∷ effects_on n us) (effects_on n us)
 
--- what shows of a file: nothing where it isn't there
+-- what shows of a file: nothing if it isn't there
 abbrev pub shown : Found → Found
 shown f = cond f.there (found f.bytes) missing
 
@@ -67,11 +67,11 @@ whole_calls pick n = pick % (n + 1)
 abbrev pub keeps_half : ℕ → ℕ → Bool
 keeps_half pick n = (pick / (n + 1)) % 2 == 1
 
--- the calls that a pick keeps: the first so many whole, and maybe half of the next one
+-- the calls that a pick keeps: the first this many whole, and maybe half of the next one
 abbrev pub kept : ℕ → List UnsyncedCall → List UnsyncedCall
 kept pick us = take (whole_calls pick (length us)) us ++ cond (keeps_half pick (length us)) (first_half (drop (whole_calls pick (length us)) us)) []
 
--- The outcome of a crash by a pick: what surely stands, with the calls that the pick keeps.
+-- The outcome of a crash by a pick: what is durable, with the calls that the pick keeps.
 abbrev pub outcome : ℕ → Memory → Files Text
 outcome pick m n = shown (done_in_turn (effects_on n (kept pick m.uncovered)) (m.base n))
 
@@ -99,11 +99,11 @@ wrote n at bytes m =
     (cond (is_none bytes) m (noted n (Write at bytes) (done_to (Write at bytes)) m))
     (noted n (Creation bytes) (done_to (Creation bytes)) m)
 
--- a cut, which changes nothing where the file isn't longer
+-- a cut, which changes nothing if the file isn't longer
 abbrev pub truncated : Text → ℕ → Memory → Memory
 truncated n k m = cond (nat_lt k (length (m.read n).bytes)) (noted n (Truncation k) (done_to (Truncation k)) m) m
 
--- a removal, which changes nothing where the file isn't there
+-- a removal, which changes nothing if the file isn't there
 abbrev pub removed : Text → Memory → Memory
 removed n m = cond (m.read n).there (noted n Removal (λ f. missing) m) m
 
@@ -155,7 +155,7 @@ synced n m =
     (record { read = m.read; base = at_name n (λ f. record { there = f.there; bytes = (m.read n).bytes }) m.base; uncovered = each_left (left_by_file_sync n) m.uncovered })
     m
 
--- what surely stands after a sync of the names
+-- what is durable after a sync of the names
 abbrev pub named : Found → Found → Found
 named read base = cond read.there (found base.bytes) missing
 

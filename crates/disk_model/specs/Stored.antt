@@ -10,7 +10,7 @@ use Rattle.disk_model.specs.MemFiles.{MemFile}
 use Rattle.disk_model.specs.declared.armed.FaultInjector.{FaultInjector}
 use Rattle.disk_model.specs.declared.open_calls.UnsyncedCall.{UnsyncedCall}
 
--- the files, each as it is read and as it surely stands, and the calls that no sync covers yet
+-- the files, each as it is read and as it is on stable storage, and the calls that no sync covers yet
 pub record Contents : Type 0 where
   pub files : List MemFile
   pub uncovered : List UnsyncedCall
@@ -28,6 +28,6 @@ pub record OverMemory : Type 0 where
 abbrev pub states_of : OverMemory → Disk Text → Type 0
 states_of m = Holds (memory_of m.contents)
 
--- the pick of a crash: that of the stop, where one came, else the one that is given
+-- the pick of a crash: that of the stop, if one came, else the one that is given
 abbrev pub pick_of : FaultInjector → ℕ → ℕ
 pick_of calls pick = picked calls.stopped pick

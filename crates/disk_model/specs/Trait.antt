@@ -12,7 +12,7 @@ use Rattle.disk_model.specs.declared.faults.DiskFault.TheVariants.{Failed, NoMem
 abbrev pub Text : Type 0
 Text = List ℕ
 
--- Where disks of the kind tell what is on them, some state that the disk may be said to be in is such.
+-- Where disks of the kind say what is on them, some state that the disk may be said to be in is such.
 pub data Known (tells : Bool) (states : Disk Text → Type 0) (P : Disk Text → Type 0) : Type 0 where
   told : (d : Disk Text) → states d → P d → Known tells states P
   untold : tells ≡ false → Known tells states P
@@ -41,7 +41,7 @@ pub record KeepsDisk (before after : Disk Text → Type 0) (faults faults_after 
 pub record Crashes (old new : Disk Text → Type 0) : Type 0 where
   pub each : (d : Disk Text) → old d → (e : Disk Text) × (new e × AfterCrash d e)
 
--- no name stands twice in a list
+-- no name occurs twice in a list
 abbrev pub Once : List Text → Type 0
 Once [] = Unit {0}
 Once (n ∷ ns) = (Among n ns → ⊥) × Once ns
@@ -52,7 +52,7 @@ pub record Lists (d : Disk Text) (names : List Text) : Type 0 where
   pub all : (n : Text) → (d.read n).there ≡ true → Among n names
   pub once : Once names
 
--- the bytes of a file from a place on, as many as there are and as the buffer takes, stand at its front
+-- the bytes of a file from a place on, as many as there are and as the buffer takes, are at its front
 pub record Reads (bytes : List ℕ) (at : ℕ) (before after : List ℕ) (n : ℕ) : Type 0 where
   pub count : n ≡ min (length before) (length bytes - at)
   pub buffer : after ≡ take n (drop at bytes) ++ drop n before
@@ -67,12 +67,12 @@ pub record HasWant {T : Type 0} (before now : ℕ) (result : Result T DiskFault)
   pub never_falls : before ≤ now
   pub wanted : result ≡ Err NoMemory → Rose before now
 
--- the count after so many calls more
+-- the count after this many calls more
 abbrev pub after_calls : ℕ → ℕ → ℕ
 after_calls zero before = before
 after_calls (suc more) before = after_calls more (one_more before)
 
--- So many calls were made where the answer is Ok, and no more where it is an Err.
+-- This many calls were made where the answer is Ok, and no more where it is an Err.
 pub record MakesCalls {T E : Type 0} (count before now : ℕ) (result : Result T E) : Type 0 where
   pub made : ℕ
   pub within : made ≤ count

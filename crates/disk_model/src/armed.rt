@@ -13,7 +13,7 @@ pub struct Stop {
     pub pick: u64,
 }
 
-/// Calls that are counted, of which one may be told to fail and one to stop the disk; faults and wants of memory are
+/// Calls that are counted, of which one may be made to fail and one to stop the disk; faults and wants of memory are
 /// counted too. All counts stay at 18,446,744,073,709,551,615.
 #[derive(Clone, Copy)]
 pub struct FaultInjector {
@@ -25,7 +25,7 @@ pub struct FaultInjector {
     pub(crate) stopped: Option<u64>,
 }
 
-/// How a call goes on that doesn't fail at once.
+/// How a call continues that doesn't fail at once.
 #[derive(Clone, Copy)]
 pub enum CallOutcome {
     Goes,
@@ -101,7 +101,7 @@ impl FaultInjector {
         self.stopped = None;
     }
 
-    /// The pick of a crash: that of the stop, where one came, else the one that is given.
+    /// The pick of a crash: that of the stop, if one came, else the one that is given.
     pub(crate) fn pick_of(&self, pick: u64) -> u64
         ensures { result ≡ picked self.now.stopped pick }
     {
@@ -138,7 +138,7 @@ impl FaultInjector {
         self.stopped.is_some() || is_number(self.fail, self.made.saturating_add(1))
     }
 
-    /// Starts the next call. It fails at once where the disk is stopped or the call is to fail; else the call goes on,
+    /// Starts the next call. It fails at once where the disk is stopped or the call is to fail; else the call continues,
     /// and the disk stops in it or not.
     #[tactic(auto, using(crate::proofs::Counts::caused, crate::proofs::Counts::spared, crate::proofs::Counts::not_wanted))]
     pub(crate) fn start(&mut self) -> Result<CallOutcome, DiskFault>
@@ -160,7 +160,7 @@ impl FaultInjector {
         Ok(CallOutcome::Goes)
     }
 
-    /// Ends a call that went on, where this came of it.
+    /// Ends a call that went on, if this came of it.
     pub(crate) fn finish(
         &mut self,
         turn: CallOutcome,

@@ -7,14 +7,14 @@ use dq_base::{Items, Name};
 /// empty file; to cut, sync or remove it is `Ok` and changes nothing.
 ///
 /// Between two syncs of a file a crash may leave any bytes in each range that was written, in what is past the old end
-/// and in a part that was cut off, and the file is then no longer than it ever was since its last sync; a name made or
+/// and in a part that was truncated, and the file is then no longer than it ever was since its last sync; a name made or
 /// removed since the last `sync_names` may be there or not; all else stays. So after `Ok` of `sync` and `sync_names` a
 /// crash leaves what a read gives.
 ///
-/// A disk counts its faults: a call answers `Failed` only where that count rose in the call. What is on the disk is told
-/// only by disks that know it, as one over memory; clauses on content hold where it is told. After an `Err` a call that
+/// A disk counts its faults: a call answers `Failed` only if that count rose in the call. What is on the disk is told
+/// only by disks that know it, as one over memory; clauses on content hold if it is known. After an `Err` a call that
 /// changes the disk may have been done in any part, but a failed `sync` or `sync_names` makes nothing sure. Out of memory
-/// is an `Err` like a failure, without a fault; it has a count of its own, which rose where `NoMemory` is answered. All
+/// is an `Err` like a failure, without a fault; it has its own count, which rose where `NoMemory` is answered. All
 /// calls are counted too, whatever they answer, so that a caller's caller knows how many were made.
 ///
 /// A crash inside a call is that call over a disk whose calls fail from that moment on. So it is enough to know, at each
@@ -27,16 +27,16 @@ pub trait Disk {
     ghost use Rattle.disk_model.specs.Calls.{WriteAt, CutTo, Sync, Remove, SyncNames, MayWrite};
     ghost use Rattle.disk_model.specs.Trait.{Text, Known, Steps, Looks, Lists, Reads, HasCause, HasWant, KeepsDisk};
 
-    /// Whether disks of this kind tell what is on them.
+    /// Whether disks of this kind say what is on them.
     ghost tells: { Bool };
 
-    /// The states that the disk may be said to be in; none where it tells nothing.
+    /// The states that the disk may be said to be in; none if it says nothing.
     ghost states: { Self → Disk Text → Type 0 };
 
-    /// How often the disk has failed.
+    /// How many times the disk has failed.
     ghost faults: { Self → ℕ };
 
-    /// How often a call wanted memory of the disk's own.
+    /// How many times a call wanted memory of the disk's own.
     ghost wants: { Self → ℕ };
 
     /// How many calls were made, failed ones too. It stays at its last value.
@@ -61,7 +61,7 @@ pub trait Disk {
 
     /// Writes the bytes over those of a file from `at` on, and past its end. It makes the file where it isn't there.
     ///
-    /// `at` is at most the file's length, and a name is not made again while its removal isn't synced: where either is
+    /// `at` is at most the file's length, and a name is not made again while its removal isn't synced: if either is
     /// otherwise, nothing is said of what is on the disk from then on.
     fn write_at(&mut self, name: &str, at: u64, bytes: &[u8]) -> Result<(), DiskFault>
         requires { IsName name.now }
@@ -70,7 +70,7 @@ pub trait Disk {
         ensures want { HasWant (wants self.old) (wants self.new) result }
         ensures count { made self.new ≡ one_more (made self.old) };
 
-    /// The same for bytes that lie in three parts, behind each other: one call, and no copy of them in one piece.
+    /// Writes bytes that lie in three parts, one after the other, as `write_at` does: one call, and no copy of them in one piece.
     fn write_parts(
         &mut self,
         name: &str,

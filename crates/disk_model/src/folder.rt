@@ -13,7 +13,7 @@ use dq_base::Name;
 use std::alloc::{AllocError, Global};
 use std::marker::Model;
 
-/// One file over memory: as it is read, and as it surely stands. So many bytes at its front are the same in both.
+/// One file over memory: as it is read, and as it is on stable storage. This many bytes at its front are the same in both.
 #[derive(Drop)]
 pub struct MemFile {
     name: Name,
@@ -33,7 +33,7 @@ impl Model for MemFile {
     ghost invariant = { λ f. SameFront f.same f.read.bytes f.base.bytes };
 }
 
-/// Files over memory, each by its name: as they are read, and as they surely stand.
+/// Files over memory, each by its name: as they are read, and as they are on stable storage.
 #[derive(Drop)]
 pub struct Folder {
     alloc: Global,
@@ -80,7 +80,7 @@ fn opened(alloc: Global, files: &mut Vec<MemFile>, name: &str) -> Result<usize, 
     Ok(place)
 }
 
-/// Each name surely stands as it is read.
+/// Each name is durable as it is read.
 #[tactic(auto, using(crate::proofs::Standing::all_named))]
 fn put_names_down(alloc: Global, files: &mut [MemFile])
     ensures { tables_of files.new ≡ names_put_down (tables_of files.old) }
@@ -90,7 +90,7 @@ fn put_names_down(alloc: Global, files: &mut [MemFile])
     }
 }
 
-/// Copies in which what surely stands is also what is read.
+/// Copies in which what is durable is also what is read.
 fn settled_files(alloc: Global, files: &[MemFile]) -> Result<Vec<MemFile>, AllocError>
     ensures { IfOk result (λ copies. copies.items ≡ all_settled files.now) }
 {
@@ -162,7 +162,7 @@ impl Folder {
         }
     }
 
-    /// The file of a name as it is read, where there is or was one.
+    /// The file of a name as it is read, if there is or was one.
     #[tactic(auto, using(crate::proofs::Standing::nowhere))]
     pub(crate) fn read(&self, name: &str) -> Option<&Stored>
         ensures { MatchOption result ((file_of self.now name.now).read ≡ missing) (λ file. file.now ≡ (file_of self.now name.now).read) }
@@ -189,7 +189,7 @@ impl Folder {
         file.change_read(effect)
     }
 
-    /// A call changes what surely stands of a file.
+    /// A call changes what is durable of a file.
     #[tactic(auto, using(crate::proofs::Standing::base_taken))]
     pub(crate) fn change_base(
         &mut self,
@@ -205,7 +205,7 @@ impl Folder {
         file.change_base(effect)
     }
 
-    /// Half of a call changes what surely stands of a file.
+    /// Half of a call changes what is durable of a file.
     #[tactic(auto, using(crate::proofs::Standing::base_taken))]
     pub(crate) fn change_base_by_half(
         &mut self,
@@ -232,7 +232,7 @@ impl Folder {
         }
     }
 
-    /// What is read of a file surely stands. Copies the bytes that were changed since that last was so.
+    /// What is read of a file is durable. Copies the bytes that were changed since that last was so.
     #[tactic(auto, using(crate::proofs::Standing::put_down_taken))]
     pub(crate) fn commit_synced(&mut self, name: &str) -> Result<(), AllocError>
         requires { IsName name.now }
@@ -244,14 +244,14 @@ impl Folder {
         file.commit_synced()
     }
 
-    /// Each name surely stands as it is read.
+    /// Each name is durable as it is read.
     pub(crate) fn put_names_down(&mut self)
         ensures { tables_of self.new ≡ names_put_down (tables_of self.old) }
     {
         put_names_down(self.alloc, &mut self.files);
     }
 
-    /// A copy in which what surely stands is also what is read.
+    /// A copy in which what is durable is also what is read.
     pub(crate) fn settled(&self) -> Result<Folder, AllocError>
         ensures { IfOk result (λ folder. tables_of folder ≡ settled (tables_of self.now)) }
     {

@@ -1,5 +1,5 @@
 //! A disk that may fail at any call and crash at any moment: what its calls mean, and one over memory that stops and
-//! fails where it is told to.
+//! fails if it is told to.
 #![tactic(auto)]
 
 mod armed;

@@ -22,9 +22,9 @@ use std::marker::Model;
 /// covers yet: a write or a cut is covered by a later sync of its file, a removal by a later sync of the names, and the
 /// first write of a name by both. A call that changes nothing isn't counted, nor one that failed. Pick p keeps the first
 /// p mod (n + 1) of these calls whole, in order, and drops the rest; where p div (n + 1) is odd and the first dropped
-/// call is a write that no sync of its file came after, the first half of its bytes, rounded down, is kept too. Where the
+/// call is a write that no sync of its file came after, the first half of its bytes, rounded down, is kept too. If the
 /// first write of a name is dropped and no half of it is kept, nothing that was written to the file stands and the name
-/// isn't there; but where a sync of the names after that write found the name there, the file is there and empty, unless
+/// isn't there; but if a sync of the names after that write found the name there, the file is there and empty, unless
 /// a removal that isn't dropped came later. After a crash what is left lasts: no call is uncovered any more.
 #[derive(Drop)]
 pub struct MemDisk {
@@ -70,14 +70,14 @@ impl MemDisk {
         self.calls.stopped.is_some()
     }
 
-    /// How often a call failed.
+    /// How many times a call failed.
     pub fn faults(&self) -> u64
         ensures { result ≡ self.now.calls.faults }
     {
         self.calls.faults
     }
 
-    /// The outcome of a crash by a pick: by that of the stop, where one came, else by `pick`. It is one of those that a
+    /// The outcome of a crash by a pick: by that of the stop, if one came, else by `pick`. It is one of those that a
     /// crash may leave, and lasts. The disk is disarmed. Copies each file twice. `Err` means out of memory, and the
     /// disk is then as it was.
     pub fn crash(&mut self, pick: u64) -> Result<(), AllocError>

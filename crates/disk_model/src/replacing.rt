@@ -7,7 +7,7 @@ ghost use Rattle.disk_model.specs.Trait.{Known, Ran, HasCause, HasWant, MakesCal
 use crate::disk::Disk;
 use crate::faults::DiskFault;
 
-/// Writes a file whole: one write from its start on, a sync, and, where the file isn't there yet, a sync of the names.
+/// Writes a file whole: one write from its start on, a sync, and, if the file isn't there yet, a sync of the names.
 /// `is_there` says whether it is. A longer file keeps its end. At an `Err` some of the calls were made, and the last of
 /// them may have been done in any part. One write of the bytes, without a copy.
 pub fn replace<D: Disk>(

@@ -164,7 +164,7 @@ fn cover_names(calls: &mut Vec<UnsyncedCall>, folder: &Folder)
     }
 }
 
-/// Does the calls again, in turn, to what surely stands.
+/// Does the calls again, in turn, to what is durable.
 fn replay(folder: &mut Folder, calls: &[UnsyncedCall]) -> Result<(), AllocError>
     ensures { OnOk result (tables_of folder.new ≡ replayed calls.now (tables_of folder.old)) }
 {
@@ -185,7 +185,7 @@ fn replay_half(folder: &mut Folder, calls: &[UnsyncedCall]) -> Result<(), AllocE
     }
 }
 
-/// How many calls a pick keeps whole, of so many.
+/// How many calls a pick keeps whole, of this many.
 fn whole_calls(pick: u64, count: usize) -> usize
     requires { count < 2 ^ 63 }
     ensures whole { result ≡ whole_calls pick count }
@@ -194,7 +194,7 @@ fn whole_calls(pick: u64, count: usize) -> usize
     (pick % (count as u64 + 1)) as usize
 }
 
-/// Whether a pick keeps half of the call behind these.
+/// Whether a pick keeps half of the call after these.
 fn keeps_half(pick: u64, count: usize) -> bool
     requires { count < 2 ^ 63 }
     ensures { result ≡ keeps_half pick count }

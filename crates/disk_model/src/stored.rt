@@ -58,7 +58,7 @@ impl Stored {
         })
     }
 
-    /// A copy of what shows: nothing where the file isn't there.
+    /// A copy of what shows: nothing if the file isn't there.
     pub(crate) fn shown(&self, alloc: Global) -> Result<Stored, AllocError>
         ensures { IfOk result (λ copy. copy ≡ shown self.now) }
     {
@@ -81,7 +81,7 @@ impl Stored {
         self.bytes.as_slice()
     }
 
-    /// Takes the bytes of another file, of which so many at the front are there. Copies the others.
+    /// Takes the bytes of another file, of which this many at the front are there. Copies the others.
     #[tactic(auto, using(crate::proofs::Fronts::followed))]
     pub(crate) fn follow(&mut self, other: &Stored, same: usize) -> Result<(), AllocError>
         requires { SameFront same other.now.bytes self.old.bytes }

@@ -35,7 +35,7 @@ enum Step {
     SyncNames,
     /// These bytes are read from a place on, into a buffer of four.
     Reads(Place, u64, &'static [u8]),
-    /// So many files are listed.
+    /// This many files are listed.
     Lists(usize),
 }
 
@@ -57,7 +57,7 @@ fn make(disk: &mut DirDisk<HostRuntime>, step: Step) -> Result<bool, DiskFault> 
     Ok(true)
 }
 
-/// `a` is written, and `b` written and removed. A missing name is cut, synced and removed without a change.
+/// `a` is written, and `b` written and removed. A missing name is truncated, synced and removed without a change.
 const STEPS: &[(Step, Result<bool, DiskFault>)] = &[
     (Step::Write(Place::A, 0, b"abcdef"), Ok(true)),
     (Step::Write(Place::A, 4, b"EFGH"), Ok(true)),

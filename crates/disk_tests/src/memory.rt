@@ -28,7 +28,7 @@ enum Step {
     Sync(File),
     Remove(File),
     SyncNames,
-    /// Writes the file whole, where it isn't there yet.
+    /// Writes the file whole, if it isn't there yet.
     Make(File, &'static [u8]),
     Arm(Stop, Option<u64>),
 }
@@ -112,7 +112,7 @@ const TWO: &[Step] = &[Step::Write(A, 0, b"abcd"), Step::Write(B, 0, b"xyz")];
 /// A file whose bytes are synced and whose name isn't.
 const UNNAMED: &[Step] = &[Step::Write(A, 0, b"abcd"), Step::Sync(A)];
 
-/// The same with a write behind it.
+/// A file whose bytes are synced and whose name isn't, with a write after that.
 const LONGER: &[Step] = &[
     Step::Write(A, 0, b"abcd"),
     Step::Sync(A),

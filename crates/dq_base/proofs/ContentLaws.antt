@@ -1,4 +1,4 @@
--- Laws of bytes that are read and written, where they are told: what two calls do together.
+-- Laws of bytes that are read and written, if they are known: what two calls do together.
 use Rattle.std.proofs.Common.{◌≡◌, ℕ, ◌+◌, min, List, [], ◌++◌, length, take, drop, None, Some, refl, sym, ap, ◌∙◌, append_assoc, append-nil, arith}
 use Rattle.std.specs.Prelude.{Option, IfSome, Result, Ok, Err}
 use Rattle.std.specs.Io.KnownBytes.{Appends, Consumes, Keeps, IsAtEnd}
@@ -29,7 +29,7 @@ AppendsFront-whole a b x whole = (x, [], append-nil x, whole)
 pub AppendsFront-nothing : (old : Option (List ℕ)) (x : List ℕ) → AppendsFront old old x
 AppendsFront-nothing old x = ([], x, refl, Appends-nothing old)
 
--- a front of some bytes is a front of them and any others behind
+-- a front of some bytes is a front of them and any others after
 pub AppendsFront-longer : (a b : Option (List ℕ)) (x y : List ℕ) → AppendsFront a b x → AppendsFront a b (x ++ y)
 AppendsFront-longer a b x y part =
     (part.0, part.1 ++ y, sym (append_assoc part.0 part.1 y) ∙ ap (λ (all : List ℕ). all ++ y) part.2, part.3)
@@ -44,7 +44,7 @@ pub WriteAppends-then : (a b c : Option (List ℕ)) (x y : List ℕ) (result : R
 WriteAppends-then a b c x y (Ok done) first second = Appends-then a b c x y first second
 WriteAppends-then a b c x y (Err failed) first second = AppendsFront-then a b c x y first second
 
--- a write that failed is one of these bytes and any others behind, of which nothing was written either
+-- a write that failed is one of these bytes and any others after, of which nothing was written either
 pub WriteAppends-stopped : (a b : Option (List ℕ)) (x y : List ℕ) (failed : Failed) → WriteAppends a b x (Err failed) → WriteAppends a b (x ++ y) (Err failed)
 WriteAppends-stopped a b x y failed part = AppendsFront-longer a b x y part
 

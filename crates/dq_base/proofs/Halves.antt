@@ -1,4 +1,4 @@
--- A text is cut at its first space.
+-- A text is split at its first space.
 use Rattle.std.proofs.Common.{◌≡◌, ◌≢◌, ℕ, suc, ◌+◌, ◌<◌, ◌^◌, true, cond, eqb, ltb, inl, inr, List, [], ◌∷◌, ◌++◌, length, take, drop, Some, None, refl, ap, subst, ◌∙◌, arith, take_at, drop_at, length-append}
 use Rattle.std.specs.List.{AllByRecursion, position_or_len}
 use Rattle.std.specs.Char.{digit_value}

@@ -36,7 +36,7 @@ pub record Covers (mine : ℕ → Bool) (i : ℕ) (p : NumberedPage) : Type 0 wh
   pub from : page_start p.number ≤ i
   pub to : i < page_start p.number + 4096
 
--- a file with one page put into it, where it is one of this file's
+-- a file with one page put into it, if it is one of this file's
 abbrev put_page : Bool → NumberedPage → List ℕ → List ℕ
 put_page mine p file = cond mine (replaced file (page_start p.number) p.page) file
 

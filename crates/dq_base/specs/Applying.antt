@@ -38,7 +38,7 @@ abbrev pub applied_with : Option NumberedPage → List NumberedPage → Image �
 applied_with None pages image = image
 applied_with (Some sizes) pages image = applied_at (stated_main sizes.page) (stated_side sizes.page) pages image
 
--- Applying pages: both files are cut to the lengths that the last page states or grown to them with zeros, and then
+-- Applying pages: both files are truncated to the lengths that the last page states or grown to them with zeros, and then
 -- each page's bytes replace those of its file, as far as they lie inside it.
 unfoldable pub applied : Image → List NumberedPage → Image
 applied image pages = applied_with (last_page pages) pages image
@@ -78,7 +78,7 @@ fault_before (Some last) front =
 abbrev pub page_fault : List NumberedPage → Option PageFault
 page_fault pages = fault_before (last_page pages) (take (length pages - 1) pages)
 
--- what a refusal says of the list: out of memory comes only where there is no fault, and any other is the first fault
+-- what a refusal says of the list: out of memory comes only if there is no fault, and any other is the first fault
 abbrev pub IsRefusal : PageFault → Option PageFault → Type 0
 IsRefusal NoMemory found = found ≡ None
 IsRefusal fault found = found ≡ Some fault

@@ -1,4 +1,4 @@
--- Counts of faults of the outside: an answer that something outside failed has its cause in such a count.
+-- Counts of faults of the outside: an answer that something outside failed has its cause in one of these counts.
 use Rattle.std.specs.Prelude.{ℕ, suc, ◌-◌, ◌^◌, ◌≤◌, min, Result, OnErr}
 use Rattle.dq_base.specs.declared.faults.Failed.{Failed}
 
@@ -10,7 +10,7 @@ last_count = 2 ^ 64 - 1
 abbrev pub one_more : ℕ → ℕ
 one_more count = min (suc count) last_count
 
--- The count rose: there was one more fault at least, or it stands at its last value.
+-- The count rose: there was one more fault at least, or it is at its last value.
 abbrev pub Rose : ℕ → ℕ → Type 0
 Rose before now = one_more before ≤ now
 

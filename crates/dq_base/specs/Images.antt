@@ -4,7 +4,7 @@ use Rattle.byteorder.specs.Endian.{little_bytes}
 use Rattle.dq_base.specs.declared.images.Image.{Image}
 use Rattle.dq_base.specs.declared.sizes.Lengths.{Lengths}
 
--- so many zeros
+-- this many zeros
 unfoldable pub zeros : ℕ → List ℕ
 zeros n = replicate n 0
 
@@ -24,7 +24,7 @@ sizes_page main side = (little_bytes 8 main ++ little_bytes 8 side) ++ zeros 408
 abbrev pub lengths_of : Image → Lengths
 lengths_of image = record { main = length image.main; side = length image.side }
 
--- where a page begins in its file: page k of a file, from k = 1, has the number 2k or 2k + 1
+-- if a page begins in its file: page k of a file, from k = 1, has the number 2k or 2k + 1
 abbrev pub page_start : ℕ → ℕ
 page_start number = 4096 * (number / 2 - 1)
 
@@ -46,14 +46,14 @@ file_of image number = if number % 2 == 0 then image.main else image.side
 abbrev pub reaches : Image → ℕ → Bool
 reaches image number = nat_lt 1 number && nat_lt (page_start number) (length (file_of image number))
 
--- the page of a number, where the image has one: page 1 is the sizes page
+-- the page of a number, if the image has one: page 1 is the sizes page
 unfoldable pub page_at : Image → ℕ → Option (List ℕ)
 page_at image number =
     if number == 1 then Some (sizes_page (length image.main) (length image.side))
     else if reaches image number then Some (page_from (file_of image number) (page_start number))
     else None
 
--- how many pages so many bytes fill, the last of them maybe in part
+-- how many pages this many bytes fill, the last of them maybe in part
 abbrev pub pages_of : ℕ → ℕ
 pages_of bytes = (bytes + 4095) / 4096
 

@@ -1,13 +1,13 @@
--- Texts that are cut at a word or a space.
+-- Texts that are split at a word or a space.
 use Rattle.std.specs.Prelude.{◌==◌, ℕ, List, length, take, drop, position, Option, Some, None, if◌then◌else◌}
 use Rattle.std.specs.Option.{option_map}
 use Rattle.std.specs.Str.{bytes_eq}
 
--- what stands before and behind the first space
+-- what is before and after the first space
 unfoldable pub halves : List ℕ → Option (List ℕ × List ℕ)
 halves text = option_map (λ i. (take i text, drop 1 (drop i text))) (position (λ b. b == 32) text)
 
--- what stands behind a word, where the text begins so
+-- what follows a word, where the text begins so
 abbrev pub behind : List ℕ → List ℕ → Option (List ℕ)
 behind word text = if bytes_eq (take (length word) text) word then Some (drop (length word) text) else None
 

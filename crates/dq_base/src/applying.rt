@@ -10,11 +10,11 @@ use crate::set_checks::set_lengths;
 use crate::sizes::Lengths;
 use std::alloc::AllocError;
 
-/// Applies a page set: both files are cut to the lengths that its sizes page states or grown to them with zeros, and
-/// then its pages replace the bytes that they stand for, as far as these lie inside their file.
+/// Applies a page set: both files are truncated to the lengths that its sizes page states or grown to them with zeros, and
+/// then its pages replace the bytes that they represent, as far as these lie inside their file.
 ///
 /// A set is refused by its first fault: `NoSizes`, then `Order`, then `NotInLength`. `NoMemory` comes only for a set
-/// without a fault, where there is no room for the longer files. After every refusal the image is unchanged.
+/// without a fault, if there is no room for the longer files. After every refusal the image is unchanged.
 ///
 /// Looks at the set's pages and at the bytes by which the files grow or shrink, and not at the rest of the image; a file
 /// that grows past its room is moved.
@@ -64,7 +64,7 @@ fn make_room(file: &mut Vec<u8>, len: usize) -> Result<(), AllocError>
     file.reserve(len.saturating_sub(file.len()))
 }
 
-/// Cuts a file to a length, or grows it with zeros; where there is room, this does not fail.
+/// Cuts a file to a length, or grows it with zeros; if there is room, this does not fail.
 #[tactic(auto, unfolding(crate::specs::Images::resized, crate::specs::Images::zeros))]
 fn resize(file: &mut Vec<u8>, len: usize) -> Result<(), AllocError>
     ensures done { OnOk result (file.new.items ≡ resized len file.old.items) }

@@ -7,7 +7,7 @@ use std::marker::Model;
 
 /// Calls that are counted, some of which are to fail: those whose numbers, from 1, are listed.
 ///
-/// This is what the objects over memory that stand for the outside have in common. Both of its counts stay at
+/// This is what the objects over memory that represent the outside have in common. Both of its counts stay at
 /// 18,446,744,073,709,551,615. No method takes memory.
 #[derive(Drop)]
 pub struct Calls {
@@ -36,7 +36,7 @@ impl Calls {
         }
     }
 
-    /// Starts the next call, and counts it. It answers `Failed`, and counts a fault too, exactly where the call is one
+    /// Starts the next call, and counts it. It answers `Failed`, and counts a fault too, exactly if the call is one
     /// that is to fail.
     pub fn start(&mut self) -> Result<(), Failed>
         ensures failing { IsErr result ↔ IsTrue (next_fails self.old) }
@@ -52,7 +52,7 @@ impl Calls {
         Ok(())
     }
 
-    /// Counts a fault of the call that was started last, where it fails for another reason.
+    /// Counts a fault of the call that was started last, if it fails for another reason.
     pub fn fail(&mut self) -> Failed
         ensures count { self.new ≡ record self.old { faults = one_more self.old.faults } }
         ensures never_falls { self.old.faults ≤ self.new.faults }

@@ -13,7 +13,7 @@ pub fn is_page_of(number: u64, parity: u64) -> bool
     number > 1 && number % 2 == parity
 }
 
-/// Replaces the bytes that a page stands for, as far as they lie inside its file. The file keeps its length.
+/// Replaces the bytes that a page represents, as far as they lie inside its file. The file keeps its length.
 #[tactic(auto, unfolding(crate::specs::Applying::replaced))]
 pub fn put_page(file: &mut [u8], page: &NumberedPage)
     ensures { file.new ≡ replaced file.old (page_start page.now.number) page.now.page }
@@ -26,7 +26,7 @@ pub fn put_page(file: &mut [u8], page: &NumberedPage)
 }
 
 /// Puts those of the pages into a file that are pages of it, in their order: those whose numbers are above 1 and have this
-/// remainder by 2, which is 0 for the main file and 1 for the file beside it. The file keeps its length.
+/// remainder by 2, which is 0 for the main file and 1 for the file next to it. The file keeps its length.
 pub fn put_pages(file: &mut [u8], pages: &[NumberedPage], parity: u64)
     ensures { file.new ≡ put_pages (is_page_of parity) pages.now file.old }
 {

@@ -14,7 +14,7 @@ use std::alloc::{AllocError, Global};
 pub struct Image {
     /// The main file.
     pub main: Bytes,
-    /// The file beside it.
+    /// The file next to it.
     pub side: Bytes,
 }
 
@@ -43,8 +43,8 @@ impl Image {
     }
 }
 
-/// The page of a number, a last page that its file only partly fills with zeros to its end; `None` exactly where the
-/// image has no such page. Page 1 is the sizes page and always exists.
+/// The page of a number, a last page that its file only partly fills with zeros to its end; `None` exactly if the
+/// image doesn't have the page. Page 1 is the sizes page and always exists.
 pub fn page_at(image: &Image, number: u64) -> Option<Page>
     ensures { result ≡ page_at image.now number }
 {
@@ -97,7 +97,7 @@ pub fn lengths_of(image: &Image) -> Lengths
     }
 }
 
-/// The sizes page of files with these lengths: both in eight bytes, little-endian, and zeros behind them.
+/// The sizes page of files with these lengths: both in eight bytes, little-endian, and zeros after them.
 pub fn sizes_page(lengths: Lengths) -> Page
     ensures { result ≡ sizes_page lengths.main lengths.side }
 {

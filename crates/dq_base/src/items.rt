@@ -53,7 +53,7 @@ impl<T> Items<T> {
         self.inner.len()
     }
 
-    /// Whether there are none.
+    /// Whether it is empty.
     pub fn is_empty(&self) -> bool
         ensures { result ≡ (length self.now == 0) }
     {

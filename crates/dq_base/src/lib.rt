@@ -1,4 +1,4 @@
-//! What every layer of the node stands on: lists that contracts compare, the traits of the outside with their counts
+//! What every layer of the node rests on: lists that contracts compare, the traits of the outside with their counts
 //! of faults, and the pages and images of a database.
 #![tactic(auto)]
 

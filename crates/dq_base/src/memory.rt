@@ -12,7 +12,7 @@ use crate::source::Source;
 use std::alloc::Global;
 use std::marker::Model;
 
-/// A source of bytes that lie in memory. Some of its reads may be told to fail. No method takes memory.
+/// A source of bytes that lie in memory. Some of its reads may be made to fail. No method takes memory.
 #[derive(Drop)]
 pub struct MemSource {
     bytes: Vec<u8>,
@@ -64,7 +64,7 @@ impl Source for MemSource {
 
     ghost faults = { λ source. source.calls.faults };
 
-    /// Moves as many bytes as are left and fit. It fails exactly where the call is one that is to fail, and leaves
+    /// Moves as many bytes as are left and fit. It fails exactly if the call is one that is to fail, and leaves
     /// the bytes and the buffer as they were.
     fn read(&mut self, into: &mut [u8]) -> Result<usize, Failed>
         ensures bytes { ReadMoves (Some self.old.bytes) (Some self.new.bytes) into.new result }
@@ -85,7 +85,7 @@ impl Source for MemSource {
     }
 }
 
-/// A sink that keeps what is written in memory. Some of its writes may be told to fail, and a write for which memory
+/// A sink that keeps what is written in memory. Some of its writes may be made to fail, and a write for which memory
 /// runs out fails too.
 #[derive(Drop)]
 pub struct MemSink {
@@ -133,7 +133,7 @@ impl Sink for MemSink {
 
     ghost faults = { λ sink. sink.calls.faults };
 
-    /// Appends the bytes. It fails where the call is one that is to fail, and where memory runs out, and then appends
+    /// Appends the bytes. It fails if the call is one that is to fail, and if memory runs out, and then appends
     /// nothing.
     fn write_all(&mut self, bytes: &[u8]) -> Result<(), Failed>
         ensures bytes { WriteAppends (Some self.old.bytes) (Some self.new.bytes) bytes.now result }

@@ -31,7 +31,7 @@ impl Model for Name {
 }
 
 impl Name {
-    /// The text as a name; `None` exactly where it is empty, longer than 255 bytes, or holds a NUL.
+    /// The text as a name; `None` exactly if it is empty, longer than 255 bytes, or holds a NUL.
     pub fn new(text: String) -> Option<Name>
         ensures { SomeIff result (IsName (string_bytes text)) (string_bytes text) }
     {

@@ -50,7 +50,7 @@ impl Page {
         Page { bytes: page }
     }
 
-    /// A page with a copy of these bytes first, of which there are at most 4,096, and zeros behind them.
+    /// A page with a copy of these bytes first, of which there are at most 4,096, and zeros after them.
     pub fn padded(bytes: &[u8]) -> Page
         requires { length bytes.now ≤ 4096 }
         ensures { result ≡ resized 4096 bytes.now }

@@ -11,7 +11,7 @@ use std::marker::Model;
 
 /// A source over any reader of std.
 ///
-/// It tells of content what its reader tells, which is nothing where that is a file or a stream. An interrupted read
+/// It says of content what its reader answers, which is nothing if that is a file or a stream. An interrupted read
 /// is tried again, up to 1,000 times in a row; at any other error, or one interruption more, the read has failed. Its
 /// count rises at each error of the reader, so also at an interruption that did no harm, and stays at
 /// 18,446,744,073,709,551,615. No method takes memory.

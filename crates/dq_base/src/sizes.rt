@@ -13,11 +13,11 @@ pub const MAX_FILE_LENGTH: u64 = 67_108_864;
 pub struct Lengths {
     /// Of the main file.
     pub main: usize,
-    /// Of the file beside it.
+    /// Of the file next to it.
     pub side: usize,
 }
 
-/// The lengths that a sizes page states; `None` exactly where the page is none: its number isn't 1, a length is above
+/// The lengths that a sizes page states; `None` exactly if the page is none: its number isn't 1, a length is above
 /// 67,108,864, or a byte from byte 16 on isn't zero.
 #[tactic(auto, using(crate::proofs::SizesTests::sizes_tests))]
 pub fn stated_lengths(page: &NumberedPage) -> Option<Lengths>

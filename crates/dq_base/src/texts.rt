@@ -10,7 +10,7 @@ fn space_in(text: &[u8]) -> Option<usize>
     text.iter().position(|b| *b == b' ')
 }
 
-/// What stands before and behind the first space of a text; `None` exactly where it has none.
+/// What is before and after the first space of a text; `None` exactly if it has none.
 #[tactic(auto, unfolding(crate::specs::Texts::halves))]
 pub fn halves_of(text: &[u8]) -> Option<(&[u8], &[u8])>
     ensures { option_map (λ both. (both.0.now, both.1.now)) result ≡ halves text.now }

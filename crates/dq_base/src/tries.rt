@@ -4,7 +4,7 @@ ghost use Rattle.std.specs.IoError.{error_kind};
 use std::io;
 use std::io::ErrorKind;
 
-/// How often in a row an interrupted call of a reader or a writer is tried again.
+/// How many times in a row an interrupted call of a reader or a writer is tried again.
 pub(crate) const MAX_RETRIES: u32 = 1_000;
 
 /// Why one call of a reader or a writer failed.
@@ -17,7 +17,7 @@ pub(crate) enum Trouble {
 }
 
 impl Trouble {
-    /// The trouble that an error of std tells of.
+    /// The trouble that an error of std reports.
     pub(crate) fn of(error: &io::Error) -> Trouble
         ensures interrupted { error_kind error.now ≡ ErrorKind.Interrupted
             → result ≡ Trouble.Interrupted }

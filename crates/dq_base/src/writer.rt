@@ -10,7 +10,7 @@ use std::marker::Model;
 
 /// A sink over any writer of std.
 ///
-/// It tells of content what its writer tells, which is nothing where that is a file or a stream. It flushes nothing.
+/// It says of content what its writer tells, which is nothing if that is a file or a stream. It flushes nothing.
 /// An interrupted write is tried again, up to 1,000 times in a row; at any other error, or one interruption more, the
 /// write has failed, and so it has where the writer takes nothing of a piece that is not empty. Its count rises at each
 /// of these, so also at an interruption that did no harm, and stays at 18,446,744,073,709,551,615. No method takes
@@ -37,7 +37,7 @@ impl<W: Write> WriteSink<W> {
         WriteSink { writer, faults: 0 }
     }
 
-    /// How often the writer answered an error, or took nothing of a piece that was not empty.
+    /// How many times the writer answered an error, or took nothing of a piece that was not empty.
     pub fn faults(&self) -> u64
         ensures { result ≡ self.now.faults }
     {

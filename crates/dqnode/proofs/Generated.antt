@@ -25,7 +25,7 @@ written_in_part number writes code a b broken h = record {
   front = λ f. h;
 }
 
--- where nothing is done, as there is not enough memory to read the words
+-- if nothing is done, as there is not enough memory to read the arguments
 pub ungenerated : (number writes : ℕ) (written : Option (List ℕ)) → GenerateEnds number writes written written 7
 ungenerated number writes written = written_in_part number writes 7 written written (inr refl) (AppendsFront-nothing written (script_text number writes))
 

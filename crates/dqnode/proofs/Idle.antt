@@ -1,4 +1,4 @@
--- Where nothing is done, as there is not enough memory to read the words, or as something else is asked for.
+-- If nothing is done, as there is not enough memory to read the arguments, or as something else is asked for.
 use Rattle.std.proofs.Common.{inr, ℕ, List, [], Option, refl}
 use Rattle.dq_base.specs.Sink.{AppendsFront}
 use Rattle.dq_base.proofs.ContentLaws.{Appends-nothing, AppendsFront-nothing}

@@ -110,7 +110,7 @@ pub run_cut : (number writes : ℕ) (why : Outcome) (journal : List Item) (text 
     → AppendsFront a b (shown_lines text) → RunEnds number writes journal a b code
 run_cut number writes why journal text a b code broken whole t front = run_broken number writes journal a b code broken (shows_front number writes why journal text a b whole t front)
 
--- where nothing was written, as memory ran out
+-- if nothing was written, as memory ran out
 pub unrun : (number writes : ℕ) (journal : List Item) (written : Option (List ℕ)) → RunEnds number writes journal written written 7
 unrun number writes journal written = run_broken number writes journal written written 7 (inr refl) ([], AppendsFront-nothing written _)
 

@@ -47,12 +47,12 @@ spent_status status.Refused e = absurd cc
 spent_status status.NoLeader e = absurd cc
 spent_status status.Unknown e = absurd cc
 
--- as many events were taken as the words say
+-- as many events were taken as the arguments say
 pub spent_for : (was now : ℕ) (one : Serve) (s : Status) → (s ≡ status.Spent → now ≡ was + one.events)
     → (served : Serve) → ForServed served (Some (asks.Serve one)) → status_code s ≡ 10 → now ≡ was + served.events
 spent_for was now one s h served e code = subst (λ (x : Serve). now ≡ was + x.events) (same_served one served e) (h (spent_status s code))
 
--- where nothing is done, as there is not enough memory to read the words
+-- if nothing is done, as there is not enough memory to read the arguments
 pub unserved : {D H : Type 0} (tells : Bool) (states : D → Disk Text → Type 0) (faults : D → ℕ) (done : H → HostCounts) (served : Serve)
     (host : H) (disk : D) (events : Taken Read) → WasServed tells states faults done served host disk disk events events 7 ⊎ NotServed disk disk host host 7
 unserved tells states faults done served host disk events = inr (record { code_is = refl; disk_is = refl; host_is = refl })

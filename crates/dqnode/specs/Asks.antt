@@ -8,7 +8,7 @@ use Rattle.arguments.specs.declared.invocation.Statement.{Statement}
 use Rattle.arguments.specs.declared.invocation.Serve.{Serve}
 use Rattle.arguments.specs.Asking.{asked_of}
 
--- what the words behind the program's name ask for, if they ask for something
+-- what the arguments after the program's name ask for, if they ask for something
 abbrev pub asks_for : List (String Global) → Option Invocation
 asks_for words = asked_of (map string_bytes words)
 

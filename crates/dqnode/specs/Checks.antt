@@ -1,4 +1,4 @@
--- What is told of the files of a stopped node.
+-- What is reported of the files of a stopped node.
 use Rattle.std.specs.Prelude.{◌≡◌, ◌⊎◌, ◌++◌, ℕ, List, [], codes, Option, Err}
 use Rattle.std.specs.Fmt.{decimal}
 use Rattle.std.specs.Io.KnownBytes.{Appends}

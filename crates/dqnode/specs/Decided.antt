@@ -30,7 +30,7 @@ pub record BrokeWell {follows : List ℕ → Type 0} {left left' written written
   pub fair_last : IsFairOver Cells breaks.safe.nodes.voters breaks.turns breaks.safe.over breaks.safe.nodes.last
   pub well : AllByRecursion GoesUntroubled (with_over breaks.turns breaks.safe.over)
 
--- The same text was written behind what was written before, and the faults are the same. So is what happened at nodes, with what came of it,
+-- The same text was written after what was written before, the faults are the same, and so is what happened at nodes, with what came of it,
 -- and what is noted, except for the numbers of transactions.
 pub record WroteSame (fault other : Option Fault) (turns others : List Turn) (journal items : List Item) (written written' shown shown' : Option (List ℕ))
     : Type 0 where
@@ -41,7 +41,7 @@ pub record WroteSame (fault other : Option Fault) (turns others : List Turn) (jo
   pub came : plain_turns turns ≡ plain_turns others
   pub noted : plain_items journal ≡ plain_items items
 
--- So it is of two calls that ran one script, from the same bytes and whatever may follow those that they read, where all went well in both.
+-- This holds for two calls that ran one script, from the same bytes and whatever may follow those that they read, where all went well in both.
 abbrev pub ScriptsDecide : Type 0
 ScriptsDecide =
     (fault other : Option Fault) (journal items : List Item) (left left' written written' from from' shown shown' : Option (List ℕ))
@@ -49,13 +49,13 @@ ScriptsDecide =
     WentWell one → WentWell also → (rest more : List ℕ) → MayFollow left' rest → MayFollow from' more → one.read ++ rest ≡ also.read ++ more →
     WroteSame fault other one.turns also.turns journal items written written' shown shown'
 
--- The one wrote a front of the text that the other wrote behind what was written before.
+-- The one wrote a front of the text that the other wrote after what was written before.
 pub record WroteFront (written written' shown shown' : Option (List ℕ)) : Type 0 where
   pub text : List ℕ
   pub front : AppendsFront written written' text
   pub also : Appends shown shown' text
 
--- So it is of a call that broke off, behind whose bytes these may follow, and one that ran the same script to its end or to its fault, where all
+-- This holds for a call that broke off, after whose bytes these may follow, and one that ran the same script to its end or to its fault, if all
 -- went well in both.
 abbrev pub BrokenDecideBy : (Option (List ℕ) → List ℕ → Type 0) → Type 0
 BrokenDecideBy follows =

@@ -1,4 +1,4 @@
--- How it ends where a script is to be made, and where it is to be run.
+-- How it ends where a script is to be made, and if it is to be run.
 use Rattle.std.specs.Prelude.{◌≡◌, ◌⊎◌, ◌==◌, ℕ, Bool, true, false, List, [], ◌∷◌, ◌++◌, codes, Option, Some, None, is_some, if◌then◌else◌}
 use Rattle.std.specs.Io.KnownBytes.{Appends}
 use Rattle.dq_base.specs.Sink.{AppendsFront}
@@ -12,7 +12,7 @@ use Rattle.script_runner.specs.declared.run.Outcome.TheVariants as ended
 use Rattle.script_runner.specs.Run.{run, printed}
 use Rattle.dqnode.specs.Program.{SafeTurns}
 
--- The whole script was written, or a front of it where the output failed or memory ran out.
+-- The whole script was written, or a front of it if the output failed or memory ran out.
 pub record GenerateEnds (number writes : ℕ) (written written' : Option (List ℕ)) (code : ℕ) : Type 0 where
   pub known : (code ≡ 0) ⊎ (code ≡ 4) ⊎ (code ≡ 7)
   pub whole : code ≡ 0 → Appends written written' (script_text number writes)
@@ -20,7 +20,7 @@ pub record GenerateEnds (number writes : ℕ) (written written' : Option (List �
 
 -- ---- the lines at the end of a run
 
--- a line that tells how a node stands, or a fault of the script
+-- a line that says how a node stands, or a fault of the script
 abbrev pub is_shown : List ℕ → Bool
 is_shown line = if is_some (behind (codes "node ") line) then true else is_some (behind (codes "error ") line)
 
@@ -52,7 +52,7 @@ StopsAtByte byte now later line =
 
 -- ---- a run
 
--- The script was run with an engine of cells at each node, and ended so; of what it prints the lines were written that tell how nodes stand,
+-- The script was run with an engine of cells at each node, and ended so; of what it prints the lines were written that say how nodes stand,
 -- and its fault. The journal is what it notes; what came of its events is what whole nodes do, and is safe.
 pub record RunsMade (number writes : ℕ) (fault : Option Fault) (journal : List Item) (written written' : Option (List ℕ)) : Type 0 where
   pub outcomes : List Outcome
@@ -69,7 +69,7 @@ pub record PrintsMade (number writes : ℕ) (fault : Option Fault) (journal : Li
   pub notes : (run (script_text number writes) outcomes).journal ≡ journal
   pub safe : SafeTurns Cells (run (script_text number writes) outcomes).turns
 
--- so it is by how running it in memory ended, unless that broke off
+-- this holds by how running it in memory ended, unless that broke off
 abbrev pub TextEnds : ℕ → ℕ → List Item → List ℕ → Ended → Type 0
 TextEnds number writes journal text ended.Done = PrintsMade number writes None journal text
 TextEnds number writes journal text (ended.Script line) = PrintsMade number writes (Some (Line line)) journal text
@@ -78,7 +78,7 @@ TextEnds number writes journal text ended.ReadFault = Unit {0}
 TextEnds number writes journal text ended.WriteFault = Unit {0}
 TextEnds number writes journal text ended.NoMemory = Unit {0}
 
--- the run came to its end or to a fault of the script, so that all that it prints is there
+-- the run ended or to a fault of the script, so that all that it prints is there
 abbrev pub is_whole : Ended → Bool
 is_whole ended.Done = true
 is_whole (ended.Script line) = true

@@ -24,7 +24,7 @@ words_error = codes "error words\n"
 -- ---- a run that is safe
 
 -- What came of a run's events is what whole nodes do, and its turns are safe: each moment of it, and each with a later one, up to where a checksum matches by chance in what a start finds;
--- each request of a connection that stays open is answered once, and in its order; and no load fails, neither up to such a moment (`loads` of
+-- each request of a connection that stays open is answered once, and in its order; and no load fails, neither up to that moment (`loads` of
 -- `IsSafe`) nor in what a node did last where that isn't in the run: no start finds `Damaged`, `Gap`, `NoMeta` or `Snapshot`.
 pub record SafeTurns (kind : EngineKind) (turns : List Turn) : Type 0 where
   pub over : Option Turn
@@ -59,7 +59,7 @@ pub record Gives (kind : EngineKind) (fault : Option Fault) (journal : List Item
 abbrev pub Completes : EngineKind → List Item → Option (List ℕ) → Option (List ℕ) → Option (List ℕ) → Option (List ℕ) → Type 0
 Completes kind journal left left' written written' = Gives kind None journal left left' written written' × IsAtEnd left'
 
--- Whichever bytes of `follows` stand behind those read, a front was written of what the run prints, its error line counted in: so nothing
+-- Whichever bytes of `follows` follow those read, a front was written of what the run prints, its error line counted in: so nothing
 -- of a line that was read in part. The run begins with these turns, which are safe.
 pub record BreaksOff (kind : EngineKind) (follows : List ℕ → Type 0) (left left' written written' : Option (List ℕ)) : Type 0 where
   pub read : List ℕ
@@ -78,7 +78,7 @@ pub record BreaksOff (kind : EngineKind) (follows : List ℕ → Type 0) (left l
 pub record RunsSafely (kind : EngineKind) (journal : List Item) (left left' written written' : Option (List ℕ)) : Type 0 where
   pub is : ((fault : Option Fault) × Gives kind fault journal left left' written written') ⊎ BreaksOff kind (MayFollow left') left left' written written'
 
--- So is every script up to any moment until which what came of its events is what whole nodes do.
+-- Every script is safe up to any moment until which what came of its events is what whole nodes do.
 abbrev pub RunsAreSafe : Type 0
 RunsAreSafe =
     (kind : EngineKind) (voters : ℕ) (script : List ℕ) (outcomes : List Outcome) (front rest : List Turn) →

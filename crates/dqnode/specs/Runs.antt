@@ -38,7 +38,7 @@ pub record ScriptRun (asked : Option Invocation) (journal : List Item) (left lef
   pub safe : IsScript asked → RunsWith asked (λ kind. RunsSafely kind journal left left' written written')
   -- 3: a front was written of what the script gives, whatever bytes follow those read
   pub cut : code ≡ 3 → RunsWith asked (λ kind. BreaksOff kind Anything left left' written written')
-  -- 4 and 7: so it is too; but where the input is at its end nothing follows
+  -- 4 and 7: this holds too; but if the input is at its end nothing follows
   pub broken : IsScript asked → IsBroken code → RunsWith asked (λ kind. BreaksOff kind (MayFollow left') left left' written written')
 
 -- Arguments that ask for nothing are refused, with 1 and an error line, unless it can't be written or there is not enough memory to read them; then
@@ -52,14 +52,14 @@ pub record RefusesArguments (asked : Option Invocation) (written written' : Opti
 -- which was printed, unless the output failed or memory ran out.
 pub record StatementRun (asked : Option Invocation) (start now : Net) (written written' : Option (List ℕ)) (code : ℕ) : Type 0 where
   pub ended : (statement : Statement) → ForStatement statement asked → StatementEnds statement start now written written' code
-  -- an answer comes only where an address was dialled
+  -- an answer comes only if an address was dialled
   pub linked : IsStatement asked → IsAnswered code → HasLinked start now
   -- 12, no leader, comes only after three dials for each address
   pub no_leader : (statement : Statement) → ForStatement statement asked → code ≡ 12 → HaveDialled start now (3 * length statement.addresses)
   -- each dial and each call of the dialer that failed is counted
   pub failed : HaveFailed start now
 
--- The files were looked at: every file stays as it is, and the lines of what they hold were printed, or the line of their fault; where the
+-- The files were looked at: every file stays as it is, and the lines of what they hold were printed, or the line of their fault; if the
 -- disk failed or there is not enough memory, nothing was.
 pub record CheckRun {K : Type 0} (asked : Option Invocation) (files files' : Disk Text → Type 0) (written : K → Option (List ℕ)) (output output' : K)
     (code : ℕ) : Type 0 where
@@ -67,7 +67,7 @@ pub record CheckRun {K : Type 0} (asked : Option Invocation) (files files' : Dis
   pub unprinted : IsCheck asked → (code ≡ 5) ⊎ (code ≡ 7) → output' ≡ output
 
 -- The script of a number and a count of writes was made: with 0 it was written whole and nothing else; with 4 and 7, and there is no other
--- status, a front of it. Or it was run: with 0 it was written how its nodes stand at its end, with 2 and 9 its fault too, and with 4 and 7 a
+-- status, a front of it. Or it was run: with 0 it was written how its nodes are at its end, with 2 and 9 its fault too, and with 4 and 7 a
 -- front of it.
 pub record GenerateRun (asked : Option Invocation) (journal : List Item) (written written' : Option (List ℕ)) (code : ℕ) : Type 0 where
   pub made : (number writes : ℕ) → ForGenerated number writes asked → GenerateEnds number writes written written' code
@@ -92,13 +92,13 @@ pub record ServeRun {D H : Type 0} (files : D → Disk Text → Type 0) (views :
       ⊎ NotServed disk disk' host host' code
   -- 10: as many events were taken as are asked for
   pub spent : (served : Serve) → ForServed served asked → code ≡ 10 → (views.taken host').count ≡ (views.taken host).count + served.events
-  -- over the files of a node, where neither the disk nor the host failed, all events were taken, or memory ran out
+  -- over the files of a node, if neither the disk nor the host failed, all events were taken, or memory ran out
   pub well : IsServed asked → GoesWell (files disk) (views.disk_faults disk) (views.disk_faults disk') (views.host_faults host) (views.host_faults host') →
       (code ≡ 10) ⊎ (code ≡ 7)
 
 -- What is not asked for is left alone: the input and its count of faults where it is no script, the dialer where it is no statement, the disk
--- where neither files are looked at nor a node is served, the host where no node is. Where no script is run the journal is as it was, or it has
--- nothing in it, where there is not enough memory.
+-- if neither files are looked at nor a node is served, the host where no node is. If no script is run the journal is as it was, or it has
+-- nothing in it, if there is not enough memory.
 pub record Untouched {N D H : Type 0} (asked : Option Invocation) (left left' : Option (List ℕ)) (read_faults read_faults' : ℕ) (journal journal' : List Item)
     (dialer dialer' : N) (disk disk' : D) (host host' : H) (code : ℕ) : Type 0 where
   pub input : (IsScript asked → ⊥) → Keeps left left' × (read_faults ≡ read_faults')
@@ -114,7 +114,7 @@ pub record FaultCounts : Type 0 where
   pub disk : ℕ
   pub host : ℕ
 
--- The status is one of those that there are, and for what it is asked; 3, 4, 5 and 6 only where the input, the output, the disk, the host failed
+-- The status is one of those that there are, and for what it is asked; 3, 4, 5 and 6 only if the input, the output, the disk, the host failed
 -- in this call. No count of faults falls.
 pub record StatusTells (asked : Option Invocation) (old now : FaultCounts) (code : ℕ) : Type 0 where
   pub known : IsStatus code

@@ -25,8 +25,8 @@ serve_status ends.HostFault = status.HostFault
 serve_status ends.NoMemory = status.NoMemory
 serve_status ends.Spent = status.Spent
 
--- By an engine of the kind that the words name, which knew no image, the node was served over this disk, with the events of this host,
--- and came to an end for which this status stands. What was served is a run of the rules.
+-- By an engine of the kind that the arguments name, which knew no image, the node was served over this disk, with the events of this host,
+-- and ended as this status says. What was served is a run of the rules.
 pub record WasServed {D H : Type 0} (tells : Bool) (states : D → Disk Text → Type 0) (faults : D → ℕ) (done : H → HostCounts) (served : Serve)
     (host : H) (disk disk_after : D) (events events_after : Taken Read) (code : ℕ) : Type 0 where
   pub engine : AnyEngine
@@ -40,7 +40,7 @@ pub record WasServed {D H : Type 0} (tells : Bool) (states : D → Disk Text →
       (record { disk = disk_after; engine = engine_after; events = events_after }) end
   pub by_rules : IsRunOfRules (any_meaning served.engine) served.engine None served tells (states disk) (states disk_after) events events_after end
 
--- there was not enough memory to read the words, and nothing was done
+-- there was not enough memory to read the arguments, and nothing was done
 pub record NotServed {D H : Type 0} (disk disk_after : D) (host host_after : H) (code : ℕ) : Type 0 where
   pub code_is : code ≡ 7
   pub disk_is : disk_after ≡ disk

@@ -34,8 +34,8 @@ client_status (client.Ended end) = end_status end
 client_status client.WriteFault = WriteFault
 client_status client.NoMemory = NoMemory
 
--- The client came to an end, for which this status stands, by the calls that it named and the events that their answers make,
--- where these are told; it dialled for it; and what is printed of the end was printed.
+-- The client ended as this status says, by the calls that it named and the events that their answers make,
+-- if these are told; it dialled for it; and what is printed of the end was printed.
 pub record ClientReaches (statement : Statement) (start now : Net) (written written' : Option (List ℕ)) (code : ℕ) : Type 0 where
   pub end : ClientEnd
   pub code_is : code ≡ status_code (end_status end)
@@ -43,8 +43,8 @@ pub record ClientReaches (statement : Statement) (start now : Net) (written writ
   pub dialled : EndHasCause start now (length statement.addresses) end
   pub printed : Appends written written' (end_text end)
 
--- The output failed, or memory ran out: the calls are those that the client named, where they are told, and a front of what is printed
--- of an end was printed, which is nothing where memory ran out.
+-- The output failed, or memory ran out: the calls are those that the client named, if they are known, and a front of what is printed
+-- of an end was printed, which is nothing if memory ran out.
 pub record BreaksOff (statement : Statement) (start now : Net) (written written' : Option (List ℕ)) (code : ℕ) : Type 0 where
   pub cause : (code ≡ 4) ⊎ (code ≡ 7)
   pub named : HaveNamed (started (client_of statement)) start.calls now.calls

@@ -56,7 +56,7 @@ status_for outcome.ReadFault = ReadFault
 status_for outcome.WriteFault = WriteFault
 status_for outcome.NoMemory = NoMemory
 
--- what a script did that came to this outcome
+-- what a script did that ended with this outcome
 abbrev pub OutcomeEnds : EngineKind → List Item → Outcome → Option (List ℕ) → Option (List ℕ) → Option (List ℕ) → Option (List ℕ) → Type 0
 OutcomeEnds kind journal outcome.Done left left' written written' = Completes kind journal left left' written written'
 OutcomeEnds kind journal (outcome.Script line) left left' written written' = Gives kind (Some (Line line)) journal left left' written written'

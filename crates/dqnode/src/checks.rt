@@ -1,4 +1,4 @@
-//! Checks: what the files of a stopped node stand for.
+//! Checks: what the files of a stopped node represent.
 
 ghost use Rattle.std.specs.Prelude.{◌≡◌, ◌≤◌, ◌⊎◌, string_bytes, IfOk};
 ghost use Rattle.std.specs.Io.KnownBytes.{Appends};
@@ -14,7 +14,7 @@ use folder_check::{CheckEnd, check};
 use segment_store::LoadFault;
 use std::alloc::{AllocError, Global};
 
-/// The line of a fault of the files; none where they have none.
+/// The line of a fault of the files; none if they have none.
 fn fault_text(alloc: Global, end: CheckEnd) -> Result<String, AllocError>
     ensures { IfOk result (λ line. string_bytes line ≡ fault_line end) }
 {
@@ -49,7 +49,7 @@ fn name_fault<K: Sink>(alloc: Global, end: CheckEnd, output: &mut K) -> Status
     }
 }
 
-/// Prints what the files of a stopped node stand for, or the line of their fault.
+/// Prints what the files of a stopped node represent, or the line of their fault.
 pub(crate) fn tell<K: Sink, D: Disk>(alloc: Global, output: &mut K, disk: &mut D) -> Status
     ensures ended { CheckEnds (D.states disk.old) (D.states disk.new) (K.written output.old) (K.written output.new) (status_code result) }
     ensures unwritten { (result ≡ Status.DiskFault) ⊎ (result ≡ Status.NoMemory) → output.new ≡ output.old }

@@ -54,7 +54,7 @@ pub fn tell_disk(rt: &HostRuntime, disk: &DirDisk<HostRuntime>) {
     }
 }
 
-/// Says that the host failed, with the call that failed last and the system's error, where there is one.
+/// Says that the host failed, with the call that failed last and the system's error, if there is one.
 pub fn tell_host<R: Wait + Copy + Drop>(rt: &HostRuntime, host: &TcpHost<R, Read>) {
     let Some(HostFault { call, error }) = host.last_fault() else {
         return;

@@ -9,7 +9,7 @@ use std::alloc::{AllocError, Global};
 /// The name of the file that says it.
 const FILE: &str = "node";
 
-/// How many bytes of it are read: more than any such file has.
+/// How many bytes of it are read: more than any file of this name has.
 const ROOM: usize = 4_096;
 
 /// Who owns a folder.

@@ -32,7 +32,7 @@ pub(crate) fn make_script<K: Sink>(alloc: Global, number: u32, count: u32, outpu
     }
 }
 
-/// Whether a line tells how a node stands, or a fault of the script.
+/// Whether a line says how a node stands, or a fault of the script.
 fn is_shown(line: &[u8]) -> bool
     ensures { result ≡ is_shown line.now }
 {
@@ -52,7 +52,7 @@ fn put_line<K: Sink>(line: &[u8], output: &mut K) -> Result<(), GenerateFault>
     Ok(())
 }
 
-/// Puts a byte behind a line.
+/// Puts a byte after a line.
 fn put_byte(line: &mut Vec<u8>, byte: u8) -> Result<(), AllocError>
     ensures { OnOk result (line.new.items ≡ line.old.items ++ byte ∷ []) }
 {
@@ -83,7 +83,7 @@ fn take_byte<K: Sink>(line: &mut Vec<u8>, byte: u8, output: &mut K) -> Result<()
     Ok(())
 }
 
-/// Writes those lines of a text that tell how nodes stand, or a fault of the script. After `Err` a front of them is written.
+/// Writes those lines of a text that say how nodes stand, or a fault of the script. After `Err` a front of them is written.
 #[tactic(auto, using(crate::proofs::Made::shown_first, crate::proofs::Made::shown_short, crate::proofs::Made::shown_all))]
 fn put_shown<K: Sink>(alloc: Global, text: &[u8], output: &mut K) -> Result<(), GenerateFault>
     ensures ok { OnOk result (Appends (K.written output.old) (K.written output.new) (shown_lines text.now)) }
@@ -98,7 +98,7 @@ fn put_shown<K: Sink>(alloc: Global, text: &[u8], output: &mut K) -> Result<(), 
     Ok(())
 }
 
-/// Whether a run came to its end or to a fault of the script, so that all that it prints is there.
+/// Whether a run ended or to a fault of the script, so that all that it prints is there.
 fn is_whole(outcome: Outcome) -> bool
     ensures { result ≡ is_whole outcome }
 {
@@ -115,7 +115,7 @@ fn made(alloc: Global, number: u32, count: u32) -> Result<ScriptBytes, AllocErro
     let mut sink = MemSink::new(alloc, Vec::new(alloc));
     match generate(alloc, number, count, &mut sink) {
         Ok(()) => ScriptBytes::copy(alloc, sink.bytes()),
-        // A sink in memory fails only where memory runs out.
+        // A sink in memory fails only if memory runs out.
         Err(_) => Err(AllocError),
     }
 }
@@ -135,7 +135,7 @@ fn run_text(
     Ok(run_over(alloc, EngineKind::Cells, &mut script, text, journal))
 }
 
-/// Runs the script of a number and a count of writes, with an engine of cells at each node, and writes how its nodes stand at its end,
+/// Runs the script of a number and a count of writes, with an engine of cells at each node, and writes how its nodes are at its end,
 /// or its fault.
 #[tactic(auto, using(crate::proofs::Made::run_cut, crate::proofs::Made::unrun))]
 pub(crate) fn run_made<K: Sink>(
@@ -153,7 +153,7 @@ pub(crate) fn run_made<K: Sink>(
     let Ok(outcome) = run_text(alloc, number, count, &mut text, journal) else {
         return Status::NoMemory;
     };
-    // A text in memory fails only where memory runs out, and the script's bytes never do.
+    // A text in memory fails only if memory runs out, and the script's bytes never do.
     if !is_whole(outcome) {
         return Status::NoMemory;
     }

@@ -8,8 +8,8 @@ use session_gateway::Read;
 pub struct Network<N: Dialer, H: Host<Read>, W: Notes> {
     /// What dials servers, for a statement.
     pub dialer: N,
-    /// Where a served node listens, and what works beside it.
+    /// Where a served node listens, and what works concurrently with it.
     pub host: H,
-    /// Where it goes what is told of a served node.
+    /// What takes the reports of a served node.
     pub notes: W,
 }

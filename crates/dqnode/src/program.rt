@@ -41,7 +41,7 @@ use serve_threads::Host;
 use session_gateway::Read;
 use std::alloc::Global;
 
-/// Refuses the words.
+/// Refuses the arguments.
 fn refuse_words<K: Sink>(output: &mut K) -> Status
     ensures words { result ≡ Status.Words → Appends (K.written output.old) (K.written output.new) words_error }
     ensures write_fault { result ≡ Status.WriteFault → Rose (K.faults output.old) (K.faults output.new) }
@@ -55,7 +55,7 @@ fn refuse_words<K: Sink>(output: &mut K) -> Status
     }
 }
 
-/// There is not enough memory to read the words, and so nothing is done.
+/// There is not enough memory to read the arguments, and so nothing is done.
 fn give_up(alloc: Global, journal: &mut ClusterJournal) -> Status
     ensures status { result ≡ Status.NoMemory }
     ensures journal { journal.new ≡ [] }
@@ -156,26 +156,26 @@ fn run<S: Source, K: Sink, D: Disk, N: Dialer, H: Host<Read>, W: Notes>(
     status.code()
 }
 
-/// All that the program does: does what the words behind the program's name ask for, and answers the status that the process ends
+/// All that the program does: does what the arguments after the program's name ask for, and answers the status that the process ends
 /// with.
 ///
 /// - `script`, or `script --engine E` where E is `sqlite` or `cells`: the input is a script, whose text goes to the output. The
 ///   engine of SQLite is the default.
 /// - `exec NAME SQL ADDRESS..` and `query NAME SQL ADDRESS..`: the leader of a cluster, one of whose servers is at one of the
 ///   addresses, runs a statement on the database NAME, and what came of it is printed.
-/// - `check`: what the files on the disk stand for is printed, where their node is stopped.
+/// - `check`: what the files on the disk represent is printed, if their node is stopped.
 /// - `gen NUMBER COUNT`: the script of a load of writes that these give is written; with `--run` it is run instead, with an engine of
-///   cells at each node, and it is written how its nodes stand at its end.
+///   cells at each node, and it is written how its nodes are at its end.
 ///
 /// Other words give status 1 and the line `error words`. 4 is a fault of the output, an error line that could not be written included; 7
 /// means out of memory.
 ///
-/// A script: a line that isn't in the grammar, or that names what isn't there, the first fault of the script, gives status 2, behind the
-/// text of the lines before it, and `error line` with its number. A line behind the millionth, an event behind the twenty thousandth, or
+/// A script: a line that isn't in the grammar, or that names what isn't there, the first fault of the script, gives status 2, after the
+/// text of the lines before it, and `error line` with its number. A line after the millionth, an event after the twenty thousandth, or
 /// one whose messages have too many bytes, as the first fault gives 9 and `error large` instead. 3 is a fault of the input. The journal is
 /// that of this run afterwards: what the engines answered to the statements of clients, how each disk call was met at which a line aims,
-/// and what was loaded behind a stop or a failed call, in their order; what it held before is dropped, and after other words it is as it
-/// was. What was read, and what came of the events at the nodes, decide all else. What came of them is what whole nodes do, so every such
+/// and what was loaded after a stop or a failed call, in their order; what it held before is dropped, and after other words it is as it
+/// was. What was read, and what came of the events at the nodes, decide all else. What came of them is what whole nodes do, so every
 /// run is safe, at each moment and at a later one, with stops and failing calls of disks at any place. Unless the input is at its end,
 /// every script that begins with the bytes read has the fault that is named; and after a fault of the outside or out of memory a front was
 /// written of what each of them gives, so nothing of a line that was read in part.
@@ -184,14 +184,14 @@ fn run<S: Source, K: Sink, D: Disk, N: Dialer, H: Host<Read>, W: Notes>(
 /// rounds of the addresses, and 13 where the statement was sent and nobody knows whether it was run; 12 and 13 print nothing. The
 /// statement is sent again only where a server answered that it doesn't lead.
 ///
-/// A check: 0 with the lines of what the files stand for; 8 where they have a fault, with its line alone: `damaged S AT`, `gap A B`,
+/// A check: 0 with the lines of what the files represent; 8 where they have a fault, with its line alone: `damaged S AT`, `gap A B`,
 /// `no metadata`, or `bad snapshot I`; 5 is a fault of the disk. No file is changed.
 ///
 /// A node that is served: it is started over the disk and makes a step for each event that the host brings. 10 comes after as many
-/// events as the words say, 6 where the host failed, 5 where the disk did, 7 where memory ran out, and 8 where the files aren't those of
+/// events as the arguments say, 6 where the host failed, 5 where the disk did, 7 where memory ran out, and 8 where the files aren't those of
 /// a node.
 ///
-/// After words that ask for no script the input is as it was; so is the dialer where no statement is asked for, the disk where neither a
+/// After words that ask for no script the input is as it was; the same holds for the dialer where no statement is asked for, the disk where neither a
 /// check nor a node is, and the host where no node is.
 pub fn dqnode<S: Source, K: Sink, D: Disk, N: Dialer, H: Host<Read>, W: Notes>(
     alloc: Global,
@@ -208,7 +208,7 @@ pub fn dqnode<S: Source, K: Sink, D: Disk, N: Dialer, H: Host<Read>, W: Notes>(
     ensures arguments { RefusesArguments (asks_for words.now) (K.written output.old) (K.written output.new) result }
     // A statement that was asked for was run by the leader of a cluster.
     ensures statement { StatementRun (asks_for words.now) (N.net network.old.dialer) (N.net network.new.dialer) (K.written output.old) (K.written output.new) result }
-    // A check: what the files stand for was printed, or their fault.
+    // A check: what the files represent was printed, or their fault.
     ensures check { CheckRun (asks_for words.now) (D.states disk.old) (D.states disk.new) K.written output.old output.new result }
     // The script of a number and a count of writes was made, or run.
     ensures generate { GenerateRun (asks_for words.now) journal.new (K.written output.old) (K.written output.new) result }
@@ -230,7 +230,7 @@ pub fn dqnode<S: Source, K: Sink, D: Disk, N: Dialer, H: Host<Read>, W: Notes>(
     // The run of every script is safe where what came of its events is what whole nodes do.
     ensures always_safe { RunsAreSafe }
     // With an engine of cells a script alone decides what comes of its events, what is written and how it ends: in two calls that ran one script
-    // the same happened at nodes and was noted, except for the numbers of transactions, the same was written behind what was there, and the
+    // the same happened at nodes and was noted, except for the numbers of transactions, the same was written after what was there, and the
     // fault is the same, where in both no call of a disk stopped or failed, no engine wanted memory, and no checksum matched by chance in what a
     // start found.
     ensures determined { ScriptsDecide }

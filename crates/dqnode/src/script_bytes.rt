@@ -6,7 +6,7 @@ use dq_base::{Failed, Source};
 use std::alloc::{AllocError, Global};
 use std::marker::Model;
 
-/// The bytes of a script that lie in memory, of which so many were read. Reading them never fails.
+/// The bytes of a script that lie in memory, of which this many were read. Reading them never fails.
 #[derive(Drop)]
 pub(crate) struct ScriptBytes {
     bytes: Vec<u8>,

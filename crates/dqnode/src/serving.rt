@@ -42,7 +42,7 @@ fn status_of(end: ServeEnd) -> Status
     }
 }
 
-/// Serves the node that the words name, over the disk.
+/// Serves the node that the arguments name, over the disk.
 pub(crate) fn serve_node<D: Disk, H: Host<Read>, W: Notes>(
     alloc: Global,
     words: Serve,

@@ -8,7 +8,7 @@ pub enum Status {
     /// What was asked for was done: the script was read to its end, the statement was answered, the lines of the folder were
     /// printed.
     Done,
-    /// The words ask for nothing that the program does.
+    /// The arguments ask for nothing that the program does.
     Words,
     /// A line of the script isn't in the grammar.
     Script,

@@ -8,7 +8,7 @@ use std::io::ErrorKind;
 use std::rt::Env;
 
 /// All arguments of the process, of which the first is the program's name. If one of them isn't UTF-8 there are none, since the program
-/// knows no such argument.
+/// knows no argument that isn't.
 pub fn given<R: Env + AllocGlobal>(rt: &R) -> Result<Vec<String>, AllocError> {
     let alloc = rt.alloc();
     match env::args(rt) {

@@ -13,7 +13,7 @@ answer_back : (answer : Result StatementResult EngineFault) → answer_of (note_
 answer_back (Ok ran) = refl
 answer_back (Err fault) = refl
 
--- an answer is kept behind the others
+-- an answer is kept after the others
 pub told_more : (answer : Result StatementResult EngineFault) (before now : List RecordedItem) (was is : Bool) → was ≡ false → is ≡ false
     → now ≡ before ++ note_of answer ∷ [] → Tells answer (Some (told_by before was)) (Some (told_by now is))
 told_more answer before now was is w i e =

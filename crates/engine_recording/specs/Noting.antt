@@ -23,6 +23,6 @@ pub record Noting (E : Type 0) : Type 0 where
   pub noted : List RecordedItem
   pub cut : Bool
 
--- what such an engine tells: the answers that its items keep
+-- what an engine that keeps its answers reports: the answers that its items keep
 abbrev pub told_by : List RecordedItem → Bool → Told
 told_by noted cut = record { answers = map answer_of noted; cut = cut }

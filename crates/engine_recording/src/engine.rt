@@ -16,7 +16,7 @@ use wire_words::Value;
 /// A copy of an answer takes as many bytes as the answer: its rows, the names of its columns and its pages. A run costs what
 /// it costs in the engine, and that copy.
 ///
-/// Where there is no room for a copy the run answers out of memory, and from then on the list is cut: the engine in it knows
+/// If there is no room for a copy the run answers out of memory, and from then on the list is cut: the engine in it knows
 /// nothing any more and isn't asked again, and each later run answers out of memory too.
 #[derive(Drop)]
 pub struct RecordingEngine<E> {
@@ -65,7 +65,7 @@ impl<E> RecordingEngine<E> {
     }
 }
 
-// Keeps a copy of the answer behind the others. `Err` means out of memory, and keeps
+// Keeps a copy of the answer after the others. `Err` means out of memory, and keeps
 // nothing.
 fn keep(
     alloc: Global,

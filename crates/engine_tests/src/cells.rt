@@ -54,10 +54,10 @@ fn written(alloc: Global, set: &PageSet) -> Result<Option<WireBytes>, AllocError
 }
 
 /// What a run is to answer: how many pages are affected, the value that is read, and the numbers of the pages that change,
-/// with zeros behind them.
+/// with zeros after them.
 type Wanted = Result<(u64, Option<i64>, [u64; 6]), EngineFault>;
 
-/// The numbers of pages, with zeros behind them.
+/// The numbers of pages, with zeros after them.
 fn numbers_of(pages: &[NumberedPage]) -> [u64; 6] {
     let mut numbers = [0; 6];
     for (place, page) in numbers.iter_mut().zip(pages) {
@@ -66,7 +66,7 @@ fn numbers_of(pages: &[NumberedPage]) -> [u64; 6] {
     numbers
 }
 
-/// The first value of the first row, where it is an integer.
+/// The first value of the first row, if it is an integer.
 fn value_of(rows: &[Row]) -> Option<i64> {
     let row = rows.first()?;
     match row.values() {
@@ -113,7 +113,7 @@ const STATEMENTS: &[(&str, Wanted)] = &[
     ("GET 3", Ok((0, Some(9), NO_PAGES))),
     ("GET 2", Ok((0, Some(0), NO_PAGES))),
     ("GET 4", Ok((0, None, NO_PAGES))),
-    // The same again: only the count of changes differs.
+    // A value that is set again: only the count of changes differs.
     ("SET 3 9", Ok((1, None, [3, 1, 0, 0, 0, 0]))),
     (
         "SET 1 9223372036854775807",

@@ -83,7 +83,7 @@ fn a_commit_is_written(rt: HostRuntime) -> Result<(), Fail> {
     Ok(())
 }
 
-// The pages of each command that a set of so many pages is cut into, and whether it commits. The set's transaction is 7.
+// The pages of each command that a set of this many pages is split into, and whether it commits. The set's transaction is 7.
 fn cut(alloc: Global, count: u64) -> Result<Vec<(u64, usize, u32, bool)>, AllocError> {
     let mut pages = Vec::new(alloc);
     for number in 2..=count {
@@ -187,7 +187,7 @@ fn faults_of_heads_and_names(rt: HostRuntime) -> Result<(), Fail> {
     Ok(())
 }
 
-// Bytes that begin as an OpenDb command and have a name of one byte, so many times.
+// Bytes that begin as an OpenDb command and have a name of one byte, this many times.
 fn named(alloc: Global, len: u16, byte: u8) -> Result<Vec<u8>, AllocError> {
     let len = usize::from(len);
     let mut bytes = Vec::from_slice(alloc, &OPEN_D[..8])?;
@@ -224,7 +224,7 @@ const CHANGES: &[(usize, u8, CommandFault)] = &[
     (24, 1, CommandFault::Tail),
     (28, 2, CommandFault::Number),
     (37, 4, CommandFault::PageSize),
-    // A count is only a claim: with two numbers the first page begins at byte 56, and is cut.
+    // A count is only what the bytes state: with two numbers the first page begins at byte 56, and is incomplete.
     (32, 2, CommandFault::Word(WordFault::Short(56))),
     (39, 1, CommandFault::Word(WordFault::Pad(32))),
     (31, 1, CommandFault::Word(WordFault::Pad(24))),

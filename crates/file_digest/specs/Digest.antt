@@ -1,11 +1,11 @@
--- The digest of a machine's files.
+-- The digest of a state machine's files.
 use Rattle.std.specs.Prelude.{ℕ, List, ◌++◌, length}
 use Rattle.std.specs.List.{flat_map}
 use Rattle.sha2.specs.Sha256.{sha256}
 use Rattle.wire_words.specs.Items.{word, text}
 use Rattle.database_state.specs.Files.{Content}
 
--- a file behind the word of its length
+-- a file after the word of its length
 abbrev pub file_message : List ℕ → List ℕ
 file_message file = word (length file) ++ file
 

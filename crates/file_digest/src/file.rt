@@ -10,7 +10,7 @@ use dq_base::Lengths;
 pub(crate) enum File {
     /// The one that SQLite calls the database.
     Main,
-    /// The one beside it.
+    /// The one next to it.
     Side,
 }
 

@@ -30,7 +30,7 @@ fn text_end(bytes: &[u8]) -> &[u8]
     &ZEROS[bytes.len() % 8..]
 }
 
-/// Adds a text, as the wire spells it, to the message.
+/// Adds a text, as the wire encodes it, to the message.
 fn add_text(hasher: &mut Sha256, bytes: &[u8])
     ensures { (m : List ℕ) → Holds256 hasher.old m → Holds256 hasher.new (m ++ text bytes.now) }
 {
@@ -52,7 +52,7 @@ fn add_page(hasher: &mut Sha256, database: &Database, file: File, place: usize, 
     hasher.update(&bytes[..count]);
 }
 
-/// Adds the bytes of a file, of which there are so many, to the message.
+/// Adds the bytes of a file, of which there are this many, to the message.
 fn add_pages(hasher: &mut Sha256, database: &Database, file: File, len: usize)
     requires { len ≡ length (bytes_of file (newest_image database.now.store)) }
     ensures { (m : List ℕ) → Holds256 hasher.old m → Holds256 hasher.new (m ++ bytes_of file (newest_image database.now.store)) }
@@ -83,7 +83,7 @@ fn add_database(hasher: &mut Sha256, database: &Database)
 }
 
 /// The digest of the newest files of databases, in their order: the SHA-256 of each one's name as a text of the wire, and
-/// of its main file and its side file, each behind the word of its length. Goes over the files page by page, and costs a
+/// of its main file and its side file, each after the word of its length. Goes over the files page by page, and costs a
 /// look-up and the copy of one page for each.
 #[tactic(auto, unfolding(crate::specs::Digest::digest))]
 pub fn digest(databases: &[Database]) -> [u8; 32]

@@ -1,4 +1,4 @@
-//! The digest of a machine's files.
+//! The digest of a state machine's files.
 #![tactic(auto)]
 
 mod file;

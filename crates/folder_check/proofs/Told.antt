@@ -1,4 +1,4 @@
--- The lines of a state, by the machine at its snapshot.
+-- The lines of a state, by the state machine at its snapshot.
 use Rattle.std.proofs.Common.{◌≡◌, ℕ, List, Option, Some, None, sym, ap, ◌∙◌, option_map}
 use Rattle.database_state.specs.declared.database.Database.{Database}
 use Rattle.database_state.specs.Databases.{contents_of}

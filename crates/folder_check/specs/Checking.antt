@@ -15,13 +15,13 @@ use Rattle.folder_check.specs.declared.ends.CheckEnd.{CheckEnd}
 use Rattle.folder_check.specs.declared.ends.CheckEnd.TheVariants as ends
 use Rattle.folder_check.specs.Lines.{lines_of}
 
--- the files of the disk stand for a state of which the lines are this text
+-- the files of the disk represent a state of which the lines are this text
 pub record HasLines (text : List ℕ) (d : Disk Text) : Type 0 where
   pub kept : Kept
   pub reads : kept_in (folder d).read ≡ Loaded kept
   pub lines : lines_of kept ≡ Some text
 
--- they stand for a state whose snapshot, of this index, isn't one of a node
+-- they represent a state whose snapshot, of this index, isn't one of a node
 pub record HasBadSnapshot (number : ℕ) (d : Disk Text) : Type 0 where
   pub kept : Kept
   pub reads : kept_in (folder d).read ≡ Loaded kept
@@ -69,7 +69,7 @@ CheckShows ends.NoMemory was now d = Unit {0}
 pub record Checks (before after : Disk Text → Type 0) (was now : Option (List ℕ)) (result : CheckEnd) : Type 0 where
   pub each : (d : Disk Text) → before d → IsPlain (folder d) → after d × CheckShows result was now d
 
--- nothing was written but where the lines were
+-- nothing was written, unless the lines were
 abbrev pub StaysUnlessPrinted : {K : Type 0} → CheckEnd → K → K → Type 0
 StaysUnlessPrinted ends.Done was now = Unit {0}
 StaysUnlessPrinted (ends.Damaged fault) was now = now ≡ was
@@ -85,7 +85,7 @@ pub record EndCause (cause : CheckEnd) (before now : ℕ) (result : CheckEnd) : 
 
 -- ---- its parts
 
--- the lines of what the files stand for, or why there are none
+-- the lines of what the files represent, or why there are none
 abbrev pub ReportShows : Result (String Global) CheckEnd → Disk Text → Type 0
 ReportShows (Ok text) d = HasLines (string_bytes text) d
 ReportShows (Err end) d = EarlyShows end d

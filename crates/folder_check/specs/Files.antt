@@ -1,4 +1,4 @@
--- The databases that what a node has kept stands for.
+-- The databases that what a node has kept represents.
 use Rattle.std.specs.Prelude.{ℕ, ◌-◌, ◌==◌, nat_lt, cond, List, [], drop, fold, Option, Some}
 use Rattle.std.specs.Option.{option_map}
 use Rattle.raft_spec.specs.Log as raft
@@ -33,6 +33,6 @@ after_entry contents entry = after_content contents (entry_seen entry).content
 abbrev pub after_entries : List Content → List raft.Entry → List Content
 after_entries contents entries = fold after_entry contents entries
 
--- the entries of a log that lie behind an index
+-- the entries of a log that lie after an index
 abbrev pub entries_behind : ℕ → Log → List raft.Entry
 entries_behind index log = cond (nat_lt index log.first) log.entries (drop 1 (drop (index - log.first) log.entries))

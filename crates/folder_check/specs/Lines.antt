@@ -1,4 +1,4 @@
--- The lines that tell what a node has kept.
+-- The lines that say what a node has kept.
 use Rattle.std.specs.Prelude.{ℕ, ◌+◌, ◌-◌, ◌==◌, cond, List, [], ◌++◌, length, codes, Option}
 use Rattle.std.specs.Option.{option_map}
 use Rattle.std.specs.Fmt.{decimal}
@@ -12,7 +12,7 @@ use Rattle.folder_check.specs.Files.{databases_at, after_entries, entries_behind
 abbrev pub term_line : ℕ → ℕ → List ℕ
 term_line term vote = codes "term " ++ (decimal term ++ (codes " vote " ++ (decimal vote ++ codes "\n")))
 
--- two numbers behind a word
+-- two numbers after a word
 abbrev pub numbers_line : List ℕ → ℕ → ℕ → List ℕ
 numbers_line word first second = word ++ (decimal first ++ (codes " " ++ (decimal second ++ codes "\n")))
 
@@ -28,11 +28,11 @@ last_index log = log.first + (length log.entries - 1)
 abbrev pub log_line : Log → List ℕ
 log_line log = cond (length log.entries == 0) (codes "log none\n") (numbers_line (codes "log ") log.first (last_index log))
 
--- an index behind a word, and the digest of databases
+-- an index after a word, and the digest of databases
 abbrev pub digest_line : List ℕ → ℕ → List ℕ → List ℕ
 digest_line word index bytes = word ++ (decimal index ++ (codes " " ++ (encode_lower bytes ++ codes "\n")))
 
--- where the log has entries, the files after all of them, from those at the snapshot of this index on
+-- if the log has entries, the files after all of them, from those at the snapshot of this index on
 abbrev pub end_line : ℕ → Log → List Content → List ℕ
 end_line index log contents =
     cond (length log.entries == 0) [] (digest_line (codes "end ") (last_index log) (digest (after_entries contents (entries_behind index log))))

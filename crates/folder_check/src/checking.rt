@@ -12,7 +12,7 @@ use dq_base::Sink;
 use segment_store::{Kept, LoadFault, Store};
 use std::alloc::Global;
 
-// What the files stand for.
+// What the files represent.
 fn look<D: Disk>(alloc: Global, disk: &mut D) -> Result<Kept, LoadFault>
     ensures looks { LooksAt (D.states disk.old) (D.states disk.new) result }
     ensures cause { LoadCause (D.faults disk.old) (D.faults disk.new) result }
@@ -20,7 +20,7 @@ fn look<D: Disk>(alloc: Global, disk: &mut D) -> Result<Kept, LoadFault>
     Store::look(alloc, disk)
 }
 
-// The lines of what the files stand for.
+// The lines of what the files represent.
 fn report<D: Disk>(alloc: Global, disk: &mut D) -> Result<String, CheckEnd>
     ensures told { Reports (D.states disk.old) (D.states disk.new) result }
     ensures early { IfErr result IsEarly }
@@ -40,9 +40,9 @@ fn print<K: Sink>(text: &str, sink: &mut K) -> CheckEnd
     }
 }
 
-/// Prints what the files of a stopped node stand for: `term T vote V`; `snapshot I T` with the index and the term of the
+/// Prints what the files of a stopped node represent: `term T vote V`; `snapshot I T` with the index and the term of the
 /// kept snapshot, or `snapshot none`; `log F L` with the indexes of the first and the last entry of the log, or `log none`;
-/// `files I DIGEST` with the digest of the databases at the snapshot, of index 0 where there is none; and where the log has
+/// `files I DIGEST` with the digest of the databases at the snapshot, of index 0 without one; and if the log has
 /// entries `end L DIGEST`, with that of the databases after all of them.
 ///
 /// Only lists and reads: every file stays as it is. All is looked at and made before the first byte is printed, in one write, so

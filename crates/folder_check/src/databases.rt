@@ -1,4 +1,4 @@
-//! The databases that what a node has kept stands for.
+//! The databases that what a node has kept represents.
 
 ghost use Rattle.std.specs.Prelude.{◌≡◌, drop, IfOk, OnOk};
 ghost use Rattle.std.specs.Option.{option_map};
@@ -13,7 +13,7 @@ use database_state::Machine;
 use raft_messages::{Entry, Snapshot};
 use std::alloc::{AllocError, Global};
 
-/// What is left of items behind so many; nothing where there are fewer.
+/// What is left of items after this many; nothing if there are fewer.
 fn rest<T>(items: &[T], count: usize) -> &[T]
     ensures { result.now ≡ drop count items.now }
 {
@@ -22,7 +22,7 @@ fn rest<T>(items: &[T], count: usize) -> &[T]
 
 // ---- a node's snapshot
 
-/// The machine of a node's snapshot of an index, if the bytes are one.
+/// The state machine of a node's snapshot of an index, if the bytes are one.
 fn restored(alloc: Global, index: u64, bytes: &[u8]) -> Result<Option<Machine>, AllocError>
     ensures { IfOk result (λ machine. option_map contents_of machine ≡ databases_of bytes.now) }
 {
@@ -33,7 +33,7 @@ fn restored(alloc: Global, index: u64, bytes: &[u8]) -> Result<Option<Machine>, 
     }
 }
 
-/// The machine at the kept snapshot, and one without databases where there is none; nothing where the snapshot isn't one of
+/// The state machine at the kept snapshot, and one without databases if index 0 is kept; nothing if the snapshot isn't one of
 /// a node.
 pub(crate) fn machine_at(
     alloc: Global,
@@ -83,7 +83,7 @@ pub(crate) fn apply_all(
     Ok(())
 }
 
-/// The entries that lie behind an index, of those from `first` on.
+/// The entries that lie after an index, of those from `first` on.
 pub(crate) fn entries_behind(index: u64, first: u64, entries: &[Entry]) -> &[Entry]
     ensures { result.now ≡ entries_behind index (record { first = first; entries = entries.now }) }
 {

@@ -10,7 +10,7 @@ use std::alloc::AllocError;
 pub enum CheckEnd {
     /// All lines were printed.
     Done,
-    /// The files stand for nothing, for this reason: one of `NoMeta`, `Damaged` and `Gap`.
+    /// The files represent nothing, for this reason: one of `NoMeta`, `Damaged` and `Gap`.
     Damaged(LoadFault),
     /// The kept snapshot, of this index, isn't one of a node.
     Snapshot(u64),

@@ -1,4 +1,4 @@
-//! What the files of a stopped node stand for, printed in lines.
+//! What the files of a stopped node represent, printed in lines.
 #![tactic(auto)]
 
 mod checking;

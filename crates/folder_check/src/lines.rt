@@ -1,4 +1,4 @@
-//! The lines that tell what a node has kept.
+//! The lines that say what a node has kept.
 
 ghost use Rattle.std.specs.Prelude.{◌≡◌, ◌+◌, ◌-◌, codes, string_bytes, Some, IfOk, MatchResult};
 ghost use Rattle.std.specs.Option.{option_map};
@@ -22,7 +22,7 @@ fn term_line(alloc: Global, term: u64, vote: u64) -> Result<String, AllocError>
     format!(in alloc; "term {term} vote {vote}\n")
 }
 
-// The index of a snapshot, and 0 where there is none.
+// The index of a snapshot, and 0 without one.
 fn index_of(snapshot: &Option<Snapshot>) -> u64
     ensures { result ≡ (snap_kept snapshot.now).index }
 {
@@ -46,7 +46,7 @@ fn snapshot_line(alloc: Global, snapshot: &Option<Snapshot>) -> Result<String, A
     }
 }
 
-// The index of the last of so many entries from `first` on. There is no memory for so many that it has no number.
+// The index of the last of this many entries from `first` on. Memory can't hold as many entries as would give it none.
 fn last_index(first: u64, count: usize) -> Result<u64, AllocError>
     ensures { IfOk result (λ last. last ≡ first + (count - 1)) }
 {
@@ -80,8 +80,8 @@ fn last_line(alloc: Global, index: u64, digest: &[u8; 32]) -> Result<String, All
     format!(in alloc; "end {index} {digits}\n")
 }
 
-// Does what the entries behind an index say, of those from `first` on, and tells the digest of the files after them; no line
-// where there are no entries.
+// Does what the entries after an index say, of those from `first` on, and tells the digest of the files after them; no line
+// if there are no entries.
 fn end_line(
     alloc: Global,
     machine: Machine,
@@ -125,7 +125,7 @@ fn head_lines(alloc: Global, kept: &Kept) -> Result<String, AllocError>
     format!(in alloc; "{term}{snapshot}{log}")
 }
 
-// All lines, with the machine at the snapshot.
+// All lines, with the state machine at the snapshot.
 #[tactic(auto, unfolding(crate::specs::Lines::text_with))]
 fn text_with(alloc: Global, kept: &Kept, machine: Machine) -> Result<String, AllocError>
     ensures { IfOk result (λ text. string_bytes text ≡ text_with kept.now (contents_of machine)) }
@@ -136,14 +136,14 @@ fn text_with(alloc: Global, kept: &Kept, machine: Machine) -> Result<String, All
     format!(in alloc; "{head}{files}")
 }
 
-// The machine at the kept snapshot.
+// The state machine at the kept snapshot.
 fn machine_of(alloc: Global, kept: &Kept) -> Result<Option<Machine>, AllocError>
     ensures { IfOk result (λ machine. option_map contents_of machine ≡ databases_at kept.now.snap) }
 {
     machine_at(alloc, &kept.snapshot)
 }
 
-// The index of the kept snapshot, and 0 where there is none.
+// The index of the kept snapshot, and 0 without one.
 fn snapshot_index(kept: &Kept) -> u64
     ensures { result ≡ kept.now.snap.index }
 {

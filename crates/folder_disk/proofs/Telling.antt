@@ -1,4 +1,4 @@
--- The clauses of a disk that tells nothing.
+-- The clauses of a disk that says nothing.
 use Rattle.std.proofs.Common.{Result}
 use Rattle.disk_model.specs.Disk.{Disk}
 use Rattle.disk_model.specs.Calls.{Call}

@@ -1,4 +1,4 @@
--- A disk that tells nothing.
+-- A disk that says nothing.
 use Rattle.std.specs.Prelude.{ℕ}
 use Rattle.disk_model.specs.Disk.{Disk}
 use Rattle.disk_model.specs.Trait.{Text}
@@ -7,7 +7,7 @@ use Rattle.disk_model.specs.Trait.{Text}
 abbrev pub no_states : Disk Text → Type 0
 no_states d = ⊥
 
--- how often it failed, how often it wanted memory, and how many calls were made
+-- how many times it failed, how many times it wanted memory, and how many calls were made
 pub record Counts : Type 0 where
   pub faults : ℕ
   pub wants : ℕ

@@ -31,7 +31,7 @@ pub struct CallFault {
 
 /// A disk over the files of a folder of the operating system.
 ///
-/// It tells nothing of what is on it: that real files follow what the trait says is trusted, and with it that an `Ok` of
+/// It says nothing of what is on it: that real files follow what the trait says is trusted, and with it that an `Ok` of
 /// a sync after one that failed makes all sure, which some systems break. A name that has a `/`, or is `.` or `..`, is
 /// none of the folder: each call with it answers `Failed` and does nothing.
 ///
@@ -137,14 +137,14 @@ impl<R: Files<File = File> + AllocGlobal + Clone + Drop> DirDisk<R> {
         })
     }
 
-    /// How often a call answered `Failed`.
+    /// How many times a call answered `Failed`.
     pub fn faults(&self) -> u64
         ensures { result ≡ self.now.faults }
     {
         self.faults
     }
 
-    /// The last call that answered `Failed` or `NoMemory`, if there is one. Where the disk was refused it is the last one before that.
+    /// The last call that answered `Failed` or `NoMemory`, if there is one. If the disk was refused it is the last one before that.
     pub fn last_fault(&self) -> Option<&CallFault> {
         self.last.as_ref()
     }
@@ -190,7 +190,7 @@ impl<R: Files<File = File> + AllocGlobal + Clone + Drop> DirDisk<R> {
         DiskFault::Failed
     }
 
-    /// Locks the folder, where that wasn't done yet.
+    /// Locks the folder, if that wasn't done yet.
     fn lock(&mut self) -> io::Result<()>
         ensures { self.new ≡ self.old }
     {
@@ -255,7 +255,7 @@ impl<R: Files<File = File> + AllocGlobal + Clone + Drop> DirDisk<R> {
         }
     }
 
-    /// Opens the file of a name to write to it, where it isn't the one that was written last.
+    /// Opens the file of a name to write to it, if it isn't the one that was written last.
     fn open(&mut self, name: &str) -> io::Result<()>
         ensures { self.new ≡ self.old }
     {
@@ -273,7 +273,7 @@ impl<R: Files<File = File> + AllocGlobal + Clone + Drop> DirDisk<R> {
         Ok(())
     }
 
-    /// Writes parts behind each other. The file stays open, also where a write failed.
+    /// Writes parts after each other. The file stays open, also if a write failed.
     fn write_to(&mut self, name: &str, at: u64, parts: [&[u8]; 3]) -> io::Result<()>
         ensures { self.new ≡ self.old }
     {

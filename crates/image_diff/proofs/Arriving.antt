@@ -1,4 +1,4 @@
--- The change to an image that is told by the pages that were touched.
+-- The change to an image that is described by the pages that were touched.
 use Rattle.std.proofs.Common.{◌≡◌, ℕ, ◌+◌, ◌^◌, ◌<◌, ◌≤◌, Bool, true, false, cond, ltb, List, [], ◌∷◌, ◌++◌, length, get_or, drop, Option, Some, None, refl, sym, ap, ◌∙◌, append_assoc, append-nil}
 use Rattle.std.specs.Prelude.{◌&&◌}
 use Rattle.std.proofs.lemmas.List.{at_drop_more, at_drop_all}
@@ -25,7 +25,7 @@ unfolding newer pages_at
 newer_is [] a b = refl
 newer_is (n ∷ ns) a b = newer_at n a (page_at b n) (pages_at ns b) ∙ ap (λ (ps : List NumberedPage). changed_page n (page_at a n) (page_at b n) ++ ps) (newer_is ns a b)
 
--- what is told of an image by the touched pages gives the whole change to it
+-- what is reported of an image by the touched pages gives the whole change to it
 pub arrives : (touched : List ℕ) (a b : Image) → ListsAll touched a b → length b.main < 2 ^ 64 → length b.side < 2 ^ 64 → change_to a (reached_at (put_in_order [] touched) b) ≡ changed a b
 arrives touched a b lists main_fits side_fits =
     ap (λ (ps : List NumberedPage). cond (no_pages ps && same_lengths a b) [] (ps ++ sizes_of b ∷ [])) (newer_is (put_in_order [] touched) a b) ∙ change_in_order touched a b lists main_fits side_fits

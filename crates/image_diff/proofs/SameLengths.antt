@@ -20,7 +20,7 @@ use Rattle.image_diff.specs.Pages.{shows, has_sizes, number_behind, ends_within}
 sizes_test : (a b : Image) → has_sizes a b ≡ bytes_eq (sizes_page (length a.main) (length a.side)) (sizes_page (length b.main) (length b.side))
 sizes_test a b = ap (λ (page : Option (List ℕ)). shows page (sizes_page (length b.main) (length b.side))) (page_at-one a 1 refl)
 
--- ---- the page behind a file
+-- ---- the page after a file
 
 main_file : (image : Image) (k : ℕ) → file_of image (2 + 2 * k) ≡ image.main
 main_file image k = cond-true (eqb ((2 + 2 * k) % 2) 0) image.main image.side (eq-eqb ((2 + 2 * k) % 2) 0 (omega arith))
@@ -36,7 +36,7 @@ main_start k = let half : (2 + 2 * k) / 2 ≡ k + 1 = omega arith in omega arith
 side_start : (k : ℕ) → page_start (3 + 2 * k) ≡ 4096 * k
 side_start k = let half : (3 + 2 * k) / 2 ≡ k + 1 = omega arith in omega arith
 
--- where an image lacks a page, its file ends at that page's start or before
+-- if an image lacks a page, its file ends at that page's start or before
 ends_at : (image : Image) (n : ℕ) → 1 < n → is_none (page_at image n) ≡ true → length (file_of image n) ≤ page_start n
 ends_at image n above lacks = elim (cases_lt (page_start n) (length (file_of image n))) [
   | inl inside ↦ absurd (both_ways (is_none (page_at image n)) (ap is_none (page_at_inside image n above inside)) lacks)

@@ -31,7 +31,7 @@ pub none_right : (n : ℕ) (ns ms : List ℕ) → NoneIs n (ns ++ ms) → NoneIs
 none_right n [] ms h = h
 none_right n (m ∷ ns) ms h = none_right n ns ms h.1
 
--- a number is none of those above it
+-- a number is not one of those above it
 none_above : (n low : ℕ) (ns : List ℕ) → n ≤ low → Ascends low ns → NoneIs n ns
 none_above n low [] le h = tt
 none_above n low (m ∷ ns) le h = ((λ e. omega (arith, h.0, e, le)), none_above n m ns (omega (arith, h.0, le)) h.1)
@@ -135,7 +135,7 @@ differs_in_order ns a b h n above none = h n above (none_in_order n [] ns none).
 
 -- ---- a change lists all that differs
 
--- a page behind those of an image isn't there
+-- a page after those of an image isn't there
 past_all : (b : Image) (n : ℕ) → 1 + numbers_above_one b < n → page_at b n ≡ None
 past_all b n past =
     let main : length b.main ≤ page_start n = omega (arith, past) in
@@ -185,7 +185,7 @@ none_at_all low [] a b order none = refl
 none_at_all low (n ∷ ns) a b order none =
     ap (λ (ps : List NumberedPage). ps ++ changed_at ns a b) (none n order.0) ∙ none_at_all n ns a b order.1 (λ m above. none m (omega (arith, order.0, above)))
 
--- what is listed from a number on stands at ascending numbers, where nothing differs elsewhere or further on
+-- what is listed from a number on is at ascending numbers, if nothing differs elsewhere or further on
 listed_at : (low count : ℕ) (ns : List ℕ) (a b : Image) → Ascends low ns → ((n : ℕ) → low < n → NoneIs n ns → changed_page n (page_at a n) (page_at b n) ≡ []) → ((n : ℕ) → low + count < n → changed_page n (page_at a n) (page_at b n) ≡ []) → changed_from (suc low) count a b ≡ changed_at ns a b
 unfolding changed_from
 listed_at low zero ns a b order else past = sym (none_at_all low ns a b order (λ n above. past n (omega (arith, above))))
@@ -278,7 +278,7 @@ all_above : (ns ms : List ℕ) → AllByRecursion (λ (n : ℕ). 1 < n) ns → A
 all_above [] ms h k = k
 all_above (n ∷ ns) ms h k = (h.0, all_above ns ms h.1 k)
 
--- the numbers of one more change behind others
+-- the numbers of one more change after others
 pub lists_next : (ns : List ℕ) (pages : List NumberedPage) (a b c : Image) → ListsAll ns a b → pages ≡ changed b c → ListsAll (ns ++ numbers_of pages) a c
 lists_next ns pages a b c lists is = record {
   above = all_above ns (numbers_of pages) lists.above (numbers_above pages);

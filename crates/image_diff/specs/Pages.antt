@@ -14,10 +14,10 @@ shows (Some own) page = bytes_eq own page
 abbrev pub has_sizes : Image → Image → Bool
 has_sizes a b = shows (page_at a 1) (sizes_of b).page
 
--- the number of the page behind the last one of a file with so many bytes, whose first page has this number
+-- the number of the page after the last one of a file with this many bytes, whose first page has this number
 abbrev pub number_behind : ℕ → ℕ → ℕ
 number_behind first bytes = first + 2 * pages_of bytes
 
--- whether an image has no page behind a main file of so many bytes, and none behind a side file of so many
+-- whether an image has no page after a main file of this many bytes, and none after a side file of this many
 abbrev pub ends_within : Image → ℕ → ℕ → Bool
 ends_within image main side = is_none (page_at image (number_behind 2 main)) && is_none (page_at image (number_behind 3 side))

@@ -13,7 +13,7 @@ unfoldable pub pages_at : List ℕ → Image → List NumberedPage
 pages_at [] image = []
 pages_at (n ∷ ns) image = changed_page n None (page_at image n) ++ pages_at ns image
 
--- what is told of an image by the pages at these numbers
+-- what is reported of an image by the pages at these numbers
 abbrev pub reached_at : List ℕ → Image → TouchedImage
 reached_at numbers image = record { pages = pages_at numbers image; sizes = sizes_of image; lengths = lengths_of image }
 

@@ -18,7 +18,7 @@ abbrev pub numbers_of : List NumberedPage → List ℕ
 numbers_of [] = []
 numbers_of (p ∷ ps) = if nat_lt 1 p.number then p.number ∷ numbers_of ps else numbers_of ps
 
--- the number is none of these
+-- the number is not one of these
 abbrev pub NoneIs : ℕ → List ℕ → Type 0
 NoneIs n ns = AllByRecursion (λ (m : ℕ). m ≢ n) ns
 

@@ -7,7 +7,7 @@ ghost use Rattle.dq_base.specs.Changes.{changed_page};
 use dq_base::{Image, NumberedPage, Page, page_at};
 use std::alloc::AllocError;
 
-/// Adds to the pages of a change what it lists at a number: the later page, where there was none before or another one.
+/// Adds to the pages of a change what it lists at a number: the later page, if there was none before or another one.
 pub fn add_changed(
     pages: &mut Vec<NumberedPage>,
     number: u64,
@@ -28,7 +28,7 @@ pub fn add_changed(
     Ok(())
 }
 
-/// Adds the page that an image has at a number, where it has one.
+/// Adds the page that an image has at a number, if it has one.
 pub(crate) fn add_page(
     pages: &mut Vec<NumberedPage>,
     image: &Image,

@@ -23,13 +23,13 @@ pub trait ImagePages {
     /// Whether its pages may be asked for.
     ghost is_shown: { Self → Type 0 };
 
-    /// The page of a number, copied; `None` exactly where the image has no such page.
+    /// The page of a number, copied; `None` exactly if the image doesn't have the page.
     fn page(&self, alloc: Global, number: u64) -> Option<Page>
         requires { is_shown self.now }
         ensures { result ≡ page_at (image self.now) number };
 }
 
-/// Whether there are none.
+/// Whether it is empty.
 pub fn are_none(pages: &Vec<NumberedPage>) -> bool
     ensures { result ≡ no_pages pages.now.items }
 {
@@ -57,7 +57,7 @@ fn has_sizes<P: ImagePages>(alloc: Global, earlier: &P, after: &Image) -> bool
     shows(&own, &sizes.page)
 }
 
-/// The number of the page behind the last one of a file with so many bytes, whose first page has this number.
+/// The number of the page after the last one of a file with this many bytes, whose first page has this number.
 fn number_behind(first: u64, length: usize) -> u64
     requires { first ≤ 3 }
     ensures { result ≡ pages_of_images.number_behind first length }
@@ -74,7 +74,7 @@ fn lacks<P: ImagePages>(alloc: Global, earlier: &P, number: u64) -> bool
     page.is_none()
 }
 
-/// Whether the earlier image has no page behind the main file of a later one with these lengths, and none behind the side file.
+/// Whether the earlier image has no page after the main file of a later one with these lengths, and none after the side file.
 fn ends_within<P: ImagePages>(alloc: Global, earlier: &P, lengths: Lengths) -> bool
     requires { P.is_shown earlier.now }
     ensures { result ≡ pages_of_images.ends_within (P.image earlier.now) lengths.main lengths.side }
@@ -116,7 +116,7 @@ fn same_lengths<P: ImagePages>(alloc: Global, earlier: &P, after: &Image) -> boo
     ends_within(alloc, earlier, lengths)
 }
 
-/// Whether the earlier image is a later one, where only these pages above 1 differ.
+/// Whether the earlier image is a later one, if only these pages above 1 differ.
 fn is_unchanged<P: ImagePages>(
     alloc: Global,
     earlier: &P,
@@ -132,7 +132,7 @@ fn is_unchanged<P: ImagePages>(
     same_lengths(alloc, earlier, after)
 }
 
-/// The pages that lead from an earlier image to a later one, which differ only in the pages of these numbers: none where they
+/// The pages that lead from an earlier image to a later one, which differ only in the pages of these numbers: none if they
 /// are the same; else those pages that the later has and the earlier has not or has otherwise, in order, and its sizes page.
 /// Copies the pages of the numbers, one at a time, and keeps those that it lists.
 pub fn change_between<P: ImagePages>(

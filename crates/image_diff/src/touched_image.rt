@@ -1,4 +1,4 @@
-//! An image that is told by the pages that were touched, and the change to it.
+//! An image that is described by the pages that were touched, and the change to it.
 
 ghost use Rattle.std.specs.Prelude.{◌≡◌, ◌<◌, ◌^◌, [], length, IfOk};
 ghost use Rattle.image_diff.specs.Touched.{put_in_order};
@@ -71,7 +71,7 @@ impl TouchedImage {
         })
     }
 
-    /// The change from an earlier image to it, where the two differ in touched pages alone.
+    /// The change from an earlier image to it, if the two differ in touched pages alone.
     pub fn change_from(
         &self,
         alloc: Global,

@@ -64,7 +64,7 @@ fn cut_back(alloc: Global, file: &mut Bytes, pages: &[NumberedPage], parity: u64
 
 impl Undo {
     /// What puts an image back over which pages are applied that state these lengths: the pages that they lie over, or a copy
-    /// of the image, where a file of it gets shorter.
+    /// of the image, if a file of it gets shorter.
     fn of(
         alloc: Global,
         image: &Image,

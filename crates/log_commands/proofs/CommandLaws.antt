@@ -1,4 +1,4 @@
--- A command is read exactly where the bytes stand for it, and commands stand apart.
+-- A command is read exactly if the bytes represent it, and commands are prefix-free.
 use Rattle.std.proofs.Common.{◌≡◌, ℕ, ◌+◌, ◌<◌, ◌^◌, Bool, true, cond, eqb, leb, inl, inr, List, [], ◌∷◌, ◌++◌, length, Option, Some, None, Result, Ok, Err, refl, sym, ap, subst, ◌∙◌, append_assoc, arith}
 use Rattle.std.specs.Prelude.{IfOk}
 use Rattle.std.proofs.lemmas.Bool.{eqb-true, leb-true, le-leb}
@@ -199,7 +199,7 @@ rest_stood (Checkpoint name) old new range fits p = named_stood (λ name. Checkp
 
 -- ---- a command
 
--- a command stood between two states of a reader
+-- a command was between two states of a reader
 pub record PassedCommand (command : Command) (old new : Unread) : Type 0 where
   pub range : IsInRange command
   pub fits : numbers_fit command ≡ true
@@ -238,7 +238,7 @@ command_found command bytes fits e =
     let parts : bytes ≡ command_bytes a.0.0 = c.stood.parts ∙ ap (λ (x : List ℕ). command_bytes a.0.0 ++ x) end ∙ append-nil (command_bytes a.0.0) in
     subst (λ (x : Command). Writes x bytes) (command_is a.0.0 command b.1) (record { in_range = c.range; fits = c.fits; parts = parts })
 
--- what is left behind a command
+-- what is left after a command
 abbrev behind : List ℕ → List ℕ → Unread
 behind bytes rest = record { at = 0 + length bytes; bytes = rest }
 

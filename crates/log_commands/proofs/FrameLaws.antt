@@ -1,4 +1,4 @@
--- What follows the name of a Frames command is read exactly where its spelling stands.
+-- What follows the name of a Frames command is read exactly if the bytes are its encoding.
 use Rattle.std.proofs.Common.{◌≡◌, ℕ, ◌<◌, ◌≤◌, ◌^◌, Bool, true, false, cond, eqb, leb, ◌&&◌, List, ◌++◌, length, Ok, Err, refl, sym, ap, subst, ◌∙◌, arith}
 use Rattle.std.proofs.lemmas.Bool.{eqb-true, eqb-false, leb-true, le-leb}
 use Rattle.dq_base.specs.declared.pages.NumberedPage.{NumberedPage}
@@ -146,7 +146,7 @@ flag_again : (commit : Bool) → eqb (flag commit) 1 ≡ commit
 flag_again true = refl
 flag_again false = refl
 
--- what stood where the rest of a Frames command was read
+-- what was where the rest of a Frames command was read
 pub record PassedFrames (name : List ℕ) (command : Command) (old new : Unread) : Type 0 where
   pub tx : ℕ
   pub truncate : ℕ

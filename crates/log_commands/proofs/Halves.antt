@@ -49,7 +49,7 @@ sized_item item len fits =
     le_bytes_2 (drop 4 item) (little_number 2 (drop 4 item)) (omega (arith, len, length-drop 4 item)) (AreBytes-drop 4 item fits) (le_number_2 (drop 4 item)) in
     sym (take-append-drop 4 item) ∙ ap (λ (x : List ℕ). x ++ drop 4 item) front ∙ ap (λ (x : List ℕ). little_bytes 4 (little_number 4 item) ++ x) (sym end)
 
--- two numbers that stood in one word
+-- two numbers that were in one word
 pub record PassedPair (first second limit : ℕ) (old new : Unread) : Type 0 where
   pub first_fits : first < 2 ^ 32
   pub second_fits : second < limit

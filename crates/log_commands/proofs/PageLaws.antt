@@ -1,4 +1,4 @@
--- Numbers and pages are read exactly where their spelling stands.
+-- Numbers and pages are read exactly if the bytes are their encoding.
 use Rattle.std.proofs.Common.{◌≡◌, ℕ, zero, suc, ◌<◌, ◌^◌, List, [], ◌∷◌, ◌++◌, length, Ok, refl, ap, subst}
 use Rattle.std.specs.List.{AllByRecursion}
 use Rattle.dq_base.specs.declared.pages.NumberedPage.{NumberedPage}
@@ -22,7 +22,7 @@ numbers_of (p ∷ ps) = p.number ∷ numbers_of ps
 
 -- ---- numbers
 
--- so many numbers stood between two states of a reader
+-- this many numbers were between two states of a reader
 pub record PassedNumbers (count : ℕ) (ns : List ℕ) (old new : Unread) : Type 0 where
   pub many : length ns ≡ count
   pub fit : AreWords ns

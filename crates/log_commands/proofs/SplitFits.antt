@@ -51,7 +51,7 @@ from_zero : (ps : List NumberedPage) → Ascends ps → numbers_ascend 0 ps ≡ 
 from_zero [] a = test_of 0 [] tt
 from_zero (p ∷ ps) a = test_of 0 (p ∷ ps) (omega arith, a.steps.1, a.steps.2, a.steps.3)
 
--- ---- pages that may be split, behind some that were
+-- ---- pages that may be split, after some that were
 
 -- pages that end with a sizes page, before which the numbers ascend
 record Fits (ps : List NumberedPage) : Type 0 where

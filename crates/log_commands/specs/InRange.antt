@@ -20,7 +20,7 @@ pub record Ends (truncate : ℕ) (pages : List NumberedPage) : Type 0 where
   pub count : truncate ≡ stated_count sizes.page
   pub ascend : Ascend front
 
--- Pages after which the transaction goes on: they ascend, and no page count is stated.
+-- Pages after which the transaction continues: they ascend, and no page count is stated.
 pub record GoesOn (truncate : ℕ) (pages : List NumberedPage) : Type 0 where
   pub none : truncate ≡ 0
   pub ascend : Ascend pages

@@ -17,7 +17,7 @@ use Rattle.log_commands.specs.declared.fault.CommandFault.{CommandFault}
 use Rattle.log_commands.specs.declared.fault.CommandFault.TheVariants.{Format, Kind, Word, PageSize, Number, Tail, NoMemory}
 use Rattle.log_commands.specs.Numbers.{frames_fit}
 
--- the fault of a command, where an item has this one
+-- the fault of a command, if an item has this one
 abbrev pub of_word : WordFault → CommandFault
 of_word word_faults.NoMemory = NoMemory
 of_word fault = Word fault
@@ -26,7 +26,7 @@ abbrev pub in_command : {X : Type 0} → Result X WordFault → Result X Command
 in_command (Ok x) = Ok x
 in_command (Err fault) = Err (of_word fault)
 
--- the type of command that a number stands for
+-- the type of command that a number represents
 abbrev pub command_kind : ℕ → Option CommandKind
 command_kind n = if n == 1 then Some kinds.OpenDb else if n == 2 then Some kinds.Frames else if n == 3 then Some kinds.Undo else if n == 4 then Some kinds.Checkpoint else None
 
@@ -34,11 +34,11 @@ abbrev pub known : Option CommandKind → Result CommandKind CommandFault
 known None = Err Kind
 known (Some kind) = Ok kind
 
--- the fault where the format or the type isn't there
+-- the fault if the format or the type isn't there
 abbrev pub no_head : Result CommandKind CommandFault
 no_head = Err (Word (word_faults.Short 0))
 
--- the type of the command that begins so: its first byte is the format 1, and its second stands for the type
+-- the type of the command that begins so: its first byte is the format 1, and its second represents the type
 abbrev pub kind_of : List ℕ → Result CommandKind CommandFault
 kind_of [] = no_head
 kind_of (format ∷ []) = if format == 1 then no_head else Err Format
@@ -72,7 +72,7 @@ sized_at left = do
   item ← raw_at 6 left
   Ok ((little_number 4 item.0, little_number 2 (drop 4 item.0)), item.1)
 
--- so many numbers
+-- this many numbers
 unfoldable pub numbers_at : ℕ → Unread → Result (List ℕ × Unread) WordFault
 numbers_at zero left = Ok ([], left)
 numbers_at (suc count) left = do
@@ -151,7 +151,7 @@ command_at left = do
   kind ← kind_at left
   command_after kind.0 kind.1
 
--- what was read, where nothing is left
+-- what was read, if nothing is left
 abbrev pub ended : Command × Unread → Result Command CommandFault
 ended x = if length x.1.bytes == 0 then Ok x.0 else Err Tail
 
@@ -168,6 +168,6 @@ Fails fault reading = reading ≡ Err fault
 abbrev pub Gives : {X : Type 0} → Result X CommandFault → Result X CommandFault → Type 0
 Gives reading result = MatchResult result (λ x. reading ≡ Ok x) (λ fault. Fails fault reading)
 
--- The same of a part that a reader takes, where nothing is said of where a fault leaves it.
+-- What a reader of a part gave is what reading gives; nothing is said of where a fault leaves the reader.
 abbrev pub Finds : {X : Type 0} → (Unread → Result (X × Unread) CommandFault) → Unread → Unread → Result X CommandFault → Type 0
 Finds read old new result = MatchResult result (λ x. read old ≡ Ok (x, new)) (λ fault. Fails fault (read old))

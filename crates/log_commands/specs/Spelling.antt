@@ -1,4 +1,4 @@
--- The one spelling of each command, and which bytes stand for it.
+-- The one encoding of each command, and which bytes represent it.
 use Rattle.std.specs.Prelude.{◌≡◌, ℕ, ◌<◌, ◌^◌, Bool, true, false, List, [], ◌∷◌, ◌++◌, length, IsUtf8}
 use Rattle.std.specs.List.{AllByRecursion}
 use Rattle.dq_base.specs.declared.pages.NumberedPage.{NumberedPage}
@@ -33,7 +33,7 @@ abbrev pub frames_bytes : ℕ → ℕ → Bool → List NumberedPage → List �
 frames_bytes tx truncate commit pages =
     word tx ++ (pair truncate (flag commit) ++ (pair (length pages) 4096 ++ (number_words pages ++ page_bytes pages)))
 
--- the one spelling of a command
+-- the one encoding of a command
 abbrev pub command_bytes : Command → List ℕ
 command_bytes (OpenDb name) = head 1 ++ text name
 command_bytes (Frames name tx truncate commit pages) = head 2 ++ (text name ++ frames_bytes tx truncate commit pages)
@@ -59,7 +59,7 @@ IsInRange (Frames name tx truncate commit pages) = IsTextName name × (tx < 2 ^ 
 IsInRange (Undo tx) = tx < 2 ^ 64
 IsInRange (Checkpoint name) = IsTextName name
 
--- The bytes stand for the command: its numbers are in range, and it is spelled so.
+-- The bytes represent the command: its numbers are in range, and it is encoded so.
 pub record Writes (command : Command) (bytes : List ℕ) : Type 0 where
   pub in_range : IsInRange command
   pub fits : numbers_fit command ≡ true

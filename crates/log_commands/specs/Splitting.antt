@@ -12,7 +12,7 @@ abbrev pub count_stated : Option NumberedPage → ℕ
 count_stated None = 0
 count_stated (Some last) = if is_sizes last then stated_count last.page else 0
 
--- Frames of one transaction: so many commands of 64 pages each after which it goes on, and one with the pages that are
+-- Frames of one transaction: this many commands of 64 pages each after which it continues, and one with the pages that are
 -- left, which commits.
 unfoldable pub split_from : ℕ → List ℕ → ℕ → List NumberedPage → List Command
 split_from zero name tx pages = Frames name tx (count_stated (last_page pages)) true pages ∷ []

@@ -7,8 +7,8 @@ pub enum Command {
     OpenDb {
         name: Name,
     },
-    /// Pages of a transaction. They stand with the transaction's earlier ones until the last of its commands commits
-    /// them all. The fields may hold any numbers; `numbers_fit` tells whether they are those of a command.
+    /// Pages of a transaction. They are with the transaction's earlier ones until the last of its commands commits
+    /// them all. The fields may hold any numbers; `numbers_fit` says whether they are those of a command.
     Frames {
         name: Name,
         /// The number of the transaction.

@@ -10,7 +10,7 @@ pub enum CommandFault {
     /// The first byte isn't 1.
     #[error("the command has another format")]
     Format,
-    /// The second byte stands for no type of command.
+    /// The second byte represents no type of command.
     #[error("no command has this type")]
     Kind,
     /// An item could not be read.

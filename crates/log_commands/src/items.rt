@@ -28,7 +28,7 @@ fn first_nul(bytes: &[u8]) -> Option<usize>
     bytes.iter().position(|byte| *byte == 0)
 }
 
-/// Whether a text may be a name whose first NUL is there: behind 1 to 255 bytes. Where there is none, the text's own
+/// Whether a text may be a name whose first NUL is there: after 1 to 255 bytes. If there is none, the text's own
 /// fault comes.
 fn may_be_name(nul: Option<usize>) -> bool
     ensures { result ≡ may_be_name nul }
@@ -75,7 +75,7 @@ fn sized(words: &mut Words<'_>) -> Result<(u32, u16), WordFault>
     Ok((count, LittleEndian::read_u16(&bytes[4..])))
 }
 
-/// So many numbers. Takes memory for those that are there.
+/// This many numbers. Takes memory for those that are there.
 fn numbers(alloc: Global, words: &mut Words<'_>, count: u32) -> Result<Vec<u64>, WordFault>
     ensures { Finds (λ numbers. numbers.items) (numbers_at count) words.old words.new result }
 {

@@ -11,7 +11,7 @@ pub(crate) enum CommandKind {
 }
 
 impl CommandKind {
-    /// The type that a command's second byte stands for.
+    /// The type that a command's second byte represents.
     pub(crate) fn of(byte: u8) -> Option<CommandKind>
         ensures { result ≡ command_kind byte }
     {

@@ -11,14 +11,14 @@ ghost use Rattle.log_commands.specs.InRange.{AreInRange};
 ghost use Rattle.log_commands.specs.Spelling.{Writes};
 ghost use Rattle.log_commands.specs.Reading.{command_of};
 
-/// A command is read exactly where the bytes stand for it: what is read is spelled so, and what is spelled so is read.
+/// A command is read exactly if the bytes represent it: what is read is encoded so, and what is encoded so is read.
 pub fn commands_read_back()
     ensures spelled { (command : Command) (bytes : List ℕ) → AreBytes bytes → command_of bytes ≡ Ok command → Writes command bytes }
     ensures read { (command : Command) (bytes : List ℕ) → Writes command bytes → command_of bytes ≡ Ok command }
 {}
 
-/// Commands stand apart: where two stand at the front of the same bytes, they are one and the same bytes follow. So no
-/// spelling of a command is a proper front of another's.
+/// Commands are prefix-free: if two are at the front of the same bytes, they are one and the same bytes follow. So no
+/// encoding of a command is a proper front of another's.
 pub fn commands_stand_apart()
     ensures same { (command other : Command) (bytes other_bytes rest other_rest : List ℕ) → Writes command bytes → Writes other other_bytes →
         bytes ++ rest ≡ other_bytes ++ other_rest → (command ≡ other) × (rest ≡ other_rest) }
@@ -27,7 +27,7 @@ pub fn commands_stand_apart()
 {}
 
 /// The test of a command's numbers says what their range is: only a Frames command has numbers that could be out of it,
-/// and they are in range exactly where it has 1 to 64 pages that end the transaction or after which it goes on. No page of a command that passes has a
+/// and they are in range exactly if it has 1 to 64 pages that end the transaction or after which it continues. No page of a command that passes has a
 /// number above 4,294,967,295.
 pub fn numbers_are_in_range()
     ensures open_db { (name : List ℕ) → numbers_fit (OpenDb name) ≡ true }
@@ -40,7 +40,7 @@ pub fn numbers_are_in_range()
     ensures low { (command : Command) → numbers_fit command ≡ true → HasLowNumbers command }
 {}
 
-/// A set that can be applied may be split, where none of its numbers is above 4,294,967,295.
+/// A set that can be applied may be split, if none of its numbers is above 4,294,967,295.
 pub fn sets_that_apply_can_be_split()
     ensures { (pages : List NumberedPage) → page_fault pages ≡ None → All (λ p. p.number ≤ 4294967295) pages → can_split pages ≡ true }
 {}

@@ -17,7 +17,7 @@ use wire_words::{WordFault, Words};
 /// How many bytes the head of a command has.
 const HEAD: usize = 8;
 
-/// The type of the command that begins so. A first byte that isn't 1 is `Format`, and a second that stands for no type
+/// The type of the command that begins so. A first byte that isn't 1 is `Format`, and a second that represents no type
 /// `Kind`.
 fn kind(bytes: &[u8]) -> Result<CommandKind, CommandFault>
     ensures { result ≡ kind_of bytes.now }
@@ -93,7 +93,7 @@ fn open_db(alloc: Global, left: &[u8], words: &mut Words<'_>) -> Result<Command,
     Ok(Command::OpenDb { name })
 }
 
-/// The same of a Checkpoint command.
+/// What follows the head of a Checkpoint command: the reader has these bytes left.
 #[tactic(auto, unfolding(crate::specs::Reading::named_at))]
 fn checkpoint(alloc: Global, left: &[u8], words: &mut Words<'_>) -> Result<Command, CommandFault>
     requires { words.old.bytes ≡ left.now }
@@ -146,14 +146,14 @@ fn whole_command(alloc: Global, bytes: &[u8]) -> Result<Command, CommandFault>
 }
 
 /// Reads a command, which has to be all of the bytes. The first fault comes: `Format` where the first byte isn't 1,
-/// `Kind` where the second stands for no type, `Word` at the first item that isn't there, isn't filled up with zeros, or
+/// `Kind` where the second represents no type, `Word` at the first item that isn't there, isn't filled up with zeros, or
 /// is a name without a NUL or not in UTF-8, then `PageSize`, `Number` and `Tail`. A name that isn't 1 to 255 bytes is
 /// `Word(Short(at))`, whatever bytes it has; no bytes, or a 1 alone, are `Word(Short(0))`. `NoMemory` means out of
 /// memory, which no fault of the first eight bytes waits for. Each page is copied once, into the command.
 pub fn read_command(alloc: Global, bytes: &[u8]) -> Result<Command, CommandFault>
-    // What is read is what the bytes stand for.
+    // What is read is what the bytes represent.
     ensures found { IfOk result (λ command. Writes command bytes.now) }
-    // What the bytes stand for is read, unless memory runs out.
+    // What the bytes represent is read, unless memory runs out.
     ensures only { (command : Command) → Writes command bytes.now → Gives (Ok command) result }
     // Which fault it is.
     ensures exact { Gives (command_of bytes.now) result }

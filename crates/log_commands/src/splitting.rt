@@ -63,7 +63,7 @@ fn is_sizes(page: &NumberedPage) -> bool
     stated_count(page).is_some()
 }
 
-/// The same of pages that belong to no set.
+/// Works on the pages alone, which belong to no set.
 fn pages_can_split(pages: &[NumberedPage]) -> bool
     ensures { result ≡ can_split pages.now }
 {
@@ -86,7 +86,7 @@ pub fn split(alloc: Global, name: &str, set: &PageSet) -> Result<Vec<Command>, A
     split_pages(alloc, name, set.tx, set.pages.as_slice())
 }
 
-/// The same of pages that belong to no set.
+/// Works on the pages alone, which belong to no set.
 fn split_pages(
     alloc: Global,
     name: &str,

@@ -11,13 +11,13 @@ use wire_words::{WireBytes, Writer};
 /// The format and the type of an OpenDb command, which zeros fill up to a word.
 const OPEN_DB: [u8; 2] = [1, 1];
 
-/// The same of a Frames command.
+/// The format and the type of a Frames command, which zeros fill up to a word.
 const FRAMES: [u8; 2] = [1, 2];
 
-/// The same of an Undo command.
+/// The format and the type of an Undo command, which zeros fill up to a word.
 const UNDO: [u8; 2] = [1, 3];
 
-/// The same of a Checkpoint command.
+/// The format and the type of a Checkpoint command, which zeros fill up to a word.
 const CHECKPOINT: [u8; 2] = [1, 4];
 
 fn put_name(out: &mut Writer, name: &Name) -> Result<(), AllocError>
@@ -120,7 +120,7 @@ fn put_command(out: &mut Writer, command: &Command) -> Result<(), AllocError>
 /// Writes a command, of which no number is out of its range: `Command::numbers_fit` tells. Fails where memory runs out.
 pub fn write_command(alloc: Global, command: &Command) -> Result<WireBytes, AllocError>
     requires { numbers_fit command.now ≡ true }
-    // What is written stands for the command.
+    // What is written represents the command.
     ensures writes { IfOk result (Writes command.now) }
     // Which bytes they are.
     ensures bytes { IfOk result (λ bytes. bytes ≡ command_bytes command.now) }

@@ -8,7 +8,7 @@ use std::test::Fail;
 use wal_frames::{Frame, WalFault, write_wal};
 use wire_words::{WordFault, Writer};
 
-/// The snapshot of a machine with one empty database `d`: 4,192 bytes, of which the log begins at byte 32 and the flag at
+/// The snapshot of a state machine with one empty database `d`: 4,192 bytes, of which the log begins at byte 32 and the flag at
 /// byte 4184.
 fn one_database(alloc: Global) -> Result<Vec<u8>, AllocError> {
     let mut machine = Machine::new(alloc);
@@ -22,7 +22,7 @@ fn fault(alloc: Global, bytes: &[u8]) -> Option<SnapFault> {
     Machine::from_snapshot(alloc, bytes).err()
 }
 
-/// The fault where another byte stands at a place, which is put back then.
+/// The fault if another byte is at a place, which is put back then.
 fn fault_with(alloc: Global, bytes: &mut [u8], place: usize, other: u8) -> Option<SnapFault> {
     let Some(byte) = bytes.get(place).copied() else {
         return None;

@@ -1,5 +1,5 @@
-//! The tests of the machine and of its snapshots, which call `database_state` from outside. A crate with tests of its own is
-//! proved once more with them, so these stand here.
+//! The tests of the state machine and of its snapshots, which call `database_state` from outside. A crate with its own tests is
+//! proved once more with them, so these are here.
 #![tactic(auto)]
 
 #[cfg(test)]

@@ -1,4 +1,4 @@
-//! What commands make of a machine: a set that is split, and pins.
+//! What commands make of a state machine: a set that is split, and pins.
 
 ghost use Rattle.dq_base.specs.Names.{IsName};
 
@@ -39,7 +39,7 @@ fn set_of_65(alloc: Global) -> Result<PageSet, AllocError> {
     })
 }
 
-// What a machine says of the database `d`: the transaction that is pending, the commits, the pages of the newest image, and
+// What a state machine says of the database `d`: the transaction that is pending, the commits, the pages of the newest image, and
 // those since the last checkpoint.
 type State = (Option<u64>, Option<u64>, Option<u64>, Option<u64>);
 
@@ -66,7 +66,7 @@ fn states(
     Ok(states)
 }
 
-// The same where the set of 65 pages is split: after its first command, an Undo of another transaction, one of its own, the
+// The states where the set of 65 pages is split: after its first command, an Undo of another transaction, one of its own, the
 // first command again, and the second.
 pub(crate) fn states_of_a_split_set(
     alloc: Global,
@@ -108,7 +108,7 @@ fn a_split_set_shows_when_it_is_whole(rt: HostRuntime) -> Result<(), Fail> {
     Ok(())
 }
 
-// Pins the database `d` so many times, and answers the last fault.
+// Pins the database `d` this many times, and answers the last fault.
 fn pins(machine: &mut Machine, count: u64) -> Option<PinFault> {
     let mut last = None;
     for _ in 0..count {
@@ -155,7 +155,7 @@ pub(crate) fn pending_in(alloc: Global, machine: &mut Machine, name: &str) -> Re
     Ok(())
 }
 
-/// How long the main file of the newest image is as a machine lends it.
+/// How long the main file of the newest image is as a state machine lends it.
 fn lent_length(machine: &Machine, name: &str) -> Result<Option<usize>, AllocError> {
     Ok(
         machine

@@ -1,11 +1,11 @@
-//! A machine with two databases, one of them with pending pages, as a snapshot and back.
+//! A state machine with two databases, one of them with pending pages, as a snapshot and back.
 
 use crate::machines::{pending_in, pinned_byte, states_of_a_split_set};
 use database_state::{Machine, SnapFault};
 use std::alloc::{AllocError, Global};
 use std::test::Fail;
 
-/// What a machine says of a database: its commits, the pages of its newest image, the transaction that is pending, and the
+/// What a state machine says of a database: its commits, the pages of its newest image, the transaction that is pending, and the
 /// pages since the last checkpoint.
 type Told = (Option<u64>, Option<u64>, Option<u64>, Option<u64>);
 
@@ -18,7 +18,7 @@ fn told(machine: &Machine, name: &str) -> Told {
     )
 }
 
-/// A machine whose database `d` has 65 pages, and whose database `a` has none, but 64 pending ones of transaction 7.
+/// A state machine whose database `d` has 65 pages, and whose database `a` has none, but 64 pending ones of transaction 7.
 fn two_databases(alloc: Global) -> Result<Machine, AllocError> {
     let mut machine = Machine::new(alloc);
     let _ = states_of_a_split_set(alloc, &mut machine)?;
@@ -31,7 +31,7 @@ fn again(alloc: Global, machine: &Machine) -> Result<Machine, SnapFault> {
     Machine::from_snapshot(alloc, bytes.as_slice())
 }
 
-/// Whether a machine's snapshot behind two bytes is these and its snapshot.
+/// Whether a state machine's snapshot after two bytes is these and its snapshot.
 fn stands_behind(alloc: Global, machine: &Machine) -> Result<bool, AllocError> {
     let bytes = [1, 2];
     let mut out = Vec::from_slice(alloc, &bytes)?;
@@ -41,7 +41,7 @@ fn stands_behind(alloc: Global, machine: &Machine) -> Result<bool, AllocError> {
     Ok(front == Some(bytes.as_slice()) && back == Some(snapshot.as_slice()))
 }
 
-/// Whether two machines have one snapshot.
+/// Whether two state machines have one snapshot.
 fn are_alike(first: &Machine, second: &Machine) -> Result<bool, AllocError> {
     Ok(first.snapshot()?.as_slice() == second.snapshot()?.as_slice())
 }
@@ -69,7 +69,7 @@ fn a_snapshot_gives_the_machine_back(rt: HostRuntime) -> Result<(), Fail> {
     Ok(())
 }
 
-/// Whether a machine's databases have these names, in this order.
+/// Whether a state machine's databases have these names, in this order.
 fn are_named(machine: &Machine, wanted: &[&str]) -> Result<bool, AllocError> {
     let names = machine.names()?;
     Ok(

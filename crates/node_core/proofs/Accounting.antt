@@ -108,7 +108,7 @@ QuietTurns m kind setup bytes joins old new before now = TurnsIn m kind setup by
 abbrev pub SinceIn : Meaning → EngineKind → Setup → Brought → Bool → Running → Running → Option Told → Option Told → List raft.Input → Type 0
 SinceIn m kind setup x late old new before now inputs = (s : Since m kind setup x late old new before now) × (s.piece.inputs ≡ inputs)
 
--- a turn, and one more that leaves term and leadership, where the kept snapshot stayed in the first
+-- a turn, and one more that leaves term and leadership, if the kept snapshot stayed in the first
 unfoldable pub turns_both : {before mid now : Option Told} (m : Meaning) (kind : EngineKind) (setup : Setup) (bytes : List ℕ) (joins : Option ℕ)
     (a b c : Running) → Turns m kind setup bytes joins a b before mid → Turns m kind setup bytes joins b c mid now →
     SameTerm (moment_of b) (moment_of c) → (kept_of a.replica).snap ≡ (kept_of b.replica).snap → Turns m kind setup bytes joins a c before now
@@ -251,7 +251,7 @@ made_assoc x y z = λ i. record {
 made_nil : (x : Made) → made_both x none_made ≡ x
 made_nil x = λ i. record { letters = append-nil x.letters i; replies = append-nil x.replies i; jobs = append-nil x.jobs i; answers = append-nil x.answers i }
 
--- an act more behind those that there are, where only what the rules don't see has changed before it
+-- an act more after those that there are, if only what the rules don't see has changed before it
 acts_end : (m : Meaning) (kind : EngineKind) (setup : Setup) (a b c d : Running) (begins : List Begin) (begin : Begin) (xs ys : Made) →
     Acts m kind setup a b begins xs → seen c ≡ seen b → Act m kind setup c d begin ys → Acts m kind setup a d (begins ++ begin ∷ []) (made_both xs ys)
 acts_end m kind setup a b c d [] begin xs ys all same act = (c, d, ys, none_made, same ∙ all.0, act, (refl, refl), ap (λ z. made_both z ys) all.1 ∙ sym (made_nil ys))
@@ -329,7 +329,7 @@ went_asks : (before mid now : Option Told) (m : Meaning) (kind : EngineKind) (se
 unfolding went_on
 went_asks before mid now m kind setup a b c d begins begin ys w between act says heard conn = acts_asks_end m kind setup a b c d begins begin w.made ys w.acts between.same act conn
 
--- what is said at the end is what was said since the begin, where nothing had been
+-- what is said at the end is what was said since the begin, if nothing had been
 pub went_steps : {before now : Option Told} (m : Meaning) (kind : EngineKind) (setup : Setup) (a b c : Running) (begins : List Begin) (event : Event) (outs : StepOutputs) → a.mail ≡ no_mail → a.outs.replies.items ≡ [] → a.outs.reads.items ≡ [] → AreOf event begins →
     (w : Went m kind setup a b begins before now) → seen c ≡ seen b → outs.messages.items ≡ sent b.mail → outs.replies.items ≡ b.outs.replies.items → outs.reads.items ≡ b.outs.reads.items → c.has_links ≡ a.has_links → AreAlone a begins → ConnectionsOfStep event a c outs (messages_of begins)
     → Brings a (Happens event) (acts_asks m kind setup a b begins w.made w.acts) → AccountsForStep m kind setup a c event outs before now
@@ -350,7 +350,7 @@ went_steps m kind setup a b c begins event outs quiet silent unread are w same m
   heard = w.heard;
 }
 
--- what the last act left, behind those before it
+-- what the last act left, after those before it
 pub went_stops : {before now : Option Told} (m : Meaning) (kind : EngineKind) (setup : Setup) (a b c : Running) (begins : List Begin) (last : Begin) (event : Event) (kept : Kept) → AreOf event (begins ++ last ∷ []) → Went m kind setup a b begins before now → Between b c → Stopped m kind setup c last kept → AreAlone a (begins ++ last ∷ []) → ConnectionsOfStop event a (messages_of (begins ++ last ∷ [])) → AccountsForStop m kind setup a event kept
 went_stops m kind setup a b c begins last event kept are w between stopped alone lines = record {
   alone = alone;
@@ -366,7 +366,7 @@ went_stops m kind setup a b c begins last event kept are w between stopped alone
 
 -- ---- a stop before anything was done
 
--- what is asked waits behind what waits, and nothing else
+-- what is asked waits after what waits, and nothing else
 asked_by : Moment → (ℕ → List Request) → Moment
 asked_by a asks = record a { node = record a.node { waiting = λ conn. a.node.waiting conn ++ asks conn } }
 

@@ -64,7 +64,7 @@ applies_so old mid new going more stood t same entered serving settled landed sa
       };
     }
 
--- the entry behind the applied ones, as it is found by its index
+-- the entry after the applied ones, as it is found by its index
 pub entry_read : (entries : List Entry) (index applied base : ℕ) (e : Entry) → index ≡ suc applied → base ≤ applied → index - base - 1 < length entries → e ≡ slice_index_or entries (index - base - 1) e
     → slice_get entries (applied - base) ≡ Some e
 entry_read entries index applied base e is low within found =

@@ -1,4 +1,4 @@
--- What a node is told of its voters in parts of a step: they join, and are what an act tells, or one that was stopped.
+-- What a node learns of its voters in parts of a step: they join, and are what an act tells, or one that was stopped.
 use Rattle.std.proofs.Common.{◌≡◌, ℕ, List, [], ◌∷◌, ◌++◌, refl, sym, ap, subst, ◌∙◌, arith}
 use Rattle.std.specs.Prelude.{Option}
 use Rattle.session_spec.specs.Sessions.{Reply}
@@ -51,7 +51,7 @@ module _ (setup : Setup) (bytes : List ℕ) where
     links = y.links ∙ x.links;
   }
 
-  -- where only what the rules don't see changes behind it, or before it
+  -- if only what the rules don't see changes after it, or before it
   pub beside_then : (a b c : Running) (is : List raft.Input) → Beside setup a b bytes is → Fresh b c → Beside setup a c bytes is
   beside_then a b c is x f = record {
     voters = subst (λ (z : Moment). Tells setup a.replica.id bytes (seen a) z.node is) (sym f.moment) x.voters;
@@ -77,7 +77,7 @@ module _ (setup : Setup) (bytes : List ℕ) where
   tells_stop a b joins read p xs ys id x may is =
       tells_to_stop setup a.replica.id (seen a) (seen b) (read_by bytes joins read p) xs ys x.voters (subst (λ me. MayTell setup me bytes (seen b) ys) id may) is
 
-  -- by what stood before it
+  -- by what was before it
   pub tells_begun : (a : Running) (joins : Option ℕ) (read : Option (ℕ × Reply)) (p : Piece) → MayBe setup a bytes p.inputs → TellsVoters setup a.replica.id (seen a) (read_by bytes joins read p)
   tells_begun a joins read p may = tells_stop a a joins read p [] p.inputs refl (beside_none a) may refl
 
@@ -100,7 +100,7 @@ module _ (opening : List Server) (bytes : List ℕ) (a : Running) where
   pub may_plain_told : (i : raft.Input) (servers : List Server) → IsPlain i → MayBe (read_setup opening) a bytes (i ∷ raft.Local (raft.UseServers servers) ∷ [])
   may_plain_told i servers plain = (plain_stops opening a.replica.id bytes (seen a) i servers plain).1
 
-  -- an event from outside, and behind it
+  -- an event from outside, and after it
   pub may_outside : (event : RaftEvent) → IsOutside event → MayBe (read_setup opening) a bytes (input_of event ∷ [])
   may_outside event o = may_plain (input_of event) (outside_plain event o)
 

@@ -1,4 +1,4 @@
--- What the calls of clients tell is what their turns are as stretches of an event.
+-- What the calls of clients answer is what their turns are as stretches of an event.
 use Rattle.std.proofs.Common.{◌≡◌, ◌≢◌, ◌⊎◌, inl, inr, ⊎_elim, ℕ, Bool, true, false, true≢false, List, [], ◌∷◌, ◌++◌, length, take, refl, sym, ap, ◌∙◌, subst, append-nil, append_assoc}
 use Rattle.std.specs.Prelude.{map, cond, not, is_none, ◌&&◌, ◌==◌, nat_lt, Option, Some, None, Result, Ok, Err}
 use Rattle.std.specs.List.{flat_map}
@@ -47,7 +47,7 @@ use Rattle.node_core.specs.Values.{request_in, requests_in, waiting_on}
 
 -- ---- what replies are as they are sent
 
--- a reply, in the responses that it is told in
+-- a reply, in the responses that it is sent in
 abbrev told_in : ℕ × Reply → List (ℕ × Response)
 told_in r = map (λ (response : Response). (r.0, response)) (responses_of r.1)
 
@@ -236,7 +236,7 @@ pub requests_append : (xs ys : List Message) → requests_in (xs ++ ys) ≡ requ
 requests_append [] ys = refl
 requests_append (x ∷ xs) ys = ap (λ l. request_in (request_of x) ++ l) (requests_append xs ys) ∙ sym (append_assoc (request_in (request_of x)) (requests_in xs) (requests_in ys))
 
--- what comes on a stream stands behind what waits
+-- what comes on a stream follows what waits
 received_waits : (c : Conn) (bytes : List ℕ) → (more : List Message) × ((received c bytes).waiting ≡ c.waiting ++ more)
 received_waits c bytes = by c.full
   where
@@ -244,7 +244,7 @@ received_waits c bytes = by c.full
     by true = ([], sym (append-nil c.waiting))
     by false = ((going_on client_limit c.end (take (room c) bytes)).messages, refl)
 
--- what bytes ask on a stream, behind what waits there
+-- what bytes ask on a stream, after what waits there
 pub asked_more : (o : Option Conn) (bytes : List ℕ) → (asks : List Request) × (waiting_on o ++ asks ≡ bytes_asked o bytes)
 asked_more None bytes = ([], refl)
 asked_more (Some stream) bytes = let more = received_waits stream bytes in (requests_in more.0, sym (ap requests_in more.1 ∙ requests_append stream.waiting more.0))
@@ -258,7 +258,7 @@ module _ (a b : Moment) (k l : Clients) (sa : Shows a k) (sb : Shows b l) (rest 
     rest = rest;
   }
 
-  -- a reader told a reply
+  -- a reader answered a reply
   pub finished_reads : (conn : ℕ) (statement : Statement) (reply : Reply) (act : Option Act) → ((other : ℕ) → l.streams other ≡ k.streams other) → lent_query (k.sessions.session conn).later ≡ Some statement → Finishes k.sessions conn (Some statement) (Some reply) l.sessions act →
       Reads a b conn × ((given : Act) → act ≡ Some given → (messages_by given ≡ as_sent ((conn, reply) ∷ [])) × (jobs_by given ≡ []))
   finished_reads conn statement reply act streams lent x = (
@@ -328,7 +328,7 @@ module _ (a b : Moment) (k l : Clients) (sa : Shows a k) (sb : Shows b l) (rest 
             rest = rest;
           }
 
-  -- bytes came, with so many more messages
+  -- bytes came, with this many more messages
   pub heard_hears : (conn : ℕ) (bytes : List ℕ) → l ≡ heard k conn bytes → (asks : ℕ → List Request) × Hears a b asks × ((other : ℕ) → other ≢ conn → asks other ≡ []) × ((stream : Conn) → k.streams conn ≡ Some stream → requests_in stream.waiting ++ asks conn ≡ requests_in (received stream bytes).waiting) × (k.streams conn ≡ None → asks conn ≡ [])
   unfolding heard
   heard_hears conn bytes e = by (k.streams conn) refl e

@@ -63,7 +63,7 @@ hears_so old new conn bytes s is =
     let h = heard_hears (moment_of old) (moment_of new) (clients_in old) (clients_in new) (shows_itself old) (shows_itself new) (keeps old new s) s.due conn bytes is in
     (h.0, h.1, asked_by old conn bytes h.0 ((clients_in old).streams conn) refl h.2 h.3 h.4)
 
--- bytes on one that is none of a client
+-- bytes on one that isn't a client's
 not_open : (o : Option Conn) (is_open : Bool) → is_open ≡ not (is_none o) → is_open ≡ false → o ≡ None
 not_open None is_open e f = refl
 not_open (Some c) is_open e f = absurd (cc (e, f))

@@ -271,7 +271,7 @@ module _ (m : Meaning) (kind : EngineKind) (on : GoesOn m kind) (staying : Stayi
       (subst (λ (x : Option Act). ResumesBy (call_of m kind before now) (scene old.view (machine_of old.applied.machine) (clients_in old).sessions conn) (later_query ((clients_in old).sessions.session conn).later) refused refused_now (clients_in new).sessions x) e r)
       (subst (λ (x : Option Act). clients_in new ≡ freed (clients_in old) (clients_in new).sessions (turn_for conn x)) e rest)
 
--- ---- what a reader tells
+-- ---- what a reader answers
 
 module _ (old mid new : Running) (conn : ℕ) (is : mid ≡ record old { clients = mid.clients }) (machine : IsMachine old.applied.machine) where
   mid_turn : KeepsRaft (moment_of old) (moment_of mid)
@@ -288,7 +288,7 @@ module _ (old mid new : Running) (conn : ℕ) (is : mid ≡ record old { clients
   none_told (Some statement) None act f none = f.0
   none_told (Some statement) (Some reply) act f none = let same = sym f.1 ∙ none in absurd cc
 
-  -- nothing was told
+  -- nothing was reported
   pub reads_nothing : (told : Option Reply) (act : Option Act) → Finishes (clients_in old).sessions conn (lent_query ((clients_in old).sessions.session conn).later) told (clients_in mid).sessions act
       → clients_in mid ≡ freed (clients_in old) (clients_in mid).sessions (turn_for conn act) → act ≡ None → DeliversRead old mid conn told
   reads_nothing told act f rest none =

@@ -30,7 +30,7 @@ use Rattle.node_core.proofs.Accounting.{sends_none}
 use Rattle.node_core.proofs.Posting.{posts_so, posts_on}
 use Rattle.node_core.proofs.SnapshotOffice.{snapped_office}
 
--- it is past the last one, where it is due
+-- it is past the last one, if it is due
 pub is_past : (last : LogEnd) (applied : ℕ) (b : Bool) → b ≡ is_due last applied → b ≡ true → last.index < applied
 is_past last applied b e t = let h : last.index + 64 ≤ applied = leb-true _ _ (sym e ∙ t) in omega (arith, h)
 

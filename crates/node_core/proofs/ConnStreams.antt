@@ -84,7 +84,7 @@ conns_both a b c x y = record {
   closes = λ u. let one = x.closes u in let two = y.closes one.0 in (two.0, two.1 ∙ one.1);
 }
 
--- a node that starts without links is unlinked
+-- a node that starts without peer connections is unlinked
 pub starts_unlinked : (links : Bool) (n : Running) → HasNoPeers links n → HasNoPeers links n × (links ≡ false → IsUnlinked n)
 starts_unlinked links n p = (p, λ none. record { links = p.links; view = p.view ∙ none })
 
@@ -171,14 +171,14 @@ comes_begins old new conn how sound free_link told is closed heard links view ha
       );
     }
 
--- a node without links has no connection that carries a peer's messages
+-- a node without peer connections has no connection that carries a peer's messages
 no_link : (conn : ℕ) (link : Link) (links : List Link) → links ≡ [] → link_on conn links ≡ Some link → ⊥
 no_link conn link links none is = never (sym (ap (link_on conn) none) ∙ is)
   where
     never : None ≡ Some link → ⊥
     never e = cc
 
--- where it carries a peer's messages already nothing happens; a node without links has no such connection
+-- if it carries a peer's messages already nothing happens; a node without peer connections has no connection that does
 pub carried_begins : (old : Running) (conn : ℕ) (link : Link) → link_on conn old.links.all.items ≡ Some link → ConnsBegin (events.Connect conn) old old
 carried_begins old conn link is = record {
   lines = carried_lines old conn link is;
@@ -309,7 +309,7 @@ closed_conn old new conn reason none is told outs links view has_links heard =
       closes = λ u. (record { links = ap (λ l. l.all.items) links ∙ u.links; view = ap (λ v. v.links) view ∙ u.view }, told);
     }
 
--- one that carries a peer's messages, which a node without links has none of: it stays where there is no reason
+-- one that carries a peer's messages, which a node without peer connections has none of: it stays where there is no reason
 pub link_kept_conn : (old : Running) (conn : ℕ) (link : Link) (reason : Option CloseReason) → link_on conn old.links.all.items ≡ Some link
     → reason ≡ reason_at (link_on conn old.links.all.items) ((clients_in old).streams conn) → reason ≡ None → ClosesConn old old conn reason
 link_kept_conn old conn link reason is why none = record {
@@ -378,7 +378,7 @@ takes_on old new offer first is outs heard links view =
       );
     }
 
--- What came of it was done: a connection leaves the clients for a peer's messages only where the node has links.
+-- What came of it was done: a connection leaves the clients for a peer's messages only if the node has peer connections.
 pub behind_on : (P : ℕ → ℕ → Type 0) (act : Act) (old new : Running) → IfPeer P act → ((conn id : ℕ) → P conn id → old.view.links ≡ true) → StreamsAfterMessage act old new → StreamsClose old new
 behind_on P (acts.Reply conn messages) old new p links x = kept_on old new x
 behind_on P (acts.Propose conn entries) old new p links x = kept_on old new x
@@ -480,7 +480,7 @@ pub none_later : (old mid : Running) (conn : ℕ) (given : Option Act) → clien
     → mid.outs ≡ old.outs → mid.heard ≡ old.heard → mid.links ≡ old.links → mid.view ≡ old.view → mid.has_links ≡ old.has_links → KeepsConns old mid
 none_later old mid conn given rest outs heard links view has_links = freed_kept old mid (clients_in mid).sessions (turn_for conn given) rest outs heard links view has_links
 
--- what a reader tells is a reply
+-- what a reader answers is a reply
 reads_reply : (g : Gateway) (conn : ℕ) (o : Option Statement) (r : Option Reply) (now : Gateway) (given : Option Act) (act : Act) → Finishes g conn o r now given → given ≡ Some act → IsNoPeer act
 reads_reply g conn None r now given act x is = absurd (cc (x.1, is))
 reads_reply g conn (Some statement) None now given act x is = absurd (cc (x.1, is))
@@ -514,7 +514,7 @@ lent_kept old mid lent readers is = record {
 some_letter : {T : Type 0} (x : T) → None ≡ Some x → ⊥
 some_letter x e = cc
 
--- a node without links has none
+-- a node without peer connections has none
 pub letter_on : {T : Type 0} (given : Option T) (letter : T) (old new : Running) → (old.links.all.items ≡ [] → given ≡ None) → given ≡ Some letter
     → (clients_in new).streams ≡ (clients_in old).streams → StreamsClose old new
 letter_on given letter old new none is streams = record {

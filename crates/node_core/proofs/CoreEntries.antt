@@ -63,11 +63,11 @@ pub made_by_entry : {E : Type 0} (r : Result AppliedEffect E) (old new : Applied
 made_by_entry (Ok effect) old new entry stand is = ap (λ (a : Applied). machine_of a.machine) is ∙ entry_made old.machine (entry_seen entry).content stand
 made_by_entry (Err fault) old new entry stand is = tt
 
--- what is held is the log behind the cut
+-- what is held is the log after the cut
 held_is : (h : NodeValue) → drop h.base (node_of h).log ≡ h.entries
 held_is h = drop_at (compacted h.snapshot h.base) h.entries h.base (length-replicate h.base _)
 
--- the entry behind the applied ones, as the next index finds it
+-- the entry after the applied ones, as the next index finds it
 pub next_found : (h : NodeValue) (applied index : ℕ) (e : Entry) → index ≡ suc applied → (h.base < index) × (index ≤ length (node_of h).log) → e ≡ slice_index_or h.entries (index - h.base - 1) e
     → slice_get h.entries (applied - h.base) ≡ Some e
 next_found h applied index e is held found =
@@ -141,7 +141,7 @@ takes_servers old mid new entry effect is told one applied files same members re
       by = seen ∙ ap showing_servers (entered_core old mid entry applied files same members rest) ∙ sym (configured content (sym told ∙ one) (entered content (core_of old)));
     }
 
--- whoever waited for it is told
+-- whoever waited for it is informed
 pub landed_core : (old new : Running) → clients_in new ≡ landed_at old.applied.index (clients_in old) → new.outs.replies.items ≡ old.outs.replies.items ++ told_at old.applied.index (clients_in old) → new.outs.closed.items ≡ old.outs.closed.items
     → machine_of new.applied.machine ≡ machine_of old.applied.machine → new ≡ record old { clients = new.clients; applied = record old.applied { machine = new.applied.machine }; outs = new.outs } → core_of new ≡ landing (core_of old)
 unfolding core_of
@@ -260,7 +260,7 @@ serving_view n = refl
 serves_if : (may serving ready : Bool) (w : Core) → w.view.serving ≡ serving → is_settled w ≡ ready → serving_from may w ≡ cond (may && not serving && ready) (record w { view = record w.view { serving = true } }) w
 serves_if may serving ready w is so = λ i. cond (may && not (is i) && so i) (record w { view = record w.view { serving = true } }) w
 
--- it may not, or it does so already, or it is not settled
+-- it must not, or it does so already, or it is not settled
 pub serves_not : (n : Running) (may : Bool) → may ≡ false → core_of n ≡ serving_from may (core_of n)
 serves_not n may off = sym (ap (λ (b : Bool). serving_from b (core_of n)) off)
 
@@ -297,7 +297,7 @@ pub duty_none : (n : Running) (effect : AppliedEffect) → n.office ≡ None →
 unfolding core_of
 duty_none n effect none = sym (idle_duty n.office effect (core_of n) none)
 
--- in its office, behind an entry
+-- in its leadership, after an entry
 office_core : (old mid : Running) (office : Leadership) → mid ≡ record old { office = Some office } → core_of mid ≡ record (core_of old) { office = Some office }
 unfolding core_of
 office_core old mid office set = ap core_of set
@@ -342,7 +342,7 @@ module _ (old mid new : Running) (office : Leadership) (effect : AppliedEffect) 
       ∙ sym (something_owed later owes (record (core_of old) { office = Some later }) (sym (ap (λ (es : List Entry). length es == 0) are) ∙ some))
       ∙ sym (owes_core old office effect rest is tail)
 
--- the entries behind the applied ones, as they are found by the next index
+-- the entries after the applied ones, as they are found by the next index
 pub tail_is : (rest log : List Entry) (index next : ℕ) → rest ≡ drop (next - 1) log → next ≡ suc index → rest ≡ drop index log
 tail_is rest log index next is at = let n : next - 1 ≡ index = omega (arith, at) in subst (λ (k : ℕ). rest ≡ drop k log) n is
 

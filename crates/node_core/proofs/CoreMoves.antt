@@ -57,7 +57,7 @@ pushed old outs more said stays = λ i. record (core_of old) { replies = said i;
 pub performed : (act other : Act) (w v : Core) → act ≡ other → ExactPerform other w v → ExactPerform act w v
 performed act other w v is done = subst (λ (a : Act). ExactPerform a w v) (sym is) done
 
--- a leadership is handed over behind the reply
+-- a leadership is handed over after the reply
 pub transferred : (old : Running) (outs : StepOutputs) (new : Running) (act : Act) (conn to : ℕ) (reply : List ℕ) → act ≡ acts.Transfer conn to reply
     → outs.replies.items ≡ old.outs.replies.items ++ (conn, reply) ∷ [] → outs.closed.items ≡ old.outs.closed.items
     → core_of new ≡ giving (due.Transfer to) (core_of (record old { outs = outs })) → ExactPerform act (core_of old) (core_of new)
@@ -67,7 +67,7 @@ transferred old outs new act conn to reply is said stays gives =
 -- ---- what comes of a request
 
 module _ (conn : ℕ) (v : View) (g now : Gateway) (decided : GatewayAct) (act : Act) (w x : Core) (gate : w.sessions ≡ plain_gate g) (term : w.view.term ≡ v.term) where
-  -- behind what was decided
+  -- after what was decided
   abbrev behind : Core
   behind = record w { sessions = plain_gate now }
 
@@ -118,7 +118,7 @@ told_none : (before now : Option Told) → now ≡ before → TellsAll [] before
 told_none before now same = subst (λ (t : Option Told). TellsAll [] before t) (sym same) (tells_none before)
 
 module _ (m : Meaning) (kind : EngineKind) (before now : Option Told) (refused refused_now : ℕ) (old mid new : Running) (act : Act) (done : ExactPerform act (core_of mid) (core_of new)) where
-  -- a message of a connection, which came to this
+  -- a message of a connection, which ended with this
   came_by : (offer : Offer) (r : Result Request MsgFault) → core_of mid ≡ record (taking offer (core_of old)) { sessions = plain_gate (clients_in mid).sessions }
       → Comes (call_of m kind before now) (scene old.view (machine_of old.applied.machine) (clients_in old).sessions offer.conn) r refused refused_now (clients_in mid).sessions act
       → Answered before now (ExactMessage m kind offer.conn r (taking offer (core_of old)) (core_of new))
@@ -268,7 +268,7 @@ due_core : (n : Running) → first_due (core_of n).sessions ≡ first_due (clien
 unfolding core_of
 due_core n = due_plain (clients_in n).sessions
 
--- the session of a connection has a query exactly where its plain one has
+-- the session of a connection has a query exactly if its plain one has
 later_core : (n : Running) (conn : ℕ) → ((core_of n).sessions.session conn).later ≡ ((clients_in n).sessions.session conn).later
 unfolding core_of
 later_core n conn = refl
@@ -331,7 +331,7 @@ pub comes_exact : (old new : Running) (conn : ℕ) (how : ConnectResult) → cli
 comes_exact old new conn how came told closed said same =
     came_core old new conn how (came ∙ ap (joined_as (clients_in old) conn) (sym told)) closed said same ∙ ap (λ (h : ConnectResult). joined_by h conn (core_of old)) (how_core old conn how told)
 
--- a node without links has no connection that carries a peer's messages
+-- a node without peer connections has no connection that carries a peer's messages
 links_core : (n : Running) → (core_of n).links ≡ [] → n.links.all.items ≡ []
 unfolding core_of
 links_core n e = e

@@ -1,4 +1,4 @@
--- What a leader does behind an entry, as a stretch of an act.
+-- What a leader does after an entry, as a stretch of an act.
 use Rattle.std.proofs.Common.{◌≡◌, ◌<◌, ◌≤◌, inl, inr, ⊎_elim, ℕ, ◌+◌, Bool, true, false, true≢false, cond, List, [], ◌∷◌, ◌++◌, length, take, get_or, Option, Some, None, refl, sym, ap, subst, ◌∙◌}
 use Rattle.std.specs.Prelude.{◌==◌, ◌||◌, bytes_eq, is_some}
 use Rattle.std.specs.List.{AllByRecursion}
@@ -110,13 +110,13 @@ checkpoints_plain serving m (effect.Committed name) waiting = cond_both _ (Does 
 checkpoints_plain serving m effect.Configured waiting = tt
 checkpoints_plain serving m effect.Other waiting = tt
 
--- what is owed has no pages, where a leader serves in its last phase only
+-- what is owed has no pages, if a leader serves in its last phase only
 owed_plain : (serving : Bool) (phase : LeadershipPhase) (index : ℕ) (m : Machine) (what : AppliedEffect) (waiting : List Line) → (serves phase ≡ false → serving ≡ false) → ArePlain serving (owed phase index m what waiting)
 owed_plain serving (Barrier barrier) index m what waiting last = cond_both (index == barrier) (undos m) [] (ArePlain serving) (λ e. undos_plain serving m (last refl)) (λ e. tt)
 owed_plain serving (Undos end) index m what waiting last = tt
 owed_plain serving Serving index m what waiting last = checkpoints_plain serving m what waiting
 
--- who serves in its office goes on
+-- who serves in its leadership continues
 serves_on : (phase : LeadershipPhase) (index : ℕ) (m : Machine) → serves (phase_after phase index m) ≡ false → serves phase ≡ false
 serves_on (Barrier barrier) index m e = refl
 serves_on (Undos end) index m e = refl
@@ -124,7 +124,7 @@ serves_on Serving index m e = absurd cc
 
 -- ---- duties
 
--- all but the office, the service and what is due stays
+-- all but the leadership, the service and what is due stays
 pub record KeepsMost (old new : Running) : Type 0 where
   pub replica : new.replica ≡ old.replica
   pub applied : new.applied ≡ old.applied

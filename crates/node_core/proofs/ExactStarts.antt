@@ -46,7 +46,7 @@ none_applies opening a is = record {
   machine = ap (λ (x : Applied). x.machine) is;
 }
 
--- where a snapshot was read
+-- if a snapshot was read
 pub restored_applies : (r : Result Applied StartFault) (opening : List Server) (s : Snapshot) → 0 < s.index → IfOk r (λ a. snapshot_in s.bytes ≡ Some (snapshot_value a)) → IfOk r (IsRestored s.index s.bytes)
     → IfOk r (AppliesExactly opening (snap_kept (Some s)))
 restored_applies (Err fault) opening s past reads is = tt

@@ -43,7 +43,7 @@ none_of : {T : Type 0} (o : Option T) (b : Bool) → b ≡ false → b ≡ is_so
 none_of None b e is = refl
 none_of (Some x) b e is = absurd (true≢false (sym is ∙ e))
 
--- ---- the links of a core
+-- ---- the peer connections of a core
 
 pub links_in : (n : Running) → (core_of n).links ≡ n.links.all.items
 unfolding core_of
@@ -120,7 +120,7 @@ no_offer m kind s t u w x v more n off is h =
       untold = untold_so h.answers t u by.1 h.told ∙ n.untold;
     }
 
--- behind that
+-- after that
 behind_offers : (m : Meaning) (kind : EngineKind) (s u : Option Told) (w y v : Core) (more : Bool) → NoOffer s u w y
     → (MayCompact y × ExactCompaction y v × (more ≡ true)) ⊎ ((MayCompact y → ⊥) × OnHeard y.heard y v more) → ExactAttend m kind w v more []
 behind_offers m kind s u w y v more n h =
@@ -141,11 +141,11 @@ compact_turn m kind s u w y v more n on h =
 pub uncompacted : (y v : Core) (more : Bool) → more ≡ false → ExactCompactionIfDue y v more → MayCompact y → ⊥
 uncompacted y v more off h = (subst (ExactCompactionIfDue y v) off h).0
 
--- where no connection carried a peer's messages before, none does then
+-- if no connection carried a peer's messages before, none does then
 pub still_unlinked : (s u : Option Told) (w : Core) (mid old : Running) → NoOffer s u w (core_of mid) → old ≡ mid → w.links ≡ [] → old.links.all.items ≡ []
 still_unlinked s u w mid old n same links = sym (links_in old) ∙ ap (λ (x : Running). (core_of x).links) same ∙ ap (λ (z : Core). z.links) n.is ∙ links
 
--- a message of a peer was taken, which is so only where there are links
+-- a message of a peer was taken, which is so only if there are peer connections
 pub letter_turn : (m : Meaning) (kind : EngineKind) (n : Meaning) (other : EngineKind) (setup : Setup) (old new : Running) (s t u : Option Told) (w v : Core) → t ≡ s
     → TookLetter n other setup old new t u → (w.links ≡ [] → ⊥) → Answered s u (ExactAttends m kind w v true)
 unfolding TellsAll
@@ -232,7 +232,7 @@ attend_turn (Ok more) m kind t u w x v n all h = record {
 
 -- ---- turns one after another
 
--- Turns have led here behind which something is left: whatever runs from here runs from there.
+-- Turns have led here after which something is left: whatever runs from here runs from there.
 pub record Ahead (m : Meaning) (kind : EngineKind) (told told_now : Option Told) (w now : Core) : Type 0 where
   pub answers : List Answer
   pub told_so : TellsAll answers told told_now
@@ -260,7 +260,7 @@ last_ahead M k l s t u w x y more kind left a h =
 
 -- ---- a step
 
--- how often something was kept decides nothing
+-- how many times something was kept decides nothing
 pub counted_core : (old : Running) (r : ReplicaValue) → r ≡ record old.replica { keeps = 0 } → core_of (record old { replica = r }) ≡ core_of old
 unfolding core_of
 counted_core old r e = ap (λ (z : ReplicaValue). core_of (record old { replica = z })) e

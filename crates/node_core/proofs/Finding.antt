@@ -63,7 +63,7 @@ step_finds setup old event tells states count total whole intake (told d at s) =
     (subst (λ me. FindsIn (StopsAt setup me (replicas.bytes_in (offered event)) (moment_of old) (input_of event)) (folder d)) whole.id (stopped_in setup old event count total (folder d) whole intake s)))
 step_finds setup old event tells states count total whole intake (untold e) = untold e
 
--- what is kept behind a step that was kept whole
+-- what is kept after a step that was kept whole
 pub made_left : (setup : Setup) (old : Running) (q : ReplicaValue) (event : RaftEvent) → IsWhole old.replica → IsIntake event → node_of q.raft ≡ stepped old.replica event → q.snap.bytes ≡ bytes_after old.replica event → StopsIn setup (bytes_with event) old (input_of event) (kept_of q)
 made_left setup old q event whole intake node bytes =
     subst (λ came. StopsAt setup old.replica.id came (moment_of old) (input_of event) (kept_of q)) (with_offer event)

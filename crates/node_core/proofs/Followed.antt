@@ -1,4 +1,4 @@
--- What a node is told of its voters in a turn of Raft's: the configurations follow its log, and Raft is told the current one.
+-- What a node learns of its voters in a turn of Raft's: the configurations follow its log, and Raft is given the current one.
 use Rattle.std.proofs.Common.{◌≡◌, ◌≢◌, ◌≤◌, ◌<◌, ◌⊎◌, inl, inr, ℕ, suc, Bool, true, false, List, [], ◌∷◌, ◌++◌, length, drop, refl, sym, ap, subst, ◌∙◌, arith}
 use Rattle.std.specs.Prelude.{Result, Ok, Err, OnOk, Option, Some, None, not, ◌&&◌, ◌==◌}
 use Rattle.std.proofs.lemmas.Bool.{cond_both}
@@ -41,7 +41,7 @@ ok_both (Err e) f p q = tt
 
 -- ---- the configurations follow the log
 
--- They follow the whole log, whatever it is, where they follow the entries that a node holds.
+-- They follow the whole log, whatever it is, if they follow the entries that a node holds.
 follow_log : (law : TwinsFollow) (old new : NodeValue) (m n : Configurations) (batch : Option ℕ) → IsCoherent old → new.base ≤ old.commit → HasMoved (node_of old) (node_of new) batch false → FollowsBy m n (node_of new).log batch →
     FollowLog old new m n
 follow_log law old new m n None co low moved by opening s t one two kept of =
@@ -71,7 +71,7 @@ follows_log law r q event batch installed m n v w node snap none moved by =
     let low : r.raft.snapshot.index ≤ r.raft.commit = v.coherent.applied in
     follow_log law r.raft q.raft m n batch v.coherent (omega (arith, i, base, low)) (moved_plain r q batch installed v same moved) by
 
--- ---- what Raft was told behind its step
+-- ---- what Raft was told after its step
 
 pub told_or : (old new : Running) → ToldServersAfter old new → MaybeToldServers (record old { members = new.members }) new
 told_or old new (same_members e) = untold (e ∙ ap (λ (c : Configurations). record old { members = c }) (sym (ap (λ (n : Running). n.members) e)))
@@ -130,7 +130,7 @@ leader_follows_not Leader e q = absurd cc
 leader_follows_not Candidate e q = absurd cc
 leader_follows_not Follower e q = absurd cc
 
--- a leadership that is handed over leaves the log, and what is cut off of it
+-- a leadership that is handed over leaves the log, and what is compacted of it
 KeepsLog : Node → Outcome → Type 0
 KeepsLog s d = (d.node.log ≡ s.log) × (d.node.snapshot ≡ s.snapshot) × (d.node.base ≡ s.base)
 
@@ -235,7 +235,7 @@ own_may opening came popped told event (change_told entry servers what may l) =
 
 -- ---- a snapshot that comes
 
--- the node follows behind it, so it was told the current servers
+-- the node follows after it, so it was given the current servers
 pub beside_installed : (opening : List raft.Server) (old step lost placed last : Running) (event : RaftEvent) (batch : Option ℕ) (a : Applied) → IsGoing old → (b : Brings old.replica event a) → HasStepped old step event batch →
     lost.replica ≡ step.replica → lost.has_links ≡ step.has_links → placed ≡ record lost { members = placed.members; applied = placed.applied } → FromSnapshot a.servers lost.replica.snap.index (node_of lost.replica.raft).log placed.members →
     StepsWithSnapshot (read_setup opening) old placed (account.bytes_in b.message.what) (message_value b.message) → step.replica.raft.role ≡ Follower → HasTold placed last → (x : TellsCurrentServers placed last) →

@@ -137,7 +137,7 @@ pub says_more : (old new : Running) → IsGoing old → new ≡ record old { out
 says_more old new g is = subst IsGoing (sym is) (still_going old (record old { outs = new.outs; links = new.links; lent = new.lent; heard = new.heard; mail = new.mail }) g
     (record { replica = refl; members = refl; index = refl; servers = refl; office = refl; serving = refl; seen = refl; term = refl; last = refl }) g.holds.due g.holds.clients g.holds.turns)
 
--- something is due behind what was due
+-- something is due after what was due
 pub more_due : (old new : Running) (e : RaftEvent) → IsGoing old → IsOwnDue e → new.due.items ≡ old.due.items ++ e ∷ [] → new ≡ record old { due = new.due } → IsGoing new
 more_due old new e g d is rest = subst IsGoing (sym rest) (still_going old (record old { due = new.due }) g
     (record { replica = refl; members = refl; index = refl; servers = refl; office = refl; serving = refl; seen = refl; term = refl; last = refl })

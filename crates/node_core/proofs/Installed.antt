@@ -55,9 +55,9 @@ use Rattle.node_core.proofs.RaftBridges.{brings_so}
 use Rattle.node_core.proofs.SnapshotMoves.{comes_to_none}
 use Rattle.node_core.proofs.Stepped.{fresh_view}
 
--- ---- the office
+-- ---- the leadership
 
--- sessions and replies behind Raft's step
+-- sessions and replies after Raft's step
 ways : (old step : Running) (replies : List (ℕ × Reply)) → LeadershipFollows (moment_of old) (moment_of step) replies →
     (((clients_in step).sessions ≡ (clients_in old).sessions) × (replies ≡ [])) ⊎ (((clients_in step).sessions ≡ on_lost (clients_in old).sessions) × (replies ≡ told_lost (clients_in old).sessions))
 ways old step replies (in_office a b t s v r) = inl (s, r)

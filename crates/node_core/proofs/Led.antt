@@ -1,4 +1,4 @@
--- What holds of the office between two turns, turn by turn.
+-- What holds of the leadership between two turns, turn by turn.
 use Rattle.std.proofs.Common.{◌≡◌, inl, inr, ⊎_elim, ℕ, Bool, true, false, true≢false, List, [], ◌++◌, Option, Some, None, Result, Ok, Err, refl, sym, ap, subst, ◌∙◌}
 use Rattle.std.specs.Prelude.{◌&&◌, not, is_none}
 use Rattle.std.proofs.lemmas.Bool.{cond_both, cond-true, cond-false}
@@ -165,7 +165,7 @@ free_applies (Some office) a b replies x f = tt
 
 -- ---- nodes
 
--- the office stays, and so do Raft's part and service
+-- the leadership stays, and so do Raft's part and service
 pub led_by : (old new : Running) → IsLed old → new.office ≡ old.office → new.replica.raft ≡ old.replica.raft → new.view.serving ≡ old.view.serving → IsFree old.office (moment_of new) → IsLed new
 led_by old new led office raft serving free = record {
   leads = subst (λ (o : Option Leadership). LeadsInOffice o new.replica.raft) (sym office) (subst (LeadsInOffice old.office) (sym raft) led.leads);

@@ -102,7 +102,7 @@ module _ (m : Meaning) (kind : EngineKind) (setup : Setup) (bytes : List ℕ) (j
   closes_turn a b replica (inl x) quiet = stays_turn a b replica x quiet
   closes_turn a b replica (inr x) quiet = goes_turn a b x.0 replica x.1.1 quiet
 
-  -- an entry is applied, and what a leader owes behind it
+  -- an entry is applied, and what a leader owes after it
   applies_turn : {told : Option Told} (a b : Running) → b.replica ≡ a.replica → AppliesEntry a b → TurnsInTerm m kind setup bytes joins a b told told
   applies_turn a b replica x =
       let replies = told_applied _ (clients_in a).sessions in
@@ -128,7 +128,7 @@ waits_none conn false (Some stream) none idle = by stream.waiting none
     by [] e = refl
     by (x ∷ xs) e = absurd cc
 
--- where nothing is left to do, an act may end
+-- if nothing is left to do, an act may end
 pub may_end : (n : Running) → IsGoing n → n.applied.index ≡ n.replica.raft.commit → n.due.items ≡ [] → (clients_in n).turns ≡ [] → NoneIsDue (clients_in n) → MayEnd (moment_of n)
 may_end n going applied due turns none = record {
   applied = applied;
@@ -166,12 +166,12 @@ module _ (m : Meaning) (kind : EngineKind) (setup : Setup) (start : Running) (ev
     links = ap (λ (n : Running). n.has_links) h.is;
   }))
 
-  -- an own snapshot is an act of its own
+  -- an own snapshot is its own act
   pub compacts : {now : Option Told} → SnapshotGoes m kind → (a b : Running) → So a now → IsGoing a → MayEnd (moment_of a) → AtRest a → KeepsConns a b → KeepsSnapshot setup a b → So b now
   compacts law a b u going end rest keeps c =
       underway_next m kind setup start a a b event u end going.holds.replica.id (record { same = refl; links = refl; mail = refl; replies = refl; reads = refl }) rest (Compacts a.applied.index) tt (λ none. tt) (kept_moves a b keeps) (begins_compact m kind setup a b law c)
 
-  -- and so is a message of a peer that came on a connection
+  -- and the same holds for a message of a peer that came on a connection
   pub letter_came : {mid now : Option Told} (a b : Running) → So a mid → IsGoing a → MayEnd (moment_of a) → AtRest a → TookLetter m kind setup a b mid now → So b now
   letter_came a b u going end rest (none_came f same moves) = subst (So b) same (goes_further a b u moves (λ bytes joins. fresh_turn m kind setup bytes joins a b f))
   letter_came a b u going end rest (came message mid linked is began moves) =
@@ -195,12 +195,12 @@ module _ (M : EngineKind → Meaning) (setup : Setup) (start : Running) (event :
   closed_at (Ok more) a b u replica c moves quiet = goes_further (M k) k setup start event told a b u moves (λ bytes joins. closes_turn (M k) k setup bytes joins a b replica c quiet)
   closed_at (Err f) a b u replica c moves quiet = tt
 
--- where nothing was left but to look at a connection
+-- if nothing was left but to look at a connection
 pub ends_closed : {F : Type 0} (r : Result Bool F) (a b : Running) → MayEnd (moment_of a) → IfOk r (λ more. more ≡ false → (b ≡ a) × (b.heard ≡ None)) → IfOk r (λ more. more ≡ false → MayEnd (moment_of b))
 ends_closed (Ok more) a b end f = λ q. subst (λ (n : Running). MayEnd (moment_of n)) (sym (f q).0) end
 ends_closed (Err f) a b end none = tt
 
--- behind the last of clients' messages
+-- after the last of clients' messages
 pub ends_behind : (old a b : Running) → a ≡ old → IsGoing b → old.applied.index ≡ old.replica.raft.commit → old.due.items ≡ [] → b.replica ≡ a.replica → b.applied.index ≡ a.applied.index → b.due.items ≡ a.due.items → (clients_in b).turns ≡ []
     → NoneIsDue (clients_in a) → (clients_in b).sessions ≡ (clients_in a).sessions → MayEnd (moment_of b) × AtRest b
 ends_behind old a b same going applied due replica index dues turns none sessions =

@@ -1,4 +1,4 @@
--- What a step of Raft does to a leader's office, and to its sessions.
+-- What a step of Raft does to a leader's leadership, and to its sessions.
 use Rattle.std.proofs.Common.{◌≡◌, ◌⊎◌, ⊎_elim, ℕ, Bool, true, false, true≢false, List, [], ◌++◌, refl, sym, ap, ◌∙◌, append-nil}
 use Rattle.std.specs.Prelude.{◌&&◌, ◌==◌}
 use Rattle.std.proofs.lemmas.Bool.{and_parts, eqb-true, eq-eqb}
@@ -11,7 +11,7 @@ use Rattle.node_spec.specs.Accounts.{Moment}
 use Rattle.node_spec.specs.RaftTurns.{HasEnded, LeadershipFollows, in_office, loses, has_none}
 use Rattle.node_spec.proofs.EndedSessions.{ends_on_holds}
 
--- ---- the office, by the test that a node makes of it (`is_in`) with the term of its office
+-- ---- the leadership, by the test that a node makes of it (`is_in`) with the term of its leadership
 
 pub office_stays : (a b : Moment) (term : ℕ) → is_leader a.node.raft.role ≡ true → term ≡ a.node.raft.term → (is_leader b.node.raft.role && (term == b.node.raft.term)) ≡ true →
     b.node.sessions ≡ a.node.sessions → b.node.serving ≡ a.node.serving → LeadershipFollows a b []
@@ -39,7 +39,7 @@ lost_sessions k l e = ap (λ (c : Clients). c.sessions) e
 pub lost_streams : (k l : Clients) → l ≡ lost_all k → (conn : ℕ) → l.streams conn ≡ k.streams conn
 lost_streams k l e conn = ap (λ (c : Clients). c.streams conn) e
 
--- Behind a step that brought a snapshot all ends once more, whether the leadership was lost in it or not: together it has ended, and
+-- After a step that brought a snapshot all ends once more, whether the leadership was lost in it or not: together it has ended, and
 -- was told, once.
 pub ends_once : (old mid new : Gateway) (told : List (ℕ × Reply)) → ((mid ≡ old) × (told ≡ [])) ⊎ ((mid ≡ on_lost old) × (told ≡ told_lost old)) → new ≡ on_lost mid → (new ≡ on_lost old) × (told ++ told_lost mid ≡ told_lost old)
 ends_once old mid new told ways e = ⊎_elim

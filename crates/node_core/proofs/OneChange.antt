@@ -259,7 +259,7 @@ one_entry (x ∷ y ∷ es) e one is = absurd (omega (arith, one))
 pub change_event : (event : RaftEvent) (entries slice : List Entry) (e : Entry) → event ≡ events.Propose entries → slice ≡ entries → 1 ≤ length slice → length slice < 2 → e ≡ slice_index_or slice 0 e → event ≡ events.Propose (e ∷ [])
 change_event event entries slice e is same low high at = is ∙ ap (λ (es : List Entry). events.Propose es) (sym same ∙ one_entry slice e (omega (arith, low, high)) at)
 
--- a leader may propose it where its voters leave room for it
+-- a leader may propose it if its voters leave room for it
 pub may_so : (n : Running) (event : RaftEvent) (entry : Entry) (servers : List Server) → IsWhole n.replica → AllStand n.members → event ≡ events.Propose (entry ∷ []) → MayTake event n.replica.raft → configuration_in entry ≡ Some servers → MayChangeTo n servers →
     MayChange (seen n) entry servers
 may_so n event entry servers whole stand is takes reads room = record {
@@ -273,7 +273,7 @@ may_so n event entry servers whole stand is takes reads room = record {
   near = room.near;
 }
 
--- and Raft may be told its servers
+-- and Raft may be given its servers
 pub may_tell : (opening : List Server) (came : List ℕ) (n : Running) (entry : Entry) (servers : List Server) → MayChange (seen n) entry servers → MayBe (read_setup opening) n came (raft.Local (raft.UseServers servers) ∷ [])
 may_tell opening came n entry servers may = (change_stops opening n.replica.id came (seen n) entry servers may).0
 
@@ -285,7 +285,7 @@ may_by n servers false at none holds near = λ room. wrong (near ∙ room.near)
     wrong : false ≡ true → ⊥
     wrong q = cc
 
--- ---- what may not be proposed
+-- ---- what must not be proposed
 
 -- the proposal of an event that has a change
 unfit_by : (n : Running) (event : RaftEvent) (entries slice : List Entry) → event ≡ events.Propose entries → slice ≡ entries → has_change slice ≡ true →
@@ -318,7 +318,7 @@ pub unfit_unread : (n : Running) (event : RaftEvent) (entries slice other : List
 unfit_unread n event entries slice other e read is same change alike at reads none =
     unfit_by n event entries slice is same change (λ entry servers one some may. none servers (reads ∙ ap configuration_in (the_entry entries other e entry alike at one) ∙ some))
 
--- or one that may not be proposed
+-- or one that must not be proposed
 pub unfit_not : (n : Running) (event : RaftEvent) (entries slice other : List Entry) (e : Entry) (servers seen_servers : List Server) → event ≡ events.Propose entries → slice ≡ entries → has_change slice ≡ true → other ≡ entries →
     e ≡ slice_index_or other 0 e → Some servers ≡ configuration_in e → seen_servers ≡ servers → (MayChangeTo n seen_servers → ⊥) → IsUnfit n event
 unfit_not n event entries slice other e servers seen_servers is same change alike at reads looked none =

@@ -71,7 +71,7 @@ leads_same : (o : Option Held) (h i : NodeValue) → is_leader i.role ≡ is_lea
 leads_same None h i leads g = leads ∙ g
 leads_same (Some o) h i leads g = g
 
--- ---- what holds behind it
+-- ---- what holds after it
 
 pub office_made : (popped told made : Running) (event : RaftEvent) (batch : Option ℕ) → IsOwnDue event → MaybeToldServers popped told → HasTold popped told → HasMade told made event batch → Posts told made (input_of event) → InOffice popped.office popped.view.serving popped.replica.raft →
     InOffice made.office made.view.serving made.replica.raft

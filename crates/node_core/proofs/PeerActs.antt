@@ -1,4 +1,4 @@
--- Only a CONNECT, at a node with links, has a connection carry a peer's messages.
+-- Only a CONNECT, at a node with peer connections, has a connection carry a peer's messages.
 use Rattle.std.proofs.Common.{◌≡◌, ℕ, Bool, true, false, cond, not, ◌&&◌, List, [], ◌∷◌, length, map, Option, Some, None, Result, Ok, Err, refl, sym, ap, subst, ◌∙◌}
 use Rattle.std.specs.Prelude.{◌==◌, nat_lt, nat_le}
 use Rattle.wire_words.specs.declared.message.Message.{Message}
@@ -91,7 +91,7 @@ module _ (v : View) (P : ℕ → Type 0) where
   never None asked h = h
   never (Some cause) asked h = tt
 
-  -- what runs, or is refused where it is a write
+  -- what runs, or is refused if it is a write
   write : (hinders : Option Cause) (is_write : Bool) (asked : Asked) → MayAsk P asked → MayAsk P (cond is_write (asking.never_or hinders asked) asked)
   write hinders is_write asked h = either is_write (asking.never_or hinders asked) asked (never hinders asked h) h
 
@@ -301,7 +301,7 @@ acts_for P v g conn (Affects (HandsOver id)) now act h is = subst (λ (a : Gatew
 acts_for P v g conn (Affects (JoinsPeer id)) now act h is = subst (λ (a : GatewayAct). IfPeer P (act_on conn a)) (sym is.1) h
 acts_for P v g conn (Affects (Weighs weight)) now act h is = subst (λ (a : GatewayAct). IfPeer P (act_on conn a)) (sym is.1) tt
 
--- a message of this connection is a CONNECT of this node, and there are links
+-- a message of this connection is a CONNECT of this node, and there are peer connections
 pub record IsConnect (v : View) (from : ℕ) (message : Message) (conn id : ℕ) : Type 0 where
   pub conn_is : conn ≡ from
   pub links : v.links ≡ true
@@ -317,7 +317,7 @@ came_peer c v m g conn message (Ok request) refused refused_now now act is x =
     (λ id address asks links. record { conn_is = refl; links = links; address = address; asks = is ∙ ap (λ (q : Request). Ok q) asks })) x.turned.is)
 came_peer c v m g conn message (Err fault) refused refused_now now act is x = subst (IfPeer (IsConnect v conn message)) (sym x.act_is) tt
 
--- What comes of a message has a connection carry a peer's messages only where it is a CONNECT of that peer, and there are links.
+-- What comes of a message has a connection carry a peer's messages only if it is a CONNECT of that peer, and there are peer connections.
 pub took_peer : (c : EngineCall) (v : View) (m : Machine) (old : Clients) (refused refused_now : ℕ) (new : Clients) (act : Act) (x : TookOffer c v m old refused refused_now new act)
     → IfPeer (IsConnect v x.offer.conn x.offer.message) act
 took_peer c v m old refused refused_now new act x =

@@ -25,12 +25,12 @@ if_read peer wanted read b is same = ap (if_from peer) is ∙ ap (λ (x : Bool).
 pub if_unread : (peer : ℕ) (wanted : Result RaftMessage PeerFault) (fault : PeerFault) → wanted ≡ Err fault → if_from peer wanted ≡ None
 if_unread peer wanted fault is = ap (if_from peer) is
 
--- ---- a link
+-- ---- a peer connection
 
 pub link_waits_none : (me : ℕ) (old new : Link) (waiting : List Message) → waiting ≡ [] → new ≡ old → LinkTook me old waiting new None
 link_waits_none me old new waiting none same = subst (λ (ms : List Message). LinkTook me old ms new None) (sym none) (refl, same)
 
--- what is left behind the first message
+-- what is left after the first message
 left_behind : (old new : Conn) (m : Message) → old ≡ record { end = new.end; waiting = m ∷ new.waiting; full = new.full } → new ≡ record old { waiting = new.waiting }
 left_behind old new m is = λ i. record { end = (sym (ap (λ (c : Conn). c.end) is)) i; waiting = new.waiting; full = (sym (ap (λ (c : Conn). c.full) is)) i }
 
@@ -58,7 +58,7 @@ behind_some : (front : List Link) (w : Waiting) → behind_all front (Some w) �
 behind_some [] w = refl
 behind_some (x ∷ front) w = ap (behind_link x) (behind_some front w)
 
--- no message waits on the links before this place
+-- no message waits on the peer connections before this place
 pub record NoneWaits (links : List Link) (i : ℕ) : Type 0 where
   pub is : first_waiting links ≡ behind_all (take i links) (first_waiting (drop i links))
 
@@ -113,7 +113,7 @@ never_waits me links now i past before same =
     subst (λ (o : Option Waiting). TookFirst me o links now None)
     (sym (before.is ∙ ap (λ (l : List Link). behind_all (take i links) (first_waiting l)) (drop_all i links past) ∙ behind_none (take i links))) (refl, same)
 
--- that there are links, as it is looked at
+-- that there are peer connections, as it is looked at
 pub no_links : (slice links : List Link) → slice ≡ links → (length slice == 0) ≡ true → links ≡ []
 no_links [] links same e = sym same
 no_links (l ∷ ls) links same e =

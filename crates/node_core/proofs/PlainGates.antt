@@ -131,12 +131,12 @@ with_plain g conn s = λ i. record { conns = g.conns; session = λ other. at oth
 pub without_plain : (g : Gateway) (conn : ℕ) → plain_gate (without_later g conn) ≡ without_later (plain_gate g) conn
 without_plain g conn = with_plain g conn (with_later (g.session conn) None)
 
--- ---- what is told
+-- ---- what is reported
 
 told_reply : (conn : ℕ) (r : Reply) → told_in (conn, plain_reply r) ≡ told_in (conn, r)
 told_reply conn r = ap (λ (rs : List Response). map (λ (response : Response). (conn, response)) rs) (responses_plain r)
 
--- what is told, as responses
+-- what is reported, as responses
 abbrev told_as : List (ℕ × Reply) → List (ℕ × Response)
 told_as replies = all_told replies
 

@@ -49,7 +49,7 @@ posts_so old new event messages was made whole tells mail id = record {
   id = id;
 }
 
--- what stands behind the step, where Raft's part and the mail stay
+-- what follows the step, where Raft's part and the mail stay
 pub posts_on : (old mid new : Running) (i : raft.Input) → new.replica ≡ mid.replica → new.mail ≡ mid.mail → Posts old mid i → Posts old new i
 posts_on old mid new i replica mail p = record {
   posted = p.posted;
@@ -98,7 +98,7 @@ pub leaves_so : (old new : Running) (i : raft.Input) → LeavesLog i → IsOwn i
 leaves_so old new i leaves own p is snapshot snap machine =
     subst (λ (n : Running). KeepsAllButLog old n i) (sym is) (leaves_at old new.replica new.mail i leaves own (subst (λ (n : Running). Posts old n i) is p) snapshot snap machine)
 
--- ---- an office that is lost
+-- ---- a leadership that is lost
 
 not_false : (b : Bool) → not b ≡ false → b ≡ true
 not_false true e = refl
@@ -122,7 +122,7 @@ office_kept old new outs reads waiting machine files office = record {
   files = files;
 }
 
--- Behind Raft's step an office was kept or lost.
+-- After Raft's step a leadership was kept or lost.
 offices_at : (old : Running) (q : ReplicaValue) (mail : MailValue) (new : Running) (o : Option Held) → InOffice o old.view.serving old.replica.raft → LeadsInOffice o old.replica.raft → IsFree o (moment_of old) → IsMachine old.applied.machine →
     (ends_office o q.raft ≡ false → new ≡ record old { replica = q; mail = mail }) → (ends_office o q.raft ≡ true → LosesLeadership (record old { replica = q; mail = mail }) new × (new.view.serving ≡ false)) →
     new.replica ≡ q → (b : Bool) → ends_office o q.raft ≡ b → FollowsLeadership old new
@@ -158,7 +158,7 @@ offices_so old mid new office led machine is stays lost left same =
     offices_at old mid.replica mid.mail new old.office office led.leads led.free machine (λ e. stays (ends false e) ∙ is)
     (λ e. (subst (λ (n : Running). LosesLeadership n new) is (lost (ends true e)), (left (ends true e)).1)) same (ends_office old.office mid.replica.raft) refl
 
--- who is in no office behind it has nothing open or in flight
+-- who is in no leadership after it has nothing open or pending
 free_at : (old : Running) (q : ReplicaValue) (mail : MailValue) (new : Running) (o : Option Held) → IsFree o (moment_of old) → old.due.items ≡ [] →
     (ends_office o q.raft ≡ false → new ≡ record old { replica = q; mail = mail }) → (ends_office o q.raft ≡ true → LosesLeadership (record old { replica = q; mail = mail }) new × (new.due.items ≡ old.due.items)) →
     (b : Bool) → ends_office o q.raft ≡ b → (p : Option Held) → (b ≡ false → p ≡ o) → IsFree p (moment_of new)
@@ -199,7 +199,7 @@ outside_plain (events.Transfer to) o = absurd o
 outside_plain (events.Snapped at) o = absurd o
 outside_plain (events.Servers servers) o = absurd o
 
--- behind Raft's step, whatever configurations follow it
+-- after Raft's step, whatever configurations follow it
 pub follows_so : (old step : Running) (event : RaftEvent) (c : Configurations) → IsOutside event → Posts old step (input_of event) → FollowsLeadership old step → old.due.items ≡ [] → step.due.items ≡ old.due.items →
     step.applied.index ≡ old.applied.index → step.replica.raft.snapshot ≡ old.replica.raft.snapshot → step.replica.snap ≡ old.replica.snap → StepsWithoutSnapshot old (record step { members = c }) (input_of event)
 follows_so old step event c outside p o idle due index snapshot snap = record {

@@ -55,7 +55,7 @@ module _ (m : Meaning) (kind : EngineKind) (setup : Setup) where
     abbrev So : Running → Running → Option Told → Option Told → List raft.Input → Type 0
     So a b before now inputs = RaftTurn m kind setup bytes joins a b before now inputs
 
-    -- only what the rules don't see changes behind a turn
+    -- only what the rules don't see changes after a turn
     turns_then : {before now : Option Told} (a b c : Running) (inputs : List raft.Input) → So a b before now inputs → Fresh b c → So a c before now inputs
     turns_then a b c inputs t f = record {
       turns = record {
@@ -99,7 +99,7 @@ module _ (m : Meaning) (kind : EngineKind) (setup : Setup) where
     turns_told {told} a b c ys (untold e) t = subst (λ (n : Running). So n c told told ys) e t
     turns_told a b c ys (told_servers servers l) t = turns_on a b c (raft.Local (raft.UseServers servers) ∷ []) ys (turns_left a b (raft.Local (raft.UseServers servers)) tt l) t
 
-    -- with what the node is told of its voters
+    -- with what the node learns of its voters
     with_beside : {before now : Option Told} (a b : Running) (inputs : List raft.Input) → So a b before now inputs → Beside setup a b bytes inputs → TurnsInTerm m kind setup bytes joins a b before now
     with_beside a b inputs t beside = record { turns = t.turns; same = t.same; snap = t.snap; beside = subst (Beside setup a b bytes) (sym t.is) beside }
 
@@ -189,7 +189,7 @@ module _ (m : Meaning) (kind : EngineKind) (opening : List raft.Server) where
       (turns_then m kind vs bytes joins old last new all (turns_told m kind vs bytes joins old mid last (i ∷ []) e (turns_proposed m kind vs bytes joins mid last es p)) f)
       (beside_then vs bytes old last new all (beside opening bytes) f)
 
--- Raft was told servers, or nothing has changed
+-- Raft was given servers, or nothing has changed
 pub told_turns : {told : Option Told} (m : Meaning) (kind : EngineKind) (setup : Setup) (bytes : List ℕ) (joins : Option ℕ) (a b : Running) (e : MaybeToldServers a b) → RaftTurn m kind setup bytes joins a b told told (told_inputs e)
 told_turns {told} m kind setup bytes joins a b (untold e) = subst (λ (n : Running). RaftTurn m kind setup bytes joins a n told told []) (sym e) (record {
   turns = record {

@@ -58,7 +58,7 @@ steps_so a b r q event messages x y made whole tells = record {
   kept = all_is_kept_holds b q.snap.bytes (y.kept ∙ ap (λ (h : NodeValue). turns.kept_of (node_of h) q.snap.bytes) (sym y.raft));
 }
 
--- a snapshot that is sent is the one that is kept behind the step
+-- a snapshot that is sent is the one that is kept after the step
 pub sent_so : (a b : Moment) (q : ReplicaValue) (messages : List RaftMessage) → ShowsRaft b q → IsWhole q → AllByRecursion (CarriesIn q.snap) messages → AllSent a.node.kept b.node.kept (map letter_of messages)
 sent_so a b q [] y whole carries = tt
 sent_so a b q (m ∷ messages) y whole carries = (what m.what carries.0, sent_so a b q messages y whole carries.1)
@@ -77,7 +77,7 @@ sent_so a b q (m ∷ messages) y whole carries = (what m.what carries.0, sent_so
     what (whats.Ack good index) c = tt
     what whats.TimeoutNow c = tt
 
--- where no snapshot comes, it stays with its bytes (`moved`, `snap`)
+-- if no snapshot comes, it stays with its bytes (`moved`, `snap`)
 pub keeps_snapshot_so : (a b : Moment) (r q : ReplicaValue) (event : RaftEvent) (batch : Option ℕ) → ShowsRaft a r → ShowsRaft b q → IsWhole r → node_of q.raft ≡ stepped r event → HasMoved (node_of r.raft) (node_of q.raft) batch false → q.snap ≡ snap_after r event → KeepsSnapshot a b
 keeps_snapshot_so a b r q event batch x y whole made moved snap =
     let same : q.raft.snapshot ≡ r.raft.snapshot = moved.0 in
@@ -90,7 +90,7 @@ keeps_snapshot_so a b r q event batch x y whole made moved snap =
       bytes = ap (λ (k : Kept). k.snap) y.kept ∙ (λ i. record { index = (same i).index; term = (same i).term; bytes = ((snap ∙ stays) i).bytes }) ∙ sym (ap (λ (k : Kept). k.snap) x.kept);
     }
 
--- and where one comes, its bytes are those that came
+-- and if one comes, its bytes are those that came
 pub brings_so : (b : Moment) (r q : ReplicaValue) (event : RaftEvent) → ShowsRaft b q → r.raft.commit < (stepped r event).snapshot.index → q.snap ≡ snap_after r event → b.node.kept.snap.bytes ≡ bytes_in (offered event)
 brings_so b r q event y past snap =
     ap (λ (k : Kept). k.snap.bytes) y.kept ∙ ap (λ (z : Snap). z.bytes) (snap ∙ cond-true (nat_lt r.raft.commit (stepped r event).snapshot.index) (snap_kept (offered event)) r.snap (lt-ltb _ _ past)) ∙ of_offer (offered event)
@@ -111,7 +111,7 @@ intake_is (events.Transfer to) h = tt
 intake_is (events.Snapped end) h = absurd h
 intake_is (events.Servers servers) h = tt
 
--- What a load answers is one of the three states of a stopped step, where it is known whose bytes the snapshot has.
+-- What a load answers is one of the three states of a stopped step, if it is known whose bytes the snapshot has.
 leaves_by : (A : Type 0) (setup : Setup) (came : List ℕ) (a : Moment) (r : ReplicaValue) (event : RaftEvent) (bytes : List ℕ) (count total : ℕ) (g : NodeFiles) → ShowsRaft a r → (A → BytesAfter setup r.raft.id came a (input_of event) bytes) →
     MayLoad (node_of r.raft) (stepped r event) r.snap.bytes bytes count total g → Loads (λ k. A → StopsAt setup r.raft.id came a (input_of event) k) g
 leaves_by A setup came a r event bytes count total g x whose (before q loads) = record { kept = kept_of r; is = loads; holds = λ z. at_first (sym x.kept) }
@@ -139,7 +139,7 @@ leaves_by A setup came a r event bytes count total g x whose (after q longer) = 
     same : stepped r event ≡ raft_after r.raft.id a (input_of event)
     same = ap (λ (h : NodeValue). (compacted_step r.raft.id (node_of h) (input_of event)).node) (sym x.raft)
 
--- whose bytes a snapshot has behind a step
+-- whose bytes a snapshot has after a step
 intake_bytes : (setup : Setup) (a : Moment) (r : ReplicaValue) (event : RaftEvent) → ShowsRaft a r → IsWhole r → IsIntake event → BytesAfter setup r.raft.id (bytes_in (offered event)) a (input_of event) (bytes_after r event)
 intake_bytes setup a r event x whole intake =
     bytes_after_step setup r.raft.id (bytes_in (offered event)) a (input_of event) (bytes_after r event) (subst IsCoherent (sym x.raft) whole.coherent) (intake_is event intake)
@@ -153,12 +153,12 @@ leaves_so setup a r event count total g x whole intake h =
     let l = leaves_by (Unit {0}) setup (bytes_in (offered event)) a r event (bytes_after r event) count total g x (λ z. intake_bytes setup a r event x whole intake) h in
     record { kept = l.kept; is = l.is; holds = l.holds tt }
 
--- and of an own snapshot (`stopped` of `Replica::snapshot`), in an act with any bytes, where it is one of what is applied
+-- and of an own snapshot (`stopped` of `Replica::snapshot`), in an act with any bytes, if it is one of what is applied
 pub leaves_own_so : (A : Type 0) (setup : Setup) (came : List ℕ) (a : Moment) (r : ReplicaValue) (index : ℕ) (bytes : List ℕ) (count total : ℕ) (g : NodeFiles) → ShowsRaft a r → (A → SpellsApplied setup a index bytes) →
     MayLoad (node_of r.raft) (stepped r (snapped r index)) r.snap.bytes bytes count total g → Loads (λ k. A → StopsAt setup r.raft.id came a (rules.Local (rules.Snapped index)) k) g
 leaves_own_so A setup came a r index bytes count total g x spells h = leaves_by A setup came a r (snapped r index) bytes count total g x (λ z. own_bytes index refl (spells z)) h
 
--- ---- behind a step that ended well
+-- ---- after a step that ended well
 
 -- a log is the same without a longer old part
 pub longer_self : (l : Log) → Longer l l
@@ -178,13 +178,13 @@ behind_by setup came a r q event x made whose =
       left = given (ap (λ (n : rules.Node). (turns.kept_of n q.snap.bytes).log) same);
     })
 
--- A stop behind a step, as where memory runs out before all has followed: the state after it is kept (`raft`, `bytes`).
+-- A stop after a step, as where memory runs out before all has followed: the state after it is kept (`raft`, `bytes`).
 pub behind_so : (setup : Setup) (a : Moment) (r q : ReplicaValue) (event : RaftEvent) → ShowsRaft a r → IsWhole r → IsIntake event → node_of q.raft ≡ stepped r event → q.snap.bytes ≡ bytes_after r event →
     StopsAt setup r.raft.id (bytes_in (offered event)) a (input_of event) (kept_of q)
 behind_so setup a r q event x whole intake made bytes =
     behind_by setup (bytes_in (offered event)) a r q event x made (subst (BytesAfter setup r.raft.id (bytes_in (offered event)) a (input_of event)) (sym bytes) (intake_bytes setup a r event x whole intake))
 
--- and behind an own snapshot (`raft`, `snap`)
+-- and after an own snapshot (`raft`, `snap`)
 pub behind_own_so : (setup : Setup) (came : List ℕ) (a : Moment) (r q : ReplicaValue) (index : ℕ) → ShowsRaft a r → SpellsApplied setup a index q.snap.bytes → node_of q.raft ≡ stepped r (snapped r index) →
     StopsAt setup r.raft.id came a (rules.Local (rules.Snapped index)) (kept_of q)
 behind_own_so setup came a r q index x spells made = behind_by setup came a r q (snapped r index) x made (own_bytes index refl spells)

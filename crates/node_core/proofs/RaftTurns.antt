@@ -59,7 +59,7 @@ past_commit r q (Some first) false at v w same high m =
     let low : r.raft.snapshot.index ≤ r.raft.commit = v.coherent.applied in
     (omega (arith, past, base, i, low), omega (arith, past, high))
 
--- ---- Raft was told servers
+-- ---- Raft was given servers
 
 pub told : (old new : Running) (servers : _) → IsWhole old.replica → IsWhole new.replica → raft.HasShortTerm (node_of new.replica.raft) → node_of new.replica.raft ≡ stepped old.replica (events.Servers servers) → new.replica.snap ≡ snap_after old.replica (events.Servers servers)
     → old.replica.raft.commit ≤ new.replica.raft.commit → new ≡ record old { replica = new.replica; mail = new.mail } → HasTold old new
@@ -107,7 +107,7 @@ holds_after old told stepped followed event batch g t none s f =
       due = subst (AllByRecursion IsOwnDue) (sym (ap (λ (n : Running). n.due.items) f.is ∙ s.rest.due ∙ due)) h.due;
     }
 
--- the office has no part in it
+-- the leadership has no part in it
 pub reoffice : (n : Running) (o : Option Leadership) → Holds n → Holds (record n { office = o })
 reoffice n o h = record { replica = h.replica; short = h.short; clients = h.clients; turns = h.turns; servers = h.servers; members = h.members; at = h.at; low = h.low; high = h.high; due = h.due }
 
@@ -116,7 +116,7 @@ seen_after old told stepped followed event batch g t s f =
     ap (λ (n : Running). n.view.servers) f.is ∙ s.rest.seen ∙ ap (λ (n : Running). n.view.servers) t.is ∙ g.seen
     ∙ sym (ap (λ (n : Running). n.applied.servers) f.is ∙ s.rest.servers ∙ ap (λ (n : Running). n.applied.servers) t.is)
 
--- a node that was in no office without serving
+-- a node that was in no leadership without serving
 pub unserved : (o : Option Leadership) (serving : Bool) (h : NodeValue) → InOffice o serving h → o ≡ None → serving ≡ false
 unserved None serving h g e = g
 unserved (Some o) serving h g e = absurd cc
@@ -134,7 +134,7 @@ leader_settled Leader e q = absurd cc
 leader_settled Candidate e q = absurd cc
 leader_settled Follower e q = absurd cc
 
--- nothing was told
+-- nothing was reported
 pub told_none : (n : Running) → IsWhole n.replica → raft.HasShortTerm (node_of n.replica.raft) → HasTold n n
 told_none n w s = record { whole = w; short = s; snapshot = refl; snap = refl; commit = omega arith; is = refl }
 

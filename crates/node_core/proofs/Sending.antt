@@ -1,4 +1,4 @@
--- What a peer has sent on a connection are the messages that its bytes spell.
+-- What a peer has sent on a connection are the messages that its bytes encode.
 use Rattle.std.proofs.Common.{◌≡◌, ◌≢◌, ℕ, Bool, true, false, true≢false, cond, not, List, [], ◌∷◌, ◌++◌, Option, Some, None, Result, Ok, Err, refl, sym, ap, subst, ◌∙◌}
 use Rattle.std.specs.Prelude.{◌==◌, is_none}
 use Rattle.std.proofs.lemmas.Bool.{cond-true, cond-false, eq-eqb, eqb-true, ne_eqb}
@@ -21,7 +21,7 @@ use Rattle.node_core.specs.Sent.{IsOnce, Apart, BeginsApart, EventsStayApart, Mo
 
 -- ---- connections by their numbers
 
--- none of these links is of this connection
+-- none of these peer connections is of this connection
 abbrev IsNot : ℕ → List Link → Type 0
 IsNot conn [] = Unit {0}
 IsNot conn (link ∷ links) = (is_of conn link ≡ false) × IsNot conn links
@@ -38,7 +38,7 @@ on_not : (conn : ℕ) (links : List Link) → IsNot conn links → link_on conn 
 on_not conn [] h = refl
 on_not conn (link ∷ links) h = cond-false (is_of conn link) (Some link) (link_on conn links) h.0 ∙ on_not conn links h.1
 
--- links of the same connections, in order
+-- peer connections of the same connections, in order
 abbrev AreAlike : List Link → List Link → Type 0
 AreAlike [] [] = Unit {0}
 AreAlike [] (y ∷ ys) = ⊥
@@ -64,7 +64,7 @@ once_alike [] (y ∷ ys) a h = absurd a
 once_alike (x ∷ xs) [] a h = absurd a
 once_alike (x ∷ xs) (y ∷ ys) a h = (subst (λ (n : ℕ). link_on n ys ≡ None) a.0 (none_alike x.conn xs ys a.1 h.0), once_alike xs ys a.1 h.1)
 
--- ---- links that go, hear, and come
+-- ---- peer connections that go, hear, and come
 
 not_without : (conn gone : ℕ) (links : List Link) → IsNot conn links → IsNot conn (without_link gone links)
 not_without conn gone [] h = tt
@@ -112,7 +112,7 @@ once_more (x ∷ links) link h n =
 waiting_is : (v w : Waiting) → Some v ≡ Some w → v ≡ w
 waiting_is v w e = cc
 
--- Where it stands: behind these links and before those.
+-- Where it stands: after these peer connections and before those.
 record Stands (links : List Link) (w : Waiting) : Type 0 where
   pub front : List Link
   pub rest : List Link
@@ -156,7 +156,7 @@ stands_alike : (links : List Link) (w : Waiting) → Stands links w → AreAlike
 stands_alike links w s =
     subst (λ (l : List Link). AreAlike l w.links) (sym s.was) (subst (AreAlike (s.front ++ w.link ∷ s.rest)) (sym s.now) (alike_middle s.front s.rest w.link (with_waiting w.link s.left) refl))
 
--- it is found there, as no link before is of its connection
+-- it is found there, as no peer connection before is of its connection
 found_middle : (front rest : List Link) (x : Link) (conn : ℕ) → x.conn ≡ conn → IsNot conn front → link_on conn (front ++ x ∷ rest) ≡ Some x
 found_middle [] rest x conn e n = cond-true (is_of conn x) (Some x) (link_on conn rest) (eq-eqb x.conn conn e)
 found_middle (l ∷ front) rest x conn e n = cond-false (is_of conn l) (Some l) (link_on conn (front ++ x ∷ rest)) n.0 ∙ found_middle front rest x conn e n.1
@@ -181,7 +181,7 @@ begins_apart l none = record {
   once = subst IsOnce (sym none) tt;
 }
 
--- a stream is put where there was one, or where no link is
+-- a stream is put where there was one, or if no peer connection is
 put_apart : (l : Lines) (conn : ℕ) (stream : Option Conn) → link_on conn l.links ≡ None → Apart l → (other : ℕ) (c : Conn) → with_stream l.streams conn stream other ≡ Some c → link_on other l.links ≡ None
 put_apart l conn stream free a other c e = by (other == conn) refl e
   where

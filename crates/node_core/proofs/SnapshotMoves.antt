@@ -85,7 +85,7 @@ received voters_of me s m =
     inr (subst (λ (l : LogEnd). s.commit < l.index) (sym e) x.0, ends_role voters_of me (on_message voters_of me s m) ∙ x.1))
     (heard voters_of me s m)
 
--- who takes a snapshot past the commit index follows behind it
+-- who takes a snapshot past the commit index follows after it
 pub comes_to_none : (me : ℕ) (s : Node) (m : Message) → s.snapshot.index ≤ s.commit → s.commit < (compacted_step me s (Receive m)).node.snapshot.index → (compacted_step me s (Receive m)).node.role ≡ Follower
 unfolding compacted_step
 comes_to_none me s m low past = ⊎_elim
@@ -115,7 +115,7 @@ other_stays voters_of me s (Local (Transfer to)) o none = ⊎_elim (λ e. e) (λ
 other_stays voters_of me s (Local (Snapped index)) o none = absurd o
 other_stays voters_of me s (Local (UseServers servers)) o none = ⊎_elim (λ e. e) (λ x. absurd x) (snapshots_come_holds voters_of me s (Local (UseServers servers)))
 
--- Whose bytes a snapshot has behind such a step: those that came, where one past the commit index stands there, else the old ones.
+-- Whose bytes a snapshot has after the step: those that came, if one past the commit index is there, else the old ones.
 pub bytes_after_step : (setup : Setup) (me : ℕ) (came : List ℕ) (a : Moment) (i : Input) (bytes : List ℕ) → IsCoherent a.node.raft → IsNoSnapped i →
     bytes ≡ cond (nat_lt a.node.raft.commit (raft_after me a i).snapshot.index) came a.node.kept.snap.bytes → BytesAfter setup me came a i bytes
 unfolding compacted_step

@@ -1,4 +1,4 @@
--- A node that starts stands for what was kept.
+-- A node that starts represents what was kept.
 use Rattle.std.proofs.Common.{◌≡◌, inr, ℕ, suc, ◌+◌, ◌-◌, ◌<◌, ◌≤◌, true, List, [], ◌∷◌, ◌++◌, length, take, drop, refl, sym, ap, subst, ◌∙◌, arith}
 use Rattle.std.specs.Prelude.{Some, Ok, Err}
 use Rattle.std.proofs.Math.Seq.{drop-append-add}
@@ -48,7 +48,7 @@ cut_log x = record { first = suc x.base; entries = drop x.base x.log }
 before_next : (n : ℕ) → suc n - 1 ≡ n
 before_next n = omega arith
 
--- what is loaded is the node that has stored it, without what is cut off
+-- what is loaded is the node that has stored it, without what is compacted
 is_cut : (setup : Setup) (servers : List Server) (k : Kept) (x : Stored) → KeptIs setup k x → loaded true servers (stored_at k) ≡ with_whole_log (loaded true servers x) (compacted x.snapshot x.base ++ drop x.base x.log)
 is_cut setup servers k x e =
     ap (λ (n : ℕ). loaded_with servers n k.vote k.log k.snap.index k.snap.term) e.term
@@ -58,7 +58,7 @@ is_cut setup servers k x e =
     ∙ ap (λ (n : ℕ). loaded_with servers x.term x.vote (cut_log x) x.snapshot.index n) e.snap_term
     ∙ ap (λ (n : ℕ). with_whole_log (record (loaded true servers x) { base = n }) (compacted x.snapshot n ++ drop x.base x.log)) (before_next x.base)
 
--- ---- the front that the snapshot stands for
+-- ---- the front that the snapshot represents
 
 reaches : (k : Kept) (x : Stored) → k.log ≡ cut_log x → k.snap.index ≡ x.snapshot.index → CanStart k → Same x.base x.snapshot.index x.log (compacted x.snapshot x.base ++ drop x.base x.log) → x.snapshot.index ≤ length x.log
 reaches k x log index c same =
@@ -70,7 +70,7 @@ reaches k x log index c same =
     let within = c.within in
     omega (arith, len, cut, left, first, rest, within, index)
 
--- the front, and the entries behind it, are the log
+-- the front, and the entries after it, are the log
 joined : (k : Kept) (x : Stored) → k.log ≡ cut_log x → k.snap.index ≡ x.snapshot.index → CanStart k → take x.snapshot.index x.log ++ drop (suc k.snap.index - k.log.first) k.log.entries ≡ x.log
 joined k x log index c =
     let first : k.log.first ≡ suc x.base = ap (λ (l : Log). l.first) log in
@@ -82,7 +82,7 @@ joined k x log index c =
 
 -- ---- the configurations
 
--- what lies behind the snapshot in the log that is loaded is what was kept there
+-- what lies after the snapshot in the log that is loaded is what was kept there
 behind : (servers : List Server) (k : Kept) → CanStart k → drop k.snap.index (loaded true servers (stored_at k)).log ≡ drop (suc k.snap.index - k.log.first) k.log.entries
 behind servers k c =
     let first = c.first in

@@ -25,7 +25,7 @@ use Rattle.node_core.specs.Whole.{InOffice, LeadsInOffice, ServesLast, IsFree, I
 use Rattle.node_core.proofs.Posting.{leaves_so, follows_so}
 use Rattle.node_core.proofs.RaftTurns.{same_snap, keeps_snapshot, told, told_none, holds_after}
 
--- ---- behind Raft's step
+-- ---- after Raft's step
 
 pub stepped_so : (old mid new : Running) (event : RaftEvent) (batch : Option ℕ) → HasMade old mid event batch → HasShortTerm (node_of old.replica.raft) → new.replica ≡ mid.replica → KeepsRest mid new → AreValidOver new.clients new.applied.machine →
     HasTurns (clients_in new) → InOffice new.office new.view.serving new.replica.raft → HasStepped old new event batch
@@ -51,7 +51,7 @@ stepped_so old mid new event batch m short replica rest stand turns office = rec
   };
 }
 
--- ---- Raft was told servers
+-- ---- Raft was given servers
 
 pub told_so : (old new : Running) (servers : List raft.Server) (batch : Option ℕ) → IsWhole old.replica → HasShortTerm (node_of old.replica.raft) → HasMade old new (events.Servers servers) batch → HasTold old new
 told_so old new servers batch whole short m = told old new servers whole m.whole (m.short short) m.node m.snap m.commit m.is
@@ -92,7 +92,7 @@ began_so old step followed new event batch g outside none idle s posts offices t
   fresh = fresh;
 }
 
--- ---- the office
+-- ---- the leadership
 
 free_behind : (step new : Running) → (clients_in new).sessions ≡ (clients_in step).sessions → new.due.items ≡ step.due.items → IsFree None (moment_of step) → IsFree None (moment_of new)
 free_behind step new sessions due free = (subst HasEnded (sym sessions) free.0, ap proposals_in due ∙ free.1)

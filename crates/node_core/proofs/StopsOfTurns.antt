@@ -66,7 +66,7 @@ stops_other setup came others old i kept none (at_first e) = at_first e
 stops_other setup came others old i kept none (at_vote e) = at_vote e
 stops_other setup came others old i kept none (at_end bytes b l) = at_end bytes (bytes_other setup old.replica.id came others (moment_of old) i bytes none b) l
 
--- ---- behind a step
+-- ---- after a step
 
 pub left_behind : (setup : Setup) (came : List ℕ) (old new : Running) (i : raft.Input) → Posts old new i → BytesAfter setup old.replica.id came (moment_of old) i new.replica.snap.bytes → StopsIn setup came old i (kept_of new.replica)
 left_behind setup came old new i p whose =
@@ -85,7 +85,7 @@ pub keeps_left : (setup : Setup) (came : List ℕ) (old new : Running) (i : raft
 keeps_left setup came old new i p keeps =
     left_behind setup came old new i p (kept_bytes (sym (ap (λ (n : raft.Node). n.snapshot) p.steps.made) ∙ keeps.snapshot) (ap (λ (s : Snap). s.bytes) keeps.bytes))
 
--- ---- behind an event from outside
+-- ---- after an event from outside
 
 pub behind_telling : (setup : Setup) (old step : Running) (event : RaftEvent) (kept : Kept) → ((c : Configurations) → StepsWithoutSnapshot old (record step { members = c }) (input_of event)) → StopsBehind setup (bytes_with event) step kept → StopsFollowing setup old event kept
 behind_telling setup old step event kept follows (c, untold_yet e) =
@@ -105,7 +105,7 @@ telling_from setup came old mid kept is x = (mid.members, subst (λ (n : Running
 pub untold_behind : (setup : Setup) (came : List ℕ) (old : Running) → StopsBehind setup came old (kept_of old.replica)
 untold_behind setup came old = (old.members, untold_yet refl)
 
--- ---- behind a snapshot that came
+-- ---- after a snapshot that came
 
 pub behind_placing : (setup : Setup) (old placed : Running) (event : RaftEvent) (message : RaftMessage) (kept : Kept) → event ≡ events.Message message → StepsWithSnapshot setup old placed (account.bytes_in message.what) (message_value message) →
     StopsIn setup (bytes_with event) old (input_of event) (kept_of placed.replica) → StopsTelling setup (account.bytes_in message.what) placed kept → StopsInstalling setup old event kept
@@ -138,7 +138,7 @@ stops_due setup came a w i kept own (at_end bytes b l) = at_end bytes (by b) (re
 may_before : (setup : Setup) (came : List ℕ) (before popped : Running) (event : RaftEvent) (is : List raft.Input) → TookFirstDue event before popped → MayBe setup popped came is → MayBe setup before came is
 may_before setup came before popped event is was may = subst (λ (n : Running). MayBe setup n came is) (before_is before popped event was) may
 
--- where Raft was told servers before
+-- where Raft was given servers before
 pub own_telling : (setup : Setup) (came : List ℕ) (before popped : Running) (event : RaftEvent) (kept : Kept) → TookFirstDue event before popped → StopsChanging setup came popped kept → StopsOwn setup came before kept
 own_telling setup came before popped event kept was (unchanged_yet e) = before_own (unchanged_yet (e ∙ ap (λ (n : Running). kept_of n.replica) was.is))
 own_telling setup came before popped event kept was (in_change servers may x) =

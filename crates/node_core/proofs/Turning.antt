@@ -22,7 +22,7 @@ use Rattle.node_core.specs.Whole.{IsGoing, IsLed}
 use Rattle.node_core.proofs.ConnStreams.{conns_same, conns_both}
 use Rattle.node_core.proofs.ExactTurns.{Ahead, none_ahead, one_ahead}
 
--- What so many turns have left, with the counts of faults of the disk and of refused openings before and now.
+-- What this many turns have left, with the counts of faults of the disk and of refused openings before and now.
 pub record Turned (M : EngineKind → Meaning) (tells : Bool) (before now : Disk Text → Type 0) (faults faults_now : ℕ) (kind kind_now : EngineKind) (openings openings_now : ℕ) (told told_now : Option Told) (known : List Known) (old new : Running) : Type 0 where
   pub going : IsGoing new
   pub agrees : Agrees known new.clients new.applied.machine

@@ -240,7 +240,7 @@ took_turns m kind v machine old told_before told_now refused_before refused_now 
     (freed_turns (taken old (Some t.offer)) new.sessions t.offer.turns (taken_turns old t.offer t.next h) (λ other free.
     (free, came_stay m kind v machine old.sessions t.offer.conn _ told_before told_now refused_before refused_now new.sessions act t.came other (its_own old t.offer t.next other free))))
 
--- where no message was left none has a turn
+-- if no message was left none has a turn
 pub none_turn : (m : Meaning) (kind : EngineKind) (v : View) (machine : Machine) (old : Clients) (told_before told_now : Option Told) (refused_before refused_now : ℕ) (new : Clients)
     → TookTurn (call_of m kind told_before told_now) v machine old refused_before refused_now new None → new.turns ≡ []
 none_turn m kind v machine old told_before told_now refused_before refused_now new t = ap (λ (k : Clients). k.turns) t.rest
@@ -389,7 +389,7 @@ unfiltered : (test : ℕ → Bool) (ns : List ℕ) (other : ℕ) → is_among ot
 unfiltered test [] other e there = absurd cc
 unfiltered test (n ∷ ns) other e there = unfiltered_at test n ns other (n == other) (test n) refl refl e there (λ none in_rest. unfiltered test ns other none in_rest)
 
--- each is told the same
+-- each is informed of the same
 untold_each : (r : Reply) (conns : List ℕ) (other : ℕ) → list_any (is_to other) (map (λ (conn : ℕ). (conn, r)) conns) ≡ false → is_among other conns ≡ false
 untold_each r [] other e = refl
 untold_each r (conn ∷ conns) other e =
@@ -447,6 +447,6 @@ nothing_waits conn true stream idle e = absurd cc
 nothing_waits conn false None idle e = refl
 nothing_waits conn false (Some c) idle e = none_waits conn c c.waiting refl e
 
--- no request waits, but behind one that is yet to be answered
+-- no request waits, but after one that waits for its answer
 pub nobody_waits : (k : Clients) → HasTurns k → k.turns ≡ [] → (conn : ℕ) → is_busy (k.sessions.session conn) ≡ false → waiting_on (k.streams conn) ≡ []
 nobody_waits k h none conn idle = nothing_waits conn (is_busy (k.sessions.session conn)) (k.streams conn) idle (h conn (ap (is_among conn) none))

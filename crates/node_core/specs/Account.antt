@@ -72,7 +72,7 @@ bytes_in whats.TimeoutNow = []
 abbrev pub letter_of : RaftMessage → Letter
 letter_of m = record { message = message_value m; bytes = bytes_in m.what }
 
--- A reply of a node's life, or the refusal of a message that doesn't read as a request, which is none of its life's.
+-- A reply of a node's life, or the refusal of a message that doesn't read as a request, which is not one of its life's.
 pub data Item : Type 0 where
   Lived : (conn : ℕ) (reply : Reply) → Item
   Unread : (conn : ℕ) (fault : MsgFault) → Item
@@ -88,14 +88,14 @@ responses_in (Unread conn fault) = (conn, failure (unread_cause fault)) ∷ []
 abbrev pub sent_so : ℕ × Response → ℕ × List ℕ
 sent_so told = (told.0, response_bytes told.1)
 
--- Replies as they are sent, with such refusals between them.
+-- Replies as they are sent, with refusals of messages that don't read between them.
 pub record Sends (replies : List (ℕ × Reply)) (bytes : List (ℕ × List ℕ)) : Type 0 where
   pub items : List Item
   pub lives : replies ≡ flat_map lived items
   pub sends : bytes ≡ map sent_so (flat_map responses_in items)
 
--- What a part of a step says: these letters are posted, these replies are told behind the others, and these jobs are handed to readers
--- behind the others.
+-- What a part of a step says: these peer messages are posted, these replies are sent after the others, and these jobs are handed to readers
+-- after the others.
 pub record Says (old new : Running) (letters : List Letter) (replies : List (ℕ × Reply)) (jobs : List (ℕ × Job)) : Type 0 where
   pub posted : List RaftMessage
   pub letters_are : letters ≡ map letter_of posted
@@ -107,7 +107,7 @@ pub record Says (old new : Running) (letters : List Letter) (replies : List (ℕ
 
 -- ---- turns
 
--- What comes in: inputs of Raft, the bytes of a snapshot with them, a connection, what connections ask, and what a reader tells.
+-- What comes in: inputs of Raft, the bytes of a snapshot with them, a connection, what connections ask, and what a reader answers.
 pub record Brought : Type 0 where
   pub inputs : List raft.Input
   pub bytes : List ℕ
@@ -133,7 +133,7 @@ pub record Adds (inputs given : List raft.Input) : Type 0 where
   pub is : inputs ≡ given ++ own
 
 -- A turn in which nothing comes in from outside: from the moment before it the rules come to the one after it, and it says what they say.
--- The engine told the answers that they use, and no others.
+-- The engine gave the answers that they use, and no others.
 pub record Turns (m : Meaning) (kind : EngineKind) (setup : Setup) (bytes : List ℕ) (joins : Option ℕ) (old new : Running)
     (told_before told_now : Option Told) : Type 0 where
   pub piece : Piece
@@ -145,7 +145,7 @@ pub record Turns (m : Meaning) (kind : EngineKind) (setup : Setup) (bytes : List
   pub sent : AllSent (kept_of old.replica) (kept_of new.replica) piece.letters
   pub id : new.replica.id ≡ old.replica.id
 
--- The servers of the node's configurations are those that are applied: so it is of a node at rest in each run.
+-- The servers of the node's configurations are those that are applied: this holds for a node at rest in each run.
 abbrev pub KnowsServers : Setup → Running → Type 0
 KnowsServers setup n = HasServers setup (moment_of n) n.members.servers
 
@@ -209,7 +209,7 @@ joins_of (Happens (events.ReadDone conn read)) = None
 joins_of (Comes m) = None
 joins_of (Compacts index) = None
 
--- what a reader tells; nothing where it gives its query back
+-- what a reader answers; nothing if it gives its query back
 abbrev pub told_of : ℕ → Option Reply → Option (ℕ × Reply)
 told_of conn None = None
 told_of conn (Some reply) = Some (conn, reply)
@@ -251,7 +251,7 @@ heard_on (Some stream) bytes = requests_in (received stream bytes).waiting
 abbrev pub NoneAsks : (ℕ → List Request) → Type 0
 NoneAsks asks = (conn : ℕ) → asks conn ≡ []
 
--- these are the requests that bytes bring, behind those that wait
+-- these are the requests that bytes bring, after those that wait
 pub record BytesAsk (old : Running) (conn : ℕ) (bytes : List ℕ) (asks : ℕ → List Request) : Type 0 where
   pub here : waiting_on ((clients_in old).streams conn) ++ asks conn ≡ heard_on ((clients_in old).streams conn) bytes
   pub others : (other : ℕ) → other ≢ conn → asks other ≡ []
@@ -288,7 +288,7 @@ pub record Takes (old : Running) (begin : Begin) (x : Taken) : Type 0 where
 abbrev pub IsResting : Running → Type 0
 IsResting n = moment_of n ≡ resting (seen n)
 
--- So it is where an act begins; and the configurations go up to what is applied, and Raft's part is of the node's id.
+-- This holds if an act begins; and the configurations go up to what is applied, and Raft's part is of the node's id.
 pub record AtRest (n : Running) : Type 0 where
   pub rests : IsResting n
   pub at : n.members.at ≡ n.applied.index
@@ -306,7 +306,7 @@ made_both x y = record {
   answers = x.answers ++ y.answers;
 }
 
--- An act of a step that ended well, with what it makes. At each of its steps of Raft the node was told the voters by which it is counted.
+-- An act of a step that ended well, with what it makes. At each of its steps of Raft the node was given the voters by which it is counted.
 pub record Act (m : Meaning) (kind : EngineKind) (setup : Setup) (old new : Running) (begin : Begin) (made : Made) : Type 0 where
   pub stood : AtRest old
   pub id : new.replica.raft.id ≡ old.replica.raft.id
@@ -340,14 +340,14 @@ pub record Stopped (m : Meaning) (kind : EngineKind) (setup : Setup) (old : Runn
 
 -- ---- the acts of a step
 
--- Acts led from one node to another, what they say was said, and the engine told the answers that they use.
+-- Acts led from one node to another, what they say was said, and the engine gave the answers that they use.
 pub record Went (m : Meaning) (kind : EngineKind) (setup : Setup) (old new : Running) (begins : List Begin) (told_before told_now : Option Told) : Type 0 where
   pub made : Made
   pub acts : Acts m kind setup old new begins made
   pub says : Says old new made.letters made.replies made.jobs
   pub heard : TellsAll made.answers told_before told_now
 
--- a step goes on behind its event by messages of peers that came on connections, and by own snapshots
+-- a step continues after its event by messages of peers that came on connections, and by own snapshots
 abbrev pub IsMore : Begin → Type 0
 IsMore (Happens event) = ⊥
 IsMore (Comes message) = Unit {0}
@@ -363,7 +363,7 @@ IsAlone (Happens event) = Unit {0}
 IsAlone (Comes message) = ⊥
 IsAlone (Compacts index) = Unit {0}
 
--- none did where the node has no links
+-- none did where the node has no peer connections
 abbrev pub AreAlone : Running → List Begin → Type 0
 AreAlone n begins = n.has_links ≡ false → AllByRecursion IsAlone begins
 
@@ -404,7 +404,7 @@ pub record SoFar (m : Meaning) (kind : EngineKind) (setup : Setup) (from now : R
   pub since : Since m kind setup brought late from now told_before told_now
   pub beside : Beside setup from now brought.bytes since.piece.inputs
 
--- A step of an event is under way: these acts have ended, and this one began where the node last rested. Without links none of them began
+-- A step of an event is under way: these acts have ended, and this one began where the node last rested. Without peer connections none of them began
 -- with a message on a connection.
 pub record Underway (m : Meaning) (kind : EngineKind) (setup : Setup) (start now : Running) (event : Event) (told_before told_now : Option Told) : Type 0 where
   pub begins : List Begin
@@ -425,8 +425,8 @@ pub record Underway (m : Meaning) (kind : EngineKind) (setup : Setup) (start now
 -- ---- what a step shows
 
 -- A step that ended well: its acts are those of the rules, the first one that of the event, and it says what they say: of the Appends and
--- Installs to one peer the last one. It hands to readers what they lend, and the engine told the answers that they use, and no others.
--- Connections ask what the event's bytes bring to the streams that they had before. A node without links takes no peer's message from a
+-- Installs to one peer the last one. It hands to readers what they lend, and the engine gave the answers that they use, and no others.
+-- Connections ask what the event's bytes bring to the streams that they had before. A node without peer connections takes no peer's message from a
 -- connection, and stays without them. The messages of peers that it takes from connections, and whom it closes, are those of the moves that it
 -- makes there.
 pub record AccountsForStep (m : Meaning) (kind : EngineKind) (setup : Setup) (old new : Running) (event : Event) (outs : StepOutputs) (told_before told_now : Option Told)

@@ -17,7 +17,7 @@ pub record TakesEntry (old new : Running) : Type 0 where
   pub is : slice_get old.replica.raft.entries (old.applied.index - old.replica.raft.base) ≡ Some entry
   pub applied : new.applied ≡ with_entry old.applied entry
 
--- and whoever waited for it was told
+-- and whoever waited for it was informed
 pub record AppliesEntry (old new : Running) : Type 0 where
   pub applies : Applies (moment_of old) (moment_of new) (told_applied (suc old.applied.index) (clients_in old).sessions)
   pub mail : new.mail ≡ old.mail

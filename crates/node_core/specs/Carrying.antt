@@ -34,7 +34,7 @@ if_from peer (Ok message) = if message.from == peer then Some message else None
 abbrev pub peers_message : ℕ → ℕ → Message → Option RaftMessage
 peers_message me peer message = if_from peer (peer_message_of me message)
 
--- A message that waits on a peer's connection, and the connections behind it.
+-- A message that waits on a peer's connection, and the connections after it.
 pub record Waiting : Type 0 where
   pub link : Link
   pub message : Message
@@ -64,12 +64,12 @@ letter_for conn (Some message) = letters.Message message
 abbrev pub letter_of : ℕ → Link → Message → Letter
 letter_of me link message = letter_for link.conn (peers_message me link.peer message)
 
--- the first message was taken of a link on which these wait, and this came of it; or none waits
+-- the first message was taken of a peer connection on which these wait, and this came of it; or none waits
 abbrev pub LinkTook : ℕ → Link → List Message → Link → Option Letter → Type 0
 LinkTook me old [] new given = (given ≡ None) × (new ≡ old)
 LinkTook me old (m ∷ ms) new given = (given ≡ Some (letter_of me old m)) × (new ≡ with_waiting old ms)
 
--- so of links of which this is the first that waits
+-- so of peer connections of which this is the first that waits
 abbrev pub TookFirst : ℕ → Option Waiting → List Link → List Link → Option Letter → Type 0
 TookFirst me None old new given = (given ≡ None) × (new ≡ old)
 TookFirst me (Some w) old new given = (given ≡ Some (letter_of me w.link w.message)) × (new ≡ w.links)
@@ -142,7 +142,7 @@ abbrev pub heard_by_line : Option Conn → ℕ → List ℕ → Lines → Lines
 heard_by_line None conn bytes l = record l { links = heard_link conn bytes l.links; heard = Some conn }
 heard_by_line (Some stream) conn bytes l = record l { streams = with_stream l.streams conn (Some (received stream bytes)); heard = Some conn }
 
--- the connections behind an event, and those that are closed by it at once
+-- the connections after an event, and those that are closed by it at once
 abbrev pub begun_by : Event → Clients → Lines → Lines
 begun_by (events.Connect conn) k l = came_unless (link_on conn l.links) conn k l
 begun_by (events.Bytes conn bytes) k l = heard_by_line (l.streams conn) conn bytes l
@@ -200,7 +200,7 @@ pub record TookRequest (old new : Lines) (conn : ℕ) : Type 0 where
   pub opens : old.streams conn ≡ Some (with_first message now)
   pub is : new ≡ record old { streams = with_stream old.streams conn (Some now) }
 
--- It is a CONNECT: what waits behind it, and what is unread, is the peer's from now on.
+-- It is a CONNECT: what waits after it, and what is unread, is the peer's from now on.
 pub record TookConnect (old new : Lines) (conn peer : ℕ) : Type 0 where
   pub message : Message
   pub now : Conn
@@ -272,7 +272,7 @@ pub record MovesLines (old new : Running) (sent : List RaftMessage) : Type 0 whe
   pub sent_is : sent ≡ flat_map sent_by moves
   pub closed : new.outs.closed.items ≡ old.outs.closed.items ++ flat_map closed_by moves
 
--- So it is since the event of a step.
+-- This holds since the event of a step.
 pub record LinesSince (event : Event) (start now : Running) (sent : List RaftMessage) : Type 0 where
   pub moves : List Move
   pub runs : Runs (begun_by event (clients_in start) (lines_in start)) (lines_in now) moves
@@ -281,9 +281,9 @@ pub record LinesSince (event : Event) (start now : Running) (sent : List RaftMes
 
 -- ---- a step
 
--- The connections in a step that ended well: behind its event, moves were made by which these messages happened at Raft and no others; the
+-- The connections in a step that ended well: after its event, moves were made by which these messages happened at Raft and no others; the
 -- event and these moves close the connections that are closed, and no others; the connection on which bytes came was looked at; and at a
--- node with links no message of a peer waits any more.
+-- node with peer connections no message of a peer waits any more.
 pub record ConnectionsOfStep (event : Event) (old new : Running) (outs : StepOutputs) (sent : List RaftMessage) : Type 0 where
   pub moves : List Move
   pub runs : Runs (begun_by event (clients_in old) (lines_in old)) (lines_in new) moves

@@ -26,7 +26,7 @@ StreamOn (Some before) (Some now) = (taken : List Message) × (before ≡ record
 abbrev pub StreamsOn : (ℕ → Option Conn) → (ℕ → Option Conn) → Type 0
 StreamsOn before now = (conn : ℕ) → StreamOn (before conn) (now conn)
 
--- a connection's stream behind what an event brings to it: a new one where it comes, and its bytes where they come on it
+-- a connection's stream after what an event brings to it: a new one if it comes, and its bytes where they come on it
 abbrev pub come_by : Option Conn → ℕ → ℕ → Option Conn
 come_by None other conn = cond (conn == other) (Some opened) None
 come_by (Some stream) other conn = Some stream
@@ -56,7 +56,7 @@ close_on (Some conn) streams = close_of conn (closing (streams conn))
 abbrev pub closes_in : Running → List (ℕ × CloseReason)
 closes_in n = n.outs.closed.items ++ close_on n.heard (clients_in n).streams
 
--- Those that an event closes at a node without links: one that comes where no session is left for it, and the one whose bytes come where
+-- Those that an event closes at a node without peer connections: one that comes if no session is left for it, and the one whose bytes come where
 -- its stream then is at its end, or had no room for a byte.
 abbrev pub closes_by : Event → Clients → List (ℕ × CloseReason)
 closes_by (events.Connect conn) k = full_for conn (joining k.sessions conn)
@@ -68,17 +68,17 @@ closes_by (events.Hangup conn) k = []
 closes_by (events.Peer message) k = []
 closes_by (events.ReadDone conn read) k = []
 
--- the node has no links to other nodes, and so no connection that carries a peer's messages
+-- the node has no peer connections to other nodes, and so no connection that carries a peer's messages
 pub record IsUnlinked (n : Running) : Type 0 where
   pub links : n.links.all.items ≡ []
   pub view : n.view.links ≡ false
 
--- No connection carries a peer's messages yet, and the sessions are told whether there are links.
+-- No connection carries a peer's messages yet, and the sessions are told whether there are peer connections.
 pub record HasNoPeers (has_links : Bool) (n : Running) : Type 0 where
   pub links : n.links.all.items ≡ []
   pub view : n.view.links ≡ has_links
 
--- a node that has started: without links it is unlinked
+-- a node that has started: without peer connections it is unlinked
 abbrev pub StartsUnlinked : Bool → Node → Type 0
 StartsUnlinked has_links n = HasNoPeers has_links n.running × (has_links ≡ false → IsUnlinked n.running)
 
@@ -94,7 +94,7 @@ pub record KeepsConns (old new : Running) : Type 0 where
   pub id : new.view.id ≡ old.view.id
   pub has_links : new.has_links ≡ old.has_links
 
--- No connection comes, and no bytes come: of a node without links those that are closed so far, and the one that will be, are the same.
+-- No connection comes, and no bytes come: of a node without peer connections those that are closed so far, and the one that will be, are the same.
 pub record StreamsClose (old new : Running) : Type 0 where
   pub streams : StreamsOn (clients_in old).streams (clients_in new).streams
   pub closes : IsUnlinked old → IsUnlinked new × (closes_in new ≡ closes_in old)
@@ -113,7 +113,7 @@ pub record LeavesConns (old new : Running) (conn peer : ℕ) : Type 0 where
   pub view : new.view ≡ old.view
   pub has_links : new.has_links ≡ old.has_links
 
--- so behind what came of a message
+-- so after what came of a message
 abbrev pub StreamsAfterMessage : Act → Running → Running → Type 0
 StreamsAfterMessage (acts.Reply conn messages) old new = KeepsConns old new
 StreamsAfterMessage (acts.Propose conn entries) old new = KeepsConns old new
@@ -135,7 +135,7 @@ pub record ConnsBegin (event : Event) (old new : Running) : Type 0 where
   pub closes : old.outs.closed.items ≡ [] → old.heard ≡ None → IsUnlinked old → IsUnlinked new × (closes_in new ≡ closes_by event (clients_in old))
   pub lines : BeginsLines event old new
 
--- A step: each stream has what the event brought to it, and messages were taken from its front; and of a node without links exactly these
+-- A step: each stream has what the event brought to it, and messages were taken from its front; and of a node without peer connections exactly these
 -- connections are closed.
 pub record StreamsOfStep (event : Event) (old new : Running) (outs : StepOutputs) : Type 0 where
   pub streams : (conn : ℕ) → StreamOn (brought event conn ((clients_in old).streams conn)) ((clients_in new).streams conn)

@@ -115,7 +115,7 @@ with_servers_seen w = record w { view = record w.view { servers = w.servers } }
 abbrev pub showing_servers : Core → Core
 showing_servers w = looked (with_servers_seen w)
 
--- ---- the office
+-- ---- the leadership
 
 abbrev pub won_by : Option Leadership → raft.Node → Option Leadership
 won_by (Some office) r = Some office
@@ -124,12 +124,12 @@ won_by None r = cond (is_leader r.role) (Some (record { term = r.term; phase = B
 abbrev pub won : Core → Core
 won w = record w { office = won_by w.office w.raft }
 
--- a step has ended the leadership of the office
+-- a step has ended this leadership
 abbrev pub has_lost : Option Leadership → raft.Node → Bool
 has_lost None r = false
 has_lost (Some office) r = not (is_leader r.role && (office.term == r.term))
 
--- what was open or in flight has ended, and who waited is told
+-- what was open or pending has ended, and who waited is told
 abbrev pub losing : Core → Core
 losing w = record w {
   sessions = on_lost w.sessions;
@@ -157,7 +157,7 @@ are_others (Some first) w = nat_lt (length (cut_at w.members first).later) (leng
 
 -- ---- a snapshot that has come
 
--- databases, servers and index are those of a snapshot, and the configurations those of the log behind it
+-- databases, servers and index are those of a snapshot, and the configurations those of the log after it
 abbrev pub replaced : ℕ → NodeSnapshot → Core → Core
 replaced index s w = record w {
   members = all_changed (first_of s.servers w.snap.index) (suc w.snap.index) (drop w.snap.index w.raft.log);
@@ -216,12 +216,12 @@ serving_from may w = cond (may && not w.view.serving && is_settled w) (record w 
 abbrev pub giving : RaftEvent → Core → Core
 giving event w = record w { due = w.due ++ event ∷ [] }
 
--- it proposes what it owes; where it owes nothing it may serve from now on
+-- it proposes what it owes; if it owes nothing it may serve from now on
 abbrev pub owing : Leadership → List Content → Core → Core
 owing office [] w = serving_from (serves office.phase) w
 owing office (c ∷ cs) w = giving (events.Propose (written office.term (c ∷ cs))) w
 
--- the entries behind the applied ones
+-- the entries after the applied ones
 abbrev pub waiting : Core → List Entry
 waiting w = drop w.applied w.raft.log
 
@@ -243,7 +243,7 @@ replied conn responses w = record w { replies = w.replies ++ map (λ (message : 
 abbrev pub with_its : ℕ → Session → Core → Core
 with_its conn s w = record w { sessions = with_session w.sessions conn (plain_session s) }
 
--- the message whose turn it is is taken; where there is none, nobody's turn is left
+-- the message whose turn it is is taken; without one, no connection's turn is left
 abbrev pub taking : Offer → Core → Core
 taking offer w = record w { streams = with_stream w.streams offer.conn (Some offer.stream); turns = offer.turns }
 

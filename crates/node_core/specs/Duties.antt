@@ -1,4 +1,4 @@
--- What a leader does behind an entry that was applied.
+-- What a leader does after an entry that was applied.
 use Rattle.std.specs.Prelude.{◌≡◌, ◌⊎◌, ℕ, true, List, [], None}
 use Rattle.session_spec.specs.Entries.{Content}
 use Rattle.session_spec.specs.Machine.{Machine, machine_of}

@@ -46,7 +46,7 @@ use Rattle.node_core.specs.Core.{dutiful, giving, replied, with_its, taking, idl
 abbrev pub step_of : Core → RaftEvent → Outcome
 step_of w event = compacted_step w.me w.raft (input_of event)
 
--- the snapshot that is kept behind it: one that came past the commit index, else the old one
+-- the snapshot that is kept after it: one that came past the commit index, else the old one
 abbrev pub snap_by : Core → RaftEvent → Snap
 snap_by w event = cond (nat_lt w.raft.commit (step_of w event).node.snapshot.index) (snap_kept (offered event)) w.snap
 
@@ -62,7 +62,7 @@ pub record ExactStep (event : RaftEvent) (batch : Option ℕ) (w v : Core) : Typ
   pub moved : ChangesFrom (nat_lt w.raft.commit (step_of w event).node.snapshot.index) w.raft (step_of w event).node batch
   pub is : v ≡ record w { raft = (step_of w event).node; snap = snap_by w event; mail = all_posted w.mail posted }
 
--- Raft was told servers, if any.
+-- Raft was given servers, if any.
 abbrev pub ExactTold : Option (List Server) → Core → Core → Type 0
 ExactTold None w v = v ≡ w
 ExactTold (Some servers) w v = (batch : Option ℕ) × ExactStep (due.Servers servers) batch w v
@@ -74,7 +74,7 @@ is_follower Leader = false
 is_follower Candidate = false
 is_follower Follower = true
 
--- a node that follows is told the current servers, where they may be others
+-- a node that follows is given the current servers, if they may be others
 abbrev pub told_behind : Bool → Core → Option (List Server)
 told_behind others w = cond (others && is_follower w.raft.role) (Some (last_servers w.members)) None
 
@@ -107,7 +107,7 @@ puts (due.Transfer to) w = false
 puts (due.Snapped at) w = false
 puts (due.Servers servers) w = false
 
--- what the snapshot brings, where it can be taken; else its message counts as lost
+-- what the snapshot brings, if it can be taken; else its message counts as lost
 abbrev pub brings : Core → Option Snapshot → Option NodeSnapshot
 brings w None = None
 brings w (Some snapshot) = offered_to w.files.names (snapshot_in snapshot.bytes)
@@ -179,11 +179,11 @@ abbrev pub ExactMessage : Meaning → EngineKind → ℕ → Result Request MsgF
 ExactMessage m kind conn (Ok request) w v answers = ExactRequest m kind conn request w v answers
 ExactMessage m kind conn (Err fault) w v answers = (v ≡ replied conn (failure (unread_cause fault) ∷ []) w) × (answers ≡ [])
 
--- the connection waits for no query, and gets a turn behind the others
+-- the connection waits for no query, and gets a turn after the others
 abbrev pub resuming : ℕ → Core → Core
 resuming conn w = record w { sessions = without_later w.sessions conn; turns = w.turns ++ conn ∷ [] }
 
--- A query that is yet to be answered is run.
+-- A query that waits for its answer is run.
 pub record ExactWaitingQuery (m : Meaning) (kind : EngineKind) (conn : ℕ) (w v : Core) (answers : List Answer) : Type 0 where
   pub gate : Gateway
   pub plain : plain_gate gate ≡ w.sessions
@@ -231,7 +231,7 @@ abbrev pub ExactDue : List RaftEvent → Core → Core → Bool → Type 0
 ExactDue [] w v more = (v ≡ w) × (more ≡ false)
 ExactDue (event ∷ rest) w v more = ExactOwnStep event (record w { due = rest }) v × (more ≡ true)
 
--- the connection whose bytes came; where there is none, nothing is left
+-- the connection whose bytes came; without one, nothing is left
 abbrev pub OnHeard : Option ℕ → Core → Core → Bool → Type 0
 OnHeard None w v more = (v ≡ w) × (more ≡ false)
 OnHeard (Some conn) w v more = (v ≡ closing_heard conn w) × (more ≡ true)
@@ -271,21 +271,21 @@ ExactTurn m kind w v more answers = OnDue m kind w.due w v more answers
 abbrev pub UnlinkedTurn : Meaning → EngineKind → Core → Core → Bool → List Answer → Type 0
 UnlinkedTurn m kind w v more answers = w.links ≡ [] → ExactTurn m kind w v more answers
 
--- So many turns behind which something is left, and then one behind which nothing is.
+-- This many turns after which something is left, and then one after which nothing is.
 abbrev pub RunsIn : ℕ → Meaning → EngineKind → Core → Core → List Answer → Type 0
 RunsIn zero m kind w v answers = UnlinkedTurn m kind w v false answers
 RunsIn (suc turns) m kind w v answers =
     (mid : Core) × (first : List Answer) × (rest : List Answer) × (answers ≡ first ++ rest) × UnlinkedTurn m kind w mid true first ×
     RunsIn turns m kind mid v rest
 
--- Turns up to one behind which nothing is left.
+-- Turns up to one after which nothing is left.
 pub record ExactTurns (m : Meaning) (kind : EngineKind) (w v : Core) (answers : List Answer) : Type 0 where
   pub turns : ℕ
   pub are : RunsIn turns m kind w v answers
 
 -- ---- a step
 
--- its event is given to clients, or happens at Raft; what a reader tells is not told here
+-- its event is given to clients, or happens at Raft; what a reader answers is not told here
 abbrev pub ExactBegin : Event → Core → Core → List Answer → Type 0
 ExactBegin events.Timeout w v answers = ExactRaft due.Timeout w v × (answers ≡ [])
 ExactBegin events.Beat w v answers = ExactRaft due.Beat w v × (answers ≡ [])

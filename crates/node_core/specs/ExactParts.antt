@@ -38,9 +38,9 @@ pub record ExactTake (makes : Content → Core → Core) (w v : Core) (effect : 
 abbrev pub entered_shown : Content → Core → Core
 entered_shown content w = shown content (entered content w)
 
--- ---- a query that is yet to be answered
+-- ---- a query that waits for its answer
 
--- it is run; where the connection has none, nothing is done
+-- it is run; if the connection has none, nothing is done
 abbrev pub ExactResume : Meaning → EngineKind → ℕ → Core → Core → List Answer → Type 0
 ExactResume m kind conn w v answers = ExactWaitingQuery m kind conn w v answers ⊎ ((later_query (w.sessions.session conn).later ≡ None) × ((v ≡ w) × (answers ≡ [])))
 
@@ -54,7 +54,7 @@ ExactPerform (acts.Lend conn job) w v = Unit {0}
 ExactPerform (acts.Transfer conn to reply) w v = v ≡ giving (due.Transfer to) (record w { replies = w.replies ++ (conn, reply) ∷ [] })
 ExactPerform (acts.Peer conn id reply) w v = Unit {0}
 
--- the message whose turn it is is handled; where there is none, nobody's turn is left
+-- the message whose turn it is is handled; without one, no connection's turn is left
 abbrev pub ExactOffer : Meaning → EngineKind → Option Offer → Core → Core → List Answer → Type 0
 ExactOffer m kind None w v answers = (v ≡ idle w) × (answers ≡ [])
 ExactOffer m kind (Some offer) w v answers = ExactMessage m kind offer.conn (request_of offer.message) (taking offer w) v answers

@@ -17,7 +17,7 @@ pub record ExactLeadershipEnd (event : RaftEvent) (batch : Option ℕ) (w v : Co
   pub steps : ExactStep event batch w mid
   pub is : v ≡ ended mid
 
--- The configurations have followed the log, and where they may be others a node that follows has told them to Raft.
+-- The configurations have followed the log, and if they may be others a node that follows has told them to Raft.
 abbrev pub ExactMembersFollow : Option ℕ → Core → Core → Type 0
 ExactMembersFollow batch w v = ExactTold (told_behind (are_others batch w) (followed batch w)) (followed batch w) v
 
@@ -34,7 +34,7 @@ pub record ExactSnapshot (event : RaftEvent) (w : Core) (a : Applied) : Type 0 w
   pub index : a.index ≡ index_of (offered event)
   pub from : IsFrom state a
 
--- what comes with an event of Raft beside it
+-- what comes together with an event of Raft
 abbrev pub ExactOffers : RaftEvent → Core → Offer → Type 0
 ExactOffers event w offers.Nothing = puts event w ≡ false
 ExactOffers event w (offers.Snapshot a) = ExactSnapshot event w a

@@ -29,7 +29,7 @@ abbrev pub kept_members : List Server → Kept → Configurations
 kept_members servers kept =
     all_changed (first_of servers kept.snap.index) (suc kept.snap.index) (drop (suc kept.snap.index - kept.log.first) kept.log.entries)
 
--- a node of this id and with links and readers or not, over what was kept, with what is applied of it
+-- a node of this id and with peer connections and readers or not, over what was kept, with what is applied of it
 abbrev pub started : ℕ → Bool → Bool → Kept → NodeSnapshot → Core
 started me links readers kept s =
     let raft = loaded true (last_servers (kept_members s.servers kept)) (stored_at kept) in

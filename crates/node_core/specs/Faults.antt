@@ -28,7 +28,7 @@ pub record StepCause {T : Type 0} (before now : ℕ) (result : Result T NodeFaul
   pub never_falls : before ≤ now
   pub failed : result ≡ Err node.DiskFault → Rose before now
 
--- the same of a start
+-- the same for a start
 pub record StartCause {T : Type 0} (before now : ℕ) (result : Result T StartFault) : Type 0 where
   pub never_falls : before ≤ now
   pub failed : result ≡ Err start.DiskFault → Rose before now

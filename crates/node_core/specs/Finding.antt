@@ -36,7 +36,7 @@ pub record Loads (P : Kept → Type 0) (g : NodeFiles) : Type 0 where
   pub is : kept_in g ≡ Loaded kept
   pub holds : P kept
 
--- So it is after each crash, and without one.
+-- This holds after each crash, and without one.
 pub record FindsIn (P : Kept → Type 0) (d : NodeDisk) : Type 0 where
   pub crash : (g : NodeFiles) → Leaves d g → NoChance node_format d g → Loads P g
   pub seen : IsSeen d
@@ -44,7 +44,7 @@ pub record FindsIn (P : Kept → Type 0) (d : NodeDisk) : Type 0 where
 abbrev pub Finds : Bool → (Disk Text → Type 0) → (Kept → Type 0) → Type 0
 Finds tells states P = Known tells states (λ d. FindsIn P (folder d))
 
--- Where the disk kept what Raft was, a part of a step that failed leaves this.
+-- If the disk kept what Raft was, a part of a step that failed leaves this.
 abbrev pub LeavesBy : {T : Type 0} → Bool → (Disk Text → Type 0) → (Disk Text → Type 0) → ReplicaValue → Result T NodeFault → (Kept → Type 0) → Type 0
 LeavesBy tells before after was result P = IsKept tells before was → OnErr result (Finds tells after P)
 
@@ -54,41 +54,41 @@ LeavesBy tells before after was result P = IsKept tells before was → OnErr res
 abbrev pub StopsIn : Setup → List ℕ → Running → raft.Input → Kept → Type 0
 StopsIn setup came old i kept = StopsAt setup old.replica.id came (moment_of old) i kept
 
--- Raft was to be told servers: nothing was kept yet, or it was stopped in that step.
+-- Raft was to be given servers: nothing was kept yet, or it was stopped in that step.
 pub data StopsTelling (setup : Setup) (came : List ℕ) (old : Running) (kept : Kept) : Type 0 where
   untold_yet : kept ≡ kept_of old.replica → StopsTelling setup came old kept
   in_telling : (servers : List raft.Server) → StopsIn setup came old (raft.Local (raft.UseServers servers)) kept → StopsTelling setup came old kept
 
--- so behind the log, by whatever configurations follow it
+-- so after the log, by whatever configurations follow it
 abbrev pub StopsBehind : Setup → List ℕ → Running → Kept → Type 0
 StopsBehind setup came old kept = (c : Configurations) × StopsTelling setup came (record old { members = c }) kept
 
--- An event from outside was stopped: in Raft's step of it, or behind it, where Raft was told servers.
+-- An event from outside was stopped: in Raft's step of it, or after it, where Raft was given servers.
 pub data StopsFollowing (setup : Setup) (old : Running) (event : RaftEvent) (kept : Kept) : Type 0 where
   in_step : StopsIn setup (bytes_with event) old (input_of event) kept → StopsFollowing setup old event kept
   behind_step : (mid : Running) (servers : List raft.Server) → StepsWithoutSnapshot old mid (input_of event) →
       StopsIn setup (bytes_with event) mid (raft.Local (raft.UseServers servers)) kept → StopsFollowing setup old event kept
 
--- A message that brings a snapshot: in Raft's step of it, or behind it.
+-- A message that brings a snapshot: in Raft's step of it, or after it.
 pub data StopsInstalling (setup : Setup) (old : Running) (event : RaftEvent) (kept : Kept) : Type 0 where
   in_install : StopsIn setup (bytes_with event) old (input_of event) kept → StopsInstalling setup old event kept
   behind_install : (message : RaftMessage) (mid : Running) (servers : List raft.Server) → event ≡ events.Message message →
       StepsWithSnapshot setup old mid (bytes_in message.what) (message_value message) →
       StopsIn setup (bytes_in message.what) mid (raft.Local (raft.UseServers servers)) kept → StopsInstalling setup old event kept
 
--- Raft was to be told the servers of a change: nothing was kept yet, or it was stopped in that step, at which the voters may be told.
+-- Raft was to be given the servers of a change: nothing was kept yet, or it was stopped in that step, at which the voters may be told.
 pub data StopsChanging (setup : Setup) (came : List ℕ) (old : Running) (kept : Kept) : Type 0 where
   unchanged_yet : kept ≡ kept_of old.replica → StopsChanging setup came old kept
   in_change : (servers : List raft.Server) → MayBe setup old came (raft.Local (raft.UseServers servers) ∷ []) →
       StopsIn setup came old (raft.Local (raft.UseServers servers)) kept → StopsChanging setup came old kept
 
--- What the node gave Raft itself: before or in the step in which Raft was told servers, or in the step of the first of what is due.
+-- What the node gave Raft itself: before or in the step in which Raft was given servers, or in the step of the first of what is due.
 pub data StopsOwn (setup : Setup) (came : List ℕ) (old : Running) (kept : Kept) : Type 0 where
   before_own : StopsChanging setup came old kept → StopsOwn setup came old kept
   in_own : (mid : Running) (i : raft.Input) (tells : MaybeToldServers old mid) → IsOwn i → IsFirst (moment_of mid) i →
       MayBe setup old came (told_inputs tells ++ i ∷ []) → StopsIn setup came mid i kept → StopsOwn setup came old kept
 
--- An own snapshot, where the servers of the node's configurations are those that are applied.
+-- An own snapshot, if the servers of the node's configurations are those that are applied.
 abbrev pub StopsCompacting : Setup → List ℕ → Running → Kept → Type 0
 StopsCompacting setup came old kept = KnowsServers setup old → StopsIn setup came old (raft.Local (raft.Snapped old.applied.index)) kept
 

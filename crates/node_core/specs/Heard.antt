@@ -1,4 +1,4 @@
--- What a connection of a node has asked: the requests that its bytes spell, in whatever pieces and steps they came.
+-- What a connection of a node has asked: the requests that its bytes encode, in whatever pieces and steps they came.
 use Rattle.std.specs.Prelude.{◌≡◌, ℕ, ◌==◌, false, cond, List, [], ◌++◌, Some, None}
 use Rattle.wire_words.specs.declared.message.Message.{Message}
 use Rattle.wire_words.specs.Stream.{stream, client_limit}
@@ -12,7 +12,7 @@ use Rattle.node_core.specs.Account.{Happens, Brings}
 use Rattle.node_core.specs.Conns.{StreamsOfStep}
 use Rattle.node_core.specs.Values.{clients_in, requests_in}
 
--- The connection is open, and these bytes have come on it. It has asked the requests that those spell which were read, each message of
+-- The connection is open, and these bytes have come on it. It has asked the requests that those encode which were read, each message of
 -- which was taken or waits; all were read, unless one had no room.
 pub record HasHeard (n : Running) (conn : ℕ) (bytes : List ℕ) (asked : List Request) : Type 0 where
   pub connection : Conn
@@ -36,13 +36,13 @@ bytes_by (events.Hangup other) conn = []
 bytes_by (events.Peer message) conn = []
 bytes_by (events.ReadDone other read) conn = []
 
--- A connection that comes by a step, and is open behind it, has asked nothing.
+-- A connection that comes by a step, and is open after it, has asked nothing.
 abbrev pub HeardBegins : Type 0
 HeardBegins =
     (old new : Running) (conn : ℕ) (outs : StepOutputs) (connection : Conn) → StreamsOfStep (events.Connect conn) old new outs → (clients_in old).streams conn ≡ None →
     (clients_in new).streams conn ≡ Some connection → HasHeard new conn [] []
 
--- Behind each step in which it stays open it has asked what this brings, too.
+-- After each step in which it stays open it has asked what this brings, too.
 abbrev pub HeardOn : Type 0
 HeardOn =
     (event : Event) (old new : Running) (conn : ℕ) (outs : StepOutputs) (connection : Conn) (bytes : List ℕ) (asked : List Request) (asks : ℕ → List Request) →

@@ -13,7 +13,7 @@ use Rattle.node_core.specs.Account.{proposals_in, moment_of, Says, BytesAsk}
 use Rattle.node_core.specs.Acts.{messages_by, proposals_by, jobs_by}
 use Rattle.node_core.specs.Values.{clients_in}
 
--- nothing is said, the configurations stay, and there are links where there were
+-- nothing is said, the configurations stay, and there are peer connections where there were
 pub record SaysNothing (old new : Running) : Type 0 where
   pub mail : new.mail ≡ old.mail
   pub replies : new.outs.replies.items ≡ old.outs.replies.items
@@ -29,8 +29,8 @@ gone_by (acts.Lend conn job) k = k
 gone_by (acts.Transfer conn to reply) k = k
 gone_by (acts.Peer conn id reply) k = hung_up k conn
 
--- An act was done: its messages stand behind those that were said, its job behind those that were handed to readers, and its proposal is
--- due behind what was due.
+-- An act was done: its messages follow those that were said, its job after those that were handed to readers, and its proposal is
+-- due after what was due.
 pub record Performed (old new : Running) (act : Act) : Type 0 where
   pub replies : new.outs.replies.items ≡ old.outs.replies.items ++ messages_by act
   pub reads : new.outs.reads.items ≡ old.outs.reads.items ++ jobs_by act
@@ -60,16 +60,16 @@ MayClose old new conn = Stays (moment_of old) (moment_of new) ⊎ HangsUp (momen
 abbrev pub ClosesIfEnded : Running → Running → Type 0
 ClosesIfEnded old new = Stays (moment_of old) (moment_of new) ⊎ ((conn : ℕ) × ((old.heard ≡ Some conn) × MayClose old new conn))
 
--- bytes come on a connection, with these requests behind those that wait
+-- bytes come on a connection, with these requests after those that wait
 abbrev pub ReceivesBytes : Running → Running → ℕ → List ℕ → Type 0
 ReceivesBytes old new conn bytes = (asks : ℕ → List Request) × Hears (moment_of old) (moment_of new) asks × BytesAsk old conn bytes asks
 
--- the configurations stay, and there are links where there were
+-- the configurations stay, and there are peer connections where there were
 pub record StaysBeside (old new : Running) : Type 0 where
   pub members : new.members ≡ old.members
   pub links : new.has_links ≡ old.has_links
 
--- what a reader told was told to the connection, and nothing else; or nothing has changed
+-- what a reader answered was told to the connection, and nothing else; or nothing has changed
 abbrev pub DeliversRead : Running → Running → ℕ → Option Reply → Type 0
 DeliversRead old new conn told =
     (Stays (moment_of old) (moment_of new) × SaysNothing old new)

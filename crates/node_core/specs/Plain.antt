@@ -1,4 +1,4 @@
--- Sessions without the numbers of transactions in the replies that wait: an engine's answer has one, which no client is told.
+-- Sessions without the numbers of transactions in the replies that wait: an engine's answer has one, which no client is sent.
 use Rattle.std.specs.Prelude.{Option, Some, None}
 use Rattle.sql_engine.specs.declared.answer.StatementResult.{StatementResult}
 use Rattle.session_spec.specs.Sessions.{Reply, Refusal, Single, Rows, Kind, Opening, Configuring, Writing, Committing, Querying, Flight, Session, Gateway}

@@ -1,4 +1,4 @@
--- A step of Raft within a turn: what it leaves is kept, what it says is posted, and sessions follow its office.
+-- A step of Raft within a turn: what it leaves is kept, what it says is posted, and sessions follow its leadership.
 use Rattle.std.specs.Prelude.{◌≡◌, ◌≢◌, ◌<◌, ℕ, Bool, true, false, not, ◌&&◌, ◌||◌, ◌==◌, List, [], ◌∷◌, ◌++◌, map, Option, Some, None}
 use Rattle.database_state.specs.Machines.{IsMachine}
 use Rattle.session_spec.specs.Machine.{machine_of}
@@ -31,7 +31,7 @@ use Rattle.node_core.specs.Voters.{Beside, BesideAll}
 
 -- ---- a step
 
--- Raft has made a step of this input, which is kept. Its messages are posted behind those that were, and a snapshot that is sent is the kept one.
+-- Raft has made a step of this input, which is kept. Its messages are posted after those that were, and a snapshot that is sent is the kept one.
 pub record Posts (old new : Running) (i : raft.Input) : Type 0 where
   pub posted : List RaftMessage
   pub steps : RaftSteps old.replica.id (moment_of old) (moment_of new) i (map letter_of posted)
@@ -57,14 +57,14 @@ abbrev pub told_inputs : {old new : Running} → MaybeToldServers old new → Li
 told_inputs (untold e) = []
 told_inputs (told_servers servers l) = raft.Local (raft.UseServers servers) ∷ []
 
--- Behind a step the configurations have followed the log. They stayed; or the node doesn't follow, whose own entries were told before; or
--- Raft was told the current one.
+-- After a step the configurations have followed the log. They stayed; or the node doesn't follow, whose own entries were told before; or
+-- Raft was given the current one.
 pub data ToldServersAfter (old new : Running) : Type 0 where
   same_members : new ≡ old → ToldServersAfter old new
   own_log : new ≡ record old { members = new.members } → old.replica.raft.role ≢ raft.Follower → ToldServersAfter old new
   told_current : KeepsAllButLog (record old { members = new.members }) new (raft.Local (raft.UseServers (last_servers new.members))) → ToldServersAfter old new
 
--- A node tells its Raft the current configuration where it follows.
+-- A node gives its Raft the current configuration where it follows.
 pub data TellsCurrentServers (old new : Running) : Type 0 where
   stays_own : new ≡ old → old.replica.raft.role ≢ raft.Follower → TellsCurrentServers old new
   tells_current : KeepsAllButLog old new (raft.Local (raft.UseServers (last_servers old.members))) → TellsCurrentServers old new
@@ -92,14 +92,14 @@ abbrev pub has_change : List Entry → Bool
 has_change [] = false
 has_change (e ∷ es) = is_change e.kind || has_change es
 
--- The event proposes such an entry, and it isn't one change alone that may be proposed now.
+-- The event proposes an entry that changes servers, and it isn't one change alone that may be proposed now.
 abbrev pub IsUnfit : Running → RaftEvent → Type 0
 IsUnfit n (events.Propose entries) =
     (has_change entries ≡ true)
     × ((entry : Entry) (servers : List raft.Server) → entries ≡ entry ∷ [] → configuration_in entry ≡ Some servers → MayChangeTo n servers → ⊥)
 IsUnfit n event = ⊥
 
--- Before an own step: it is none of a change, and nothing has changed; or a leader may propose its change, of which Raft was told the servers.
+-- Before an own step: it isn't that of a change, and nothing has changed; or a leader may propose its change, of which Raft was given the servers.
 pub data ToldChange (old new : Running) (event : RaftEvent) : Type 0 where
   no_change : IsPlain (input_of event) → new ≡ old → ToldChange old new event
   change_told : (entry : Entry) (servers : List raft.Server) → event ≡ events.Propose (entry ∷ []) → MayChange (seen old) entry servers →
@@ -113,14 +113,14 @@ pub record ProposesFirst (old new : Running) (entries : List Entry) : Type 0 whe
   pub same : SameTerm (moment_of old) (moment_of new)
   pub snap : (kept_of old.replica).snap ≡ (kept_of new.replica).snap
 
--- ---- an office that is lost
+-- ---- a leadership that is lost
 
--- a step has ended the leadership of this office
+-- a step has ended this leadership
 abbrev pub ends_office : Option Held → NodeValue → Bool
 ends_office None h = false
 ends_office (Some office) h = not (is_leader h.role && (office.term == h.term))
 
--- The clients of a leadership that was lost were told, and what was open or in flight has ended.
+-- The clients of a leadership that was lost were told, and what was open or pending has ended.
 pub record LosesLeadership (old new : Running) : Type 0 where
   pub clients : clients_in new ≡ lost_all (clients_in old)
   pub told : new.outs.replies.items ≡ old.outs.replies.items ++ told_all_lost (clients_in old)
@@ -128,7 +128,7 @@ pub record LosesLeadership (old new : Running) : Type 0 where
   pub files : machine_of new.applied.machine ≡ machine_of old.applied.machine
   pub machine : IsMachine new.applied.machine
 
--- What a step left of sessions and service, and who was told.
+-- What a step left of sessions and service, and who was informed.
 pub record FollowsLeadership (old new : Running) : Type 0 where
   pub replies : List (ℕ × Reply)
   pub office : LeadershipFollows (moment_of old) (moment_of new) replies
@@ -164,7 +164,7 @@ pub record StepsWithSnapshot (setup : Setup) (old new : Running) (bytes : List �
 
 -- ---- what a turn of Raft's shows
 
--- An event from outside, without a snapshot: Raft's step, and then it may be told other servers.
+-- An event from outside, without a snapshot: Raft's step, and then it may be given other servers.
 pub record TurnsWithoutSnapshot (old new : Running) (event : RaftEvent) : Type 0 where
   pub mid : Running
   pub follows : StepsWithoutSnapshot old mid (input_of event)
@@ -173,7 +173,7 @@ pub record TurnsWithoutSnapshot (old new : Running) (event : RaftEvent) : Type 0
   pub beside : BesideAll old last (input_of event ∷ told_inputs tells)
   pub fresh : Fresh last new
 
--- A message that brought a snapshot: Raft's step, and then it may be told the snapshot's servers.
+-- A message that brought a snapshot: Raft's step, and then it may be given the snapshot's servers.
 pub record TurnsWithSnapshot (setup : Setup) (old new : Running) (event : RaftEvent) : Type 0 where
   pub message : RaftMessage
   pub event_is : event ≡ events.Message message
@@ -184,7 +184,7 @@ pub record TurnsWithSnapshot (setup : Setup) (old new : Running) (event : RaftEv
   pub beside : Beside setup old last (bytes_in message.what) (raft.Receive (message_value message) ∷ told_inputs tells)
   pub fresh : Fresh last new
 
--- What the node gave Raft itself: a proposal, before which Raft was told the servers that it makes, if any; or a leadership is handed over.
+-- What the node gave Raft itself: a proposal, before which Raft was given the servers that it makes, if any; or a leadership is handed over.
 pub data TakesOwnStep (old new : Running) : Type 0 where
   owns_proposal : (mid last : Running) (entries : List Entry) (tells : MaybeToldServers old mid) → ProposesFirst mid last entries →
       BesideAll old last (told_inputs tells ++ raft.Local (raft.Propose entries) ∷ []) → Fresh last new → TakesOwnStep old new

@@ -1,4 +1,4 @@
--- What a peer has sent on a connection of a node: the messages that its bytes spell, in whatever pieces and steps they came.
+-- What a peer has sent on a connection of a node: the messages that its bytes encode, in whatever pieces and steps they came.
 use Rattle.std.specs.Prelude.{◌≡◌, ◌≢◌, ℕ, false, List, [], ◌∷◌, ◌++◌, Some, None}
 use Rattle.wire_words.specs.declared.message.Message.{Message}
 use Rattle.wire_words.specs.Stream.{fault_in}
@@ -19,7 +19,7 @@ pub record Apart (l : Lines) : Type 0 where
   pub clients : (conn : ℕ) (stream : Conn) → l.streams conn ≡ Some stream → link_on conn l.links ≡ None
   pub once : IsOnce l.links
 
--- So it is where there are none, and stays so by each event and each move.
+-- This holds if there are none, and stays so by each event and each move.
 abbrev pub BeginsApart : Type 0
 BeginsApart = (l : Lines) → l.links ≡ [] → Apart l
 
@@ -29,7 +29,7 @@ EventsStayApart = (event : Event) (k : Clients) (l : Lines) → l.streams ≡ k.
 abbrev pub MovesStayApart : Type 0
 MovesStayApart = (old new : Lines) (move : Move) → MovesBy old new move → Apart old → Apart new
 
--- The connection carries this peer's messages, and these bytes have come on it. So many of the messages that they spell were taken, in order,
+-- The connection carries this peer's messages, and these bytes have come on it. This many of the messages that they encode were taken, in order,
 -- and the others wait.
 pub record Carries (l : Lines) (conn peer : ℕ) (bytes : List ℕ) (taken : List Message) : Type 0 where
   pub stream : Conn
@@ -37,7 +37,7 @@ pub record Carries (l : Lines) (conn peer : ℕ) (bytes : List ℕ) (taken : Lis
   pub whole : stream.full ≡ false
   pub has : PeerHasTaken stream bytes taken
 
--- So it is behind a CONNECT, by all bytes that came on the client's connection, of which all was read;
+-- This holds after a CONNECT, by all bytes that came on the client's connection, of which all was read;
 abbrev pub CarryingBegins : Type 0
 CarryingBegins =
     (old new : Lines) (conn peer : ℕ) (stream : Conn) (bytes : List ℕ) (taken : List Message) (x : TookConnect old new conn peer) → Apart old →
@@ -50,7 +50,7 @@ CarryingHears =
     (k : Clients) (l : Lines) (conn peer : ℕ) (bytes more : List ℕ) (taken : List Message) → l.streams conn ≡ None → Carries l conn peer bytes taken →
     Carries (begun_by (events.Bytes conn more) k l) conn peer (bytes ++ more) taken
 
--- and where a message happens at Raft, it is the next one of its connection, and that connection's peer has sent it.
+-- and if a message happens at Raft, it is the next one of its connection, and that connection's peer has sent it.
 abbrev pub CarryingSends : Type 0
 CarryingSends =
     (old new : Lines) (message : RaftMessage) (conn peer : ℕ) (bytes : List ℕ) (taken : List Message) (x : TookPeerMessage old new message) → Apart old →

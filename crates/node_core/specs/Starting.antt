@@ -45,7 +45,7 @@ pub record AppliesKept (opening : List Server) (snap : Snap) (a : Applied) : Typ
       (lacks : List ℕ → ℕ) × HasApplied opening lacks front a
 
 -- What a start makes of what was kept, with these servers: Raft's part is that which is loaded, and no client is there; it has applied
--- what the snapshot says, has the configurations of the log with the kept entries behind that, and was told the last of them.
+-- what the snapshot says, has the configurations of the log with the kept entries after that, and was given the last of them.
 pub record Begun (opening servers : List Server) (kept : Kept) (n : RuleNode) (a : Applied) : Type 0 where
   pub raft : values.node_of n.raft ≡ loaded true servers (stored_at kept)
   pub coherent : values.IsCoherent n.raft
@@ -61,7 +61,7 @@ pub record Begun (opening servers : List Server) (kept : Kept) (n : RuleNode) (a
       IsOf (read_setup first) (front ++ drop (suc kept.snap.index - kept.log.first) kept.log.entries) n.members
   pub current : servers ≡ last_servers n.members
 
--- that is enough: it stands for each node that has stored what was kept, as it is loaded, and for a life that begins
+-- that is enough: it represents each node that has stored what was kept, as it is loaded, and a life that begins
 abbrev pub BegunStands : Type 0
 BegunStands = (opening servers : List Server) (kept : Kept) (n : RuleNode) (a : Applied) → Begun opening servers kept n a →
     CompletesStart (read_setup opening) kept n servers
@@ -88,11 +88,11 @@ ShowsFront index bytes a = (opening : List Server) (front : List Entry) → leng
 
 -- ---- the disk
 
--- the disk may be loaded again, and stands for the same
+-- the disk may be loaded again, and represents the same
 abbrev pub StaysKept : Disk Text → Disk Text → Type 0
 StaysKept d e = StaysSeen (folder d) (folder e) ⊎ ((s : Open) × ((k : Kept) × IsLoaded s k (folder d) (folder e)))
 
--- the snapshot that is kept up to this index, which isn't 0, is none of a node
+-- the snapshot that is kept up to this index, which isn't 0, isn't a node's
 pub record SnapshotUnread (index : ℕ) (d : Disk Text) : Type 0 where
   pub kept : Kept
   pub reads : kept_in (folder d).read ≡ Loaded kept
@@ -100,7 +100,7 @@ pub record SnapshotUnread (index : ℕ) (d : Disk Text) : Type 0 where
   pub some : 0 < index
   pub unread : snapshot_in kept.snap.bytes ≡ None
 
--- why there is no node over a snapshot that was loaded: there is one, and it is none of a node; or memory ran out
+-- why there is no node over a snapshot that was loaded: there is one, and it isn't a node's; or memory ran out
 abbrev pub IsUnread : ℕ → List ℕ → StartFault → Type 0
 IsUnread index bytes (start.Snapshot at) = (at ≡ index) × (0 < at) × (snapshot_in bytes ≡ None)
 IsUnread index bytes start.NoMemory = Unit {0}

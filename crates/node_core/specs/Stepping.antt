@@ -30,11 +30,11 @@ use Rattle.node_core.specs.Values.{clients_in}
 use Rattle.node_core.specs.Waiting.{HasTurns}
 use Rattle.node_core.specs.Whole.{InOffice}
 
--- Where the disk kept what Raft is before a part of a step, it does so after it, if that ended well.
+-- If the disk kept what Raft is before a part of a step, it does so after it, if that ended well.
 abbrev pub StaysStored : {T : Type 0} → Bool → (Disk Text → Type 0) → (Disk Text → Type 0) → ReplicaValue → ReplicaValue → Result T NodeFault → Type 0
 StaysStored tells before after was now result = IsKept tells before was → OnOk result (IsKept tells after now)
 
--- whatever numbers an engine knows, where none stood for two images none does
+-- whatever numbers an engine knows, if none represented two images none does
 abbrev pub StaysAgreed : Running → Running → Type 0
 StaysAgreed old new = (known : List Known) → clients.Agrees known old.clients old.applied.machine → clients.Agrees known new.clients new.applied.machine
 
@@ -55,14 +55,14 @@ pub record Brings (r : ReplicaValue) (event : RaftEvent) (a : Applied) : Type 0 
   pub shows : (opening : List Server) (front : List Entry) → length front ≡ snapshot.index → SpellsSnapshot (made_by opening front) snapshot.bytes →
       HasApplied opening (commits_of front) front a
 
--- what comes with an event of Raft beside it; of a message that counts as lost nothing is done
+-- what comes together with an event of Raft; of a message that counts as lost nothing is done
 abbrev pub IsOffer : Running → RaftEvent → Offer → Type 0
 IsOffer n event offers.Nothing = PutsNone n.replica event
 IsOffer n event (offers.Snapshot a) = Brings n.replica event a
 IsOffer n event offers.Lost = IsLostBy n event
 
 -- What no step of Raft changes: the configurations of the log, what is applied except for marks, what sessions are told of servers, what
--- is due, and whether there are links.
+-- is due, and whether there are peer connections.
 pub record KeepsRest (old new : Running) : Type 0 where
   pub members : new.members ≡ old.members
   pub index : new.applied.index ≡ old.applied.index
@@ -98,7 +98,7 @@ pub record HasStepped (old new : Running) (event : RaftEvent) (batch : Option �
   pub office : InOffice new.office new.view.serving new.replica.raft
   pub rest : KeepsRest old new
 
--- The configurations have followed the log, and Raft was told the current one where it is another one now.
+-- The configurations have followed the log, and Raft was given the current one if it is another one now.
 pub record HasFollowed (old new : Running) : Type 0 where
   pub whole : IsWhole new.replica
   pub short : HasShortTerm (node_of new.replica.raft)
@@ -109,7 +109,7 @@ pub record HasFollowed (old new : Running) : Type 0 where
   pub office : InOffice new.office new.view.serving new.replica.raft
   pub is : new ≡ record old { replica = new.replica; members = new.members; mail = new.mail }
 
--- Raft was told servers: its log, its snapshot and what is committed stay.
+-- Raft was given servers: its log, its snapshot and what is committed stay.
 pub record HasTold (old new : Running) : Type 0 where
   pub whole : IsWhole new.replica
   pub short : HasShortTerm (node_of new.replica.raft)

@@ -1,4 +1,4 @@
--- What Raft's turns show: an event from outside begins an act, what the node gave Raft is a turn, and an own snapshot is an act of its own.
+-- What Raft's turns show: an event from outside begins an act, what the node gave Raft is a turn, and an own snapshot is its own act.
 use Rattle.std.specs.Prelude.{◌≡◌, ℕ, true, false, List, [], ◌∷◌, Option, None}
 use Rattle.sql_engine.specs.declared.kind.EngineKind.{EngineKind}
 use Rattle.sql_engine.specs.Meanings.{Meaning, Told}
@@ -19,7 +19,7 @@ use Rattle.node_core.specs.Voters.{Beside}
 
 -- ---- turns
 
--- A turn that leaves term, leadership and the kept snapshot, and in which the node is told its voters.
+-- A turn that leaves term, leadership and the kept snapshot, and in which the node is given its voters.
 pub record TurnsInTerm (m : Meaning) (kind : EngineKind) (setup : Setup) (bytes : List ℕ) (joins : Option ℕ) (old new : Running)
     (told_before told_now : Option Told) : Type 0 where
   pub turns : Turns m kind setup bytes joins old new told_before told_now
@@ -49,7 +49,7 @@ pub data BeganStep (m : Meaning) (kind : EngineKind) (setup : Setup) (old new : 
       BeganStep m kind setup old new event told_before told_now
   loses : IsLostBy old event → new ≡ old → told_before ≡ told_now → BeganStep m kind setup old new event told_before told_now
 
--- A message of a peer came on a connection, of a node with links, and its act has begun where only the connections' messages were others;
+-- A message of a peer came on a connection, of a node with peer connections, and its act has begun where only the connections' messages were others;
 -- or nothing came that the rules see.
 pub data TookLetter (m : Meaning) (kind : EngineKind) (setup : Setup) (old new : Running) (told_before told_now : Option Told) : Type 0 where
   came : (message : RaftMessage) (mid : Running) → old.has_links ≡ true → mid ≡ record old { links = mid.links } →

@@ -64,7 +64,7 @@ replica_of n = n.running.replica
 abbrev pub raft_of : Node → raft.Node
 raft_of n = values.node_of (replica_of n).raft
 
--- the servers that Raft was told last
+-- the servers that Raft was given last
 abbrev pub servers_told : Node → List raft.Server
 servers_told n = (replica_of n).raft.servers
 
@@ -84,7 +84,7 @@ peer_connections n = n.running.links.all.items
 abbrev pub kept_by : Node → Kept
 kept_by n = kept_of (replica_of n)
 
--- how often something was kept in the last step
+-- how many times something was kept in the last step
 abbrev pub keeps_of : Node → ℕ
 keeps_of n = (replica_of n).keeps
 
@@ -95,6 +95,6 @@ applied_of n = n.running.applied.index
 abbrev pub databases_of : Node → List Database
 databases_of n = n.running.applied.machine
 
--- whether it has links to other nodes
+-- whether it has peer connections to other nodes
 abbrev pub has_links : Node → Bool
 has_links n = n.running.has_links

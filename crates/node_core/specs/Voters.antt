@@ -1,4 +1,4 @@
--- What a node is told of its voters in a part of a step, and that it has links where it had.
+-- What a node learns of its voters in a part of a step, and that it has peer connections where it had.
 use Rattle.std.specs.Prelude.{◌≡◌, ℕ, suc, ◌-◌, ◌≤◌, List, ◌++◌, length, take, drop, Option, Some, None}
 use Rattle.raft_spec.specs.Log.{Entry}
 use Rattle.raft_spec.specs.Node as raft
@@ -9,17 +9,17 @@ use Rattle.node_spec.specs.Voting.{MayTell, Tells, VotersRest}
 use Rattle.node_core.specs.declared.running.Running.{Running}
 use Rattle.node_core.specs.Values.{seen}
 
--- A part of a step that took in these inputs, in an act with these bytes of a snapshot: the node was told its voters at each of them, and
+-- A part of a step that took in these inputs, in an act with these bytes of a snapshot: the node was given its voters at each of them, and
 -- was told them so after the last.
 pub record Beside (setup : Setup) (old new : Running) (bytes : List ℕ) (inputs : List raft.Input) : Type 0 where
   pub voters : Tells setup old.replica.id bytes (seen old) (seen new) inputs
   pub links : new.has_links ≡ old.has_links
 
--- so it is whatever the servers are with which the cluster was opened, and whatever bytes came with the act
+-- this holds whatever the servers are with which the cluster was opened, and whatever bytes came with the act
 abbrev pub BesideAll : Running → Running → List raft.Input → Type 0
 BesideAll old new inputs = (opening : List Server) (bytes : List ℕ) → Beside (read_setup opening) old new bytes inputs
 
--- the node is told its voters at each of these inputs, by what stands before them alone
+-- the node is given its voters at each of these inputs, by what is before them alone
 abbrev pub MayBe : Setup → Running → List ℕ → List raft.Input → Type 0
 MayBe setup old bytes inputs = MayTell setup old.replica.id bytes (seen old) inputs
 

@@ -45,7 +45,7 @@ IsOutside events.Yield = Unit {0}
 IsOutside (events.Message message) = Unit {0}
 IsOutside event = ⊥
 
--- Who is in an office leads in its term; who is in none doesn't serve.
+-- Who is in a leadership leads in its term; who is in none doesn't serve.
 abbrev pub InOffice : Option Leadership → Bool → NodeValue → Type 0
 InOffice None serving h = serving ≡ false
 InOffice (Some office) serving h = (is_leader h.role ≡ true) × (office.term ≡ h.term)
@@ -64,31 +64,31 @@ pub record Holds (n : Running) : Type 0 where
   pub high : n.applied.index ≤ n.replica.raft.commit
   pub due : AllByRecursion IsOwnDue n.due.items
 
--- ---- the office, between two turns
+-- ---- the leadership, between two turns
 
--- who is in no office doesn't lead
+-- who is in no leadership doesn't lead
 abbrev pub LeadsInOffice : Option Leadership → NodeValue → Type 0
 LeadsInOffice None h = is_leader h.role ≡ false
 LeadsInOffice (Some office) h = Unit {0}
 
--- who is in an office serves in its last phase only
+-- who is in a leadership serves in its last phase only
 abbrev pub ServesLast : Option Leadership → Bool → Type 0
 ServesLast None serving = Unit {0}
 ServesLast (Some office) serving = serves office.phase ≡ false → serving ≡ false
 
--- without an office nothing is open or in flight at the sessions, and nothing is to be proposed
+-- without a leadership nothing is open or pending at the sessions, and nothing is to be proposed
 abbrev pub IsFree : Option Leadership → Moment → Type 0
 IsFree None a = HasEnded a.node.sessions × (a.due ≡ [])
 IsFree (Some office) a = Unit {0}
 
--- Who leads is in an office, and serves in its last phase; and without an office nothing is left of one.
+-- Who leads is in a leadership, and serves in its last phase; and without a leadership nothing is left of one.
 pub record IsLed (n : Running) : Type 0 where
   pub leads : LeadsInOffice n.office n.replica.raft
   pub serves : ServesLast n.office n.view.serving
   pub free : IsFree n.office (moment_of n)
 
 -- Between two turns of a step its sessions are told of these servers, of Raft's term and of its log's last index, and that it serves only
--- in its office.
+-- in its leadership.
 pub record IsGoing (n : Running) : Type 0 where
   pub holds : Holds n
   pub office : InOffice n.office n.view.serving n.replica.raft
@@ -118,7 +118,7 @@ pub record Rests (n : Running) : Type 0 where
 abbrev pub IsSound : Node → Type 0
 IsSound n = n.is_down ≡ false → Rests n.running
 
--- Nothing is left to do: nothing is due at Raft, no message's turn is left, none of a peer waits where there are links, no connection is to
+-- Nothing is left to do: nothing is due at Raft, no message's turn is left, none of a peer waits where there are peer connections, no connection is to
 -- be looked at, and all that is committed is applied.
 pub record IsIdle (n : Running) : Type 0 where
   pub due : n.due.items ≡ []
@@ -127,6 +127,6 @@ pub record IsIdle (n : Running) : Type 0 where
   pub heard : n.heard ≡ None
   pub applied : n.applied.index ≡ n.replica.raft.commit
 
--- no number stands for two images: neither for an engine, nor for the clients' transactions, nor for the databases
+-- no number represents two images: neither for an engine, nor for the clients' transactions, nor for the databases
 abbrev pub Agrees : List Known → Node → Type 0
 Agrees known n = clients.Agrees known n.running.clients n.running.applied.machine

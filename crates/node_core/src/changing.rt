@@ -1,4 +1,4 @@
-//! A leader's change of servers: whether it may be proposed now, and Raft is told its servers first.
+//! A leader's change of servers: whether it may be proposed now, and Raft is given its servers first.
 
 ghost use Rattle.std.specs.Prelude.{◌≡◌, ◌≢◌, ◌++◌, ◌∷◌, true, false, ℕ, List, [], Err, OnOk, IfOk};
 ghost use Rattle.database_state.specs.Machines.{IsMachine};
@@ -72,9 +72,9 @@ fn voters_of(alloc: Global, servers: &[Server]) -> Result<Vec<u64>, AllocError>
 }
 
 impl Running {
-    /// A leader that proposes a change tells Raft its servers first, so that its entry is counted by them.
+    /// A leader that proposes a change gives Raft its servers first, so that its entry is counted by them.
     ///
-    /// `Unfit` comes only where the proposal has a change of servers and isn't one that may be made now: it stands among other
+    /// `Unfit` comes only if the proposal has a change of servers and isn't one that may be made now: it stands among other
     /// entries, its bytes are no servers, the node has not applied each earlier change and an entry of the leader's own term, or
     /// its voters differ from those before it in more than one. Nothing is told then.
     pub(crate) fn tell_change<D: Disk>(

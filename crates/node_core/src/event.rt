@@ -12,9 +12,9 @@ pub struct NodeSpec {
     pub id: u64,
     /// The servers of the cluster before its log had any change. A snapshot and the log say of others.
     pub servers: Servers,
-    /// Whether it has links to other nodes, over which connections come that carry their messages.
+    /// Whether it has peer connections to other nodes, over which connections come that carry their messages.
     pub links: bool,
-    /// Whether readers answer queries beside it.
+    /// Whether readers answer queries concurrently with it.
     pub readers: bool,
     /// How many steps statements may take. A statement that would take more is refused with the code because memory ran
     /// out.
@@ -51,7 +51,7 @@ pub struct NodeState {
     pub term: u64,
     /// What it is in this term.
     pub role: RaftRole,
-    /// The leader of this term, where it knows one.
+    /// The leader of this term, if it knows one.
     pub leader: Option<u64>,
     /// The last index of its log.
     pub last: u64,

@@ -36,7 +36,7 @@ pub enum NodeFault {
     #[error("the node is down")]
     Down,
     /// A client's change of servers isn't one that may be proposed now, though it was let pass: it is none that reads, an earlier one
-    /// is yet to be applied, or its voters differ in more than one.
+    /// has not been applied yet, or its voters differ in more than one.
     #[error("a change of servers may not be proposed now")]
     Unfit,
     /// There is not enough memory, or no number is left for an index, a version or a file.

@@ -7,15 +7,15 @@ ghost use Rattle.node_core.specs.Starting.{BegunStands};
 use client_connection::peer_pieces_are_joined;
 use node_spec::starts_tell_voters;
 
-/// A law: what a start makes of what was kept stands for each node that had stored it, as it is loaded, and for a life that
-/// begins; and it was told the voters that the whole log gives, whose configurations it has.
+/// A law: what a start makes of what was kept represents each node that had stored it, as it is loaded, and a life that
+/// begins; and it was given the voters that the whole log gives, whose configurations it has.
 pub fn starts_stand()
     ensures { BegunStands }
 {
     starts_tell_voters();
 }
 
-/// A law: what a connection has asked of a node, from the step in which it came on, are the requests that all bytes spell which have
+/// A law: what a connection has asked of a node, from the step in which it came on, are the requests that all bytes encode which have
 /// come on it and were read, in whatever pieces and steps they came; all are read, unless one has no room.
 pub fn requests_are_spelled()
     ensures begins { HeardBegins }
@@ -23,7 +23,7 @@ pub fn requests_are_spelled()
 {}
 
 /// A law: each connection is a client's or carries the messages of one peer; and of the latter each message that happens at Raft is
-/// the next one of those that all bytes spell which have come on it, and its peer has sent it, in whatever pieces and steps they came.
+/// the next one of those that all bytes encode which have come on it, and its peer has sent it, in whatever pieces and steps they came.
 pub fn letters_are_spelled()
     ensures apart { BeginsApart × EventsStayApart × MovesStayApart }
     ensures begins { CarryingBegins }

@@ -50,7 +50,7 @@ fn changes_servers(effect: &AppliedEffect) -> bool
     }
 }
 
-/// Applies the next entry. Clients stand over the databases as before, and no number stands for two images where none did.
+/// Applies the next entry. Clients stand over the databases as before, and no number represents two images where none did.
 fn apply(alloc: Global, applied: &mut Applied, entry: &Entry) -> Result<AppliedEffect, AllocError>
     requires room { suc applied.old.index < 2 ^ 64 }
     ensures index { OnOk result (applied.new.index ≡ suc applied.old.index) }
@@ -69,7 +69,7 @@ fn apply(alloc: Global, applied: &mut Applied, entry: &Entry) -> Result<AppliedE
     effect
 }
 
-/// Whether no pages are pending in these databases, which are all of a machine's.
+/// Whether no pages are pending in these databases, which are all of a state machine's.
 fn are_calm(machine: &Machine, databases: &[Database]) -> bool
     requires { databases.now ≡ machine.now }
     ensures calm { result ≡ true → IsCalm (machine_of databases.now) }
@@ -134,7 +134,7 @@ impl Running {
         Ok(effect)
     }
 
-    /// Applies the next entry, and tells what it was.
+    /// Applies the next entry, and says what it was.
     fn apply_entry(&mut self) -> Result<AppliedEffect, NodeFault>
         requires going { IsGoing self.old }
         requires more { self.old.applied.index < self.old.replica.raft.commit }
@@ -191,7 +191,7 @@ impl Running {
         Ok(())
     }
 
-    /// Runs a query whose barrier is applied: right behind the entry that was its barrier, and before any other entry is proposed, so
+    /// Runs a query whose barrier is applied: right after the entry that was its barrier, and before any other entry is proposed, so
     /// its view ends with the log's end. False where none is due, and then nothing has changed.
     pub(crate) fn run_due<E: Engine>(&mut self, engine: &mut E) -> Result<bool, NodeFault>
         requires going { IsGoing self.old }
@@ -213,7 +213,7 @@ impl Running {
             OnOk result (TurnsInTerm (E.meaning (E.kind engine.old)) (E.kind engine.old) setup bytes joins self.old self.new
             (E.told engine.old) (E.told engine.new)) }
         ensures due { IfOk result (λ more. more ≡ is_some (first_due (core_of self.old).sessions)) }
-        // The first of those that are due is run, and what came of it is told by the answers of the engine.
+        // The first of those that are due is run, and what came of it is described by the answers of the engine.
         ensures exact { OnOk result (Answered (E.told engine.old) (E.told engine.new)
             (ExactWaitingQueries (E.meaning (E.kind engine.old)) (E.kind engine.old) (first_due (core_of self.old).sessions) (core_of self.old) (core_of self.new))) }
     {
@@ -225,7 +225,7 @@ impl Running {
         Ok(true)
     }
 
-    /// What a leader owes behind an entry: its Undos, or a checkpoint; and it may serve from then on.
+    /// What a leader owes after an entry: its Undos, or a checkpoint; and it may serve from then on.
     fn do_duties(&mut self, effect: &AppliedEffect) -> Result<(), NodeFault>
         requires going { IsGoing self.old }
         requires led { IsLed self.old }
@@ -255,7 +255,7 @@ impl Running {
         self.give(RaftEvent::Propose(entries))
     }
 
-    /// Serves from now on, where its office says so and the node is settled.
+    /// Serves from now on, if its leadership says so and the node is settled.
     fn begin_service(&mut self, serves: bool)
         ensures served { ServesFrom self.old self.new }
         ensures unless { serves ≡ false → self.new ≡ self.old }
@@ -272,7 +272,7 @@ impl Running {
         }
     }
 
-    /// Whether nothing is to be given to Raft, all of the log is applied, and no pages are pending. So it is where an office has come
+    /// Whether nothing is to be given to Raft, all of the log is applied, and no pages are pending. This holds if a leadership has come
     /// to its end; it is looked at once more before the node serves.
     fn is_settled(&self) -> bool
         ensures settled { result ≡ true → IsSettled self.now }

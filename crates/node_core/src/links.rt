@@ -26,7 +26,7 @@ pub(crate) struct Links {
     all: Vec<Link>,
 }
 
-/// What comes of the next message of a link.
+/// What comes of the next message of a peer connection.
 #[derive(Drop)]
 pub(crate) enum Letter {
     /// A message of the peer.
@@ -64,14 +64,14 @@ fn message_of(
     }
 }
 
-/// Whether it is the link of this connection.
+/// Whether it is the peer connection of this connection.
 fn is_of(link: &Link, conn: u64) -> bool
     ensures { result ≡ is_of conn link.now }
 {
     link.conn == conn
 }
 
-/// The place of a connection among links.
+/// The place of a connection among peer connections.
 fn place_of(links: &[Link], conn: u64) -> Option<usize>
     ensures { MatchOption result (link_on conn links.now ≡ None) (FirstAt (is_of conn) links.now) }
 {
@@ -112,7 +112,7 @@ fn next_of(alloc: Global, links: &mut Vec<Link>, me: u64) -> Result<Option<Lette
 }
 
 impl Links {
-    /// No links.
+    /// No peer connections.
     pub(crate) fn new(alloc: Global) -> Links
         ensures { result.all.items ≡ [] }
     {
@@ -157,7 +157,7 @@ impl Links {
         self.all.retain(|link| link.conn != conn);
     }
 
-    /// The next bytes come on a connection. Where it isn't one of these nothing happens.
+    /// The next bytes come on a connection. If it isn't one of these nothing happens.
     pub(crate) fn receive(&mut self, conn: u64, bytes: &[u8]) -> Result<(), AllocError>
         ensures none { self.old.all.items ≡ [] → self.new.all.items ≡ [] }
         ensures heard { OnOk result (self.new.all.items ≡ heard_link conn bytes.now self.old.all.items) }

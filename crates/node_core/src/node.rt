@@ -49,10 +49,10 @@ pub struct Node {
 
 impl Node {
     /// Starts a node over its disk: a follower that has applied its snapshot alone, and knows the configurations of the log
-    /// behind it. No client is there. The servers are those with which the cluster was opened, and may stand together.
+    /// after it. No client is there. The servers are those with which the cluster was opened, and may stand together.
     ///
     /// `Damaged` says what of the disk's files isn't what a node leaves, `Snapshot` that the newest snapshot's bytes are none;
-    /// `DiskFault` comes only where the disk counted one. After an `Err` what was kept is kept, and a start may be tried
+    /// `DiskFault` comes only if the disk counted one. After an `Err` what was kept is kept, and a start may be tried
     /// again.
     pub fn start<D: Disk>(alloc: Global, spec: NodeSpec, disk: &mut D) -> Result<Node, StartFault>
         requires opening { IsConfiguration spec.servers }
@@ -60,11 +60,11 @@ impl Node {
         ensures stands { IfOk result (λ node. CompletesStart (read_setup spec.servers) (kept_by node) (node_of node) (servers_told node)) }
         ensures id { IfOk result (λ node. (replica_of node).raft.id ≡ spec.id) }
         ensures links { IfOk result (λ node. has_links node ≡ spec.links) }
-        // No connection carries a peer's messages, so the closes of its steps are those of a node without links where it has none.
+        // No connection carries a peer's messages, so the closes of its steps are those of a node without peer connections where it has none.
         ensures unlinked { IfOk result (StartsUnlinked spec.links) }
         ensures sound { IfOk result IsSound }
         ensures up { IfOk result IsUp }
-        // No number stands for two images, for an engine that knows none.
+        // No number represents two images, for an engine that knows none.
         ensures agrees { IfOk result (Agrees []) }
         ensures keeps { IfOk result (λ node. keeps_of node ≡ 0) }
         ensures cause { StartCause (D.faults disk.old) (D.faults disk.new) result }
@@ -81,10 +81,10 @@ impl Node {
         })
     }
 
-    /// One step. What it answers may be said, as all that stands behind it is kept.
+    /// One step. What it answers may be said, as all that it depends on is kept.
     ///
-    /// After an `Err` the node is down, and each later step answers `Down`. The disk then keeps what stands after a part of
-    /// what the step does. `DiskFault` comes only where the disk counted one.
+    /// After an `Err` the node is down, and each later step answers `Down`. The disk then keeps what is after a part of
+    /// what the step does. `DiskFault` comes only if the disk counted one.
     pub fn step<D: Disk, E: Engine>(
         &mut self,
         event: Event,
@@ -92,7 +92,7 @@ impl Node {
         engine: &mut E,
     ) -> Result<StepOutputs, NodeFault>
         requires sound { IsSound self.old }
-        // No number stands for two images, for the engine, the transactions and the databases; and so it is afterwards.
+        // No number represents two images, for the engine, the transactions and the databases; and this holds afterwards.
         requires agrees { IsUp self.old → Agrees (E.known engine.old) self.old }
         // What of connections' bytes is read and taken, and which are closed.
         ensures conns { IfOk result (λ outs. StreamsOfStep event self.old.running self.new.running outs) }
@@ -111,7 +111,7 @@ impl Node {
         ensures acts { (opening : List ServerValue) →
             IfOk result (λ outs. AccountsForStep (E.meaning (E.kind engine.old)) (E.kind engine.old) (read_setup opening) self.old.running self.new.running event outs
             (E.told engine.old) (E.told engine.new)) }
-        // Where it fails, a load finds what the acts of the rules left, if the disk kept what Raft was.
+        // If it fails, a load finds what the acts of the rules left, if the disk kept what Raft was.
         ensures stops { (opening : List ServerValue) → IsUp self.old →
             LeavesBy D.tells (D.states disk.old) (D.states disk.new) (replica_of self.old) result
             (AccountsForStop (E.meaning (E.kind engine.old)) (E.kind engine.old) (read_setup opening) self.old.running event) }
@@ -203,7 +203,7 @@ impl Node {
         &self.running.applied.machine
     }
 
-    /// How many bytes it holds of what clients have said, and of what they are to be told, as `Clients::held` counts them; those of
+    /// How many bytes it holds of what clients have said, and of what they are to be sent, as `Clients::held` counts them; those of
     /// connections that carry a peer's messages aren't counted.
     pub fn held(&self) -> u64
         ensures { result ≡ all_held self.now.running.clients }
@@ -211,14 +211,14 @@ impl Node {
         self.running.clients.held()
     }
 
-    /// The same of one client's connection; 0 where it is none.
+    /// How many bytes it holds for one client's connection; 0 if the connection isn't a client's.
     pub fn held_bytes_of(&self, conn: u64) -> u64
         ensures { result ≡ held_for conn self.now.running.clients }
     {
         self.running.clients.held_bytes_of(conn)
     }
 
-    /// What it keeps, as a load of the disk would answer it; right behind a start, what that has loaded. Entries and the snapshot
+    /// What it keeps, as a load of the disk would answer it; right after a start, what that has loaded. Entries and the snapshot
     /// share their bytes with the node's.
     pub fn loaded(&self) -> Result<Kept, AllocError>
         requires sound { IsSound self.now }
@@ -228,7 +228,7 @@ impl Node {
         self.running.kept()
     }
 
-    /// How often the last step kept something whole: a term with a vote, a batch of entries, or a snapshot. 0 after a start.
+    /// How many times the last step kept something whole: a term with a vote, a batch of entries, or a snapshot. 0 after a start.
     pub fn keeps(&self) -> u64
         ensures { result ≡ keeps_of self.now }
     {

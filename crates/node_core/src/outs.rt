@@ -10,17 +10,17 @@ use session_gateway::ReadJob;
 use std::alloc::{AllocError, Global};
 use wire_words::WireBytes;
 
-/// What a step says. All that stands behind it is kept.
+/// What a step says. All that follows it is kept.
 #[derive(Drop)]
 pub struct StepOutputs {
     /// Messages to clients, in order, each with the number of its connection.
     pub replies: Vec<(u64, WireBytes)>,
-    /// Connections that are closed behind these replies, and why.
+    /// Connections that are closed after these replies, and why.
     pub closed: Vec<(u64, CloseReason)>,
-    /// Messages to other nodes: Appends and Installs stand behind the others, one a peer, ascending by peer.
+    /// Messages to other nodes: Appends and Installs follow the others, one a peer, ascending by peer.
     pub messages: Vec<RaftMessage>,
     /// Queries for readers, each with the number of its connection. A job has its image: the newest one of its database when
-    /// the query was asked. What the reader tells is to come back as `Event::ReadDone`.
+    /// the query was asked. What the reader answers is to come back as `Event::ReadDone`.
     pub reads: Vec<(u64, ReadJob)>,
 }
 
@@ -40,7 +40,7 @@ impl StepOutputs {
         }
     }
 
-    /// Messages to clients are said, behind the others.
+    /// Messages to clients are said, after the others.
     pub(crate) fn tell_all(&mut self, told: Vec<(u64, WireBytes)>) -> Result<(), AllocError>
         ensures said { OnOk result (self.new.replies.items ≡ self.old.replies.items ++ told.items) }
         ensures rest { self.new ≡ record self.old { replies = self.new.replies } }
@@ -50,7 +50,7 @@ impl StepOutputs {
         Ok(())
     }
 
-    /// A connection is closed behind the others, if there is a reason.
+    /// A connection is closed after the others, if there is a reason.
     pub(crate) fn close(&mut self, conn: u64, reason: Option<CloseReason>) -> Result<(), AllocError>
         ensures said { OnOk result (self.new.closed.items ≡ self.old.closed.items ++ close_of conn reason) }
         ensures rest { self.new ≡ record self.old { closed = self.new.closed } }
@@ -64,7 +64,7 @@ impl StepOutputs {
         }
     }
 
-    /// Messages to one client are said, behind the others.
+    /// Messages to one client are said, after the others.
     pub(crate) fn reply(&mut self, conn: u64, messages: Items<WireBytes>) -> Result<(), AllocError>
         ensures said { OnOk result (self.new.replies.items ≡ self.old.replies.items ++ map (λ (m : List ℕ). (conn, m)) messages) }
         ensures rest { self.new ≡ record self.old { replies = self.new.replies } }

@@ -1,5 +1,5 @@
 //! A node's turn in which an event of Raft happens: what it leaves is kept and posted, and then sessions, databases,
-//! configurations and office follow.
+//! configurations and leadership follow.
 
 ghost use Rattle.std.specs.Prelude.{◌≡◌, ◌≢◌, ◌<◌, ◌==◌, ◌&&◌, suc, true, false, ℕ, List, [], drop, Some, None, Err, OnOk, IfOk, MatchOption, IfErr};
 ghost use Rattle.sql_engine.specs.Meanings.{Stays};
@@ -44,19 +44,19 @@ use raft_on_disk::{RaftStep, twins_keep_alike};
 use sql_engine::Engine;
 use std::alloc::AllocError;
 
-/// What comes with an event of Raft beside it.
+/// What comes together with an event of Raft.
 #[derive(Drop)]
 pub(crate) enum Offer {
     /// Nothing.
     Nothing,
-    /// What a snapshot brings that will stand in the place of entries.
+    /// What a snapshot brings that will be in the place of entries.
     Snapshot(Applied),
     /// A snapshot whose bytes are none, or that lacks a database of the node: the message counts as lost.
     Lost,
 }
 
 impl Running {
-    /// What comes with an event of Raft. The bytes of a snapshot are read only where a step of the event would put it in the
+    /// What comes with an event of Raft. The bytes of a snapshot are read only if a step of the event would put it in the
     /// place of entries.
     fn offered(&self, event: &RaftEvent) -> Result<Offer, AllocError>
         requires going { IsGoing self.now }
@@ -79,7 +79,7 @@ impl Running {
         }
     }
 
-    /// What comes from outside happens at Raft, where nothing is due. A message whose snapshot can't be taken changes nothing,
+    /// What comes from outside happens at Raft, if nothing is due. A message whose snapshot can't be taken changes nothing,
     /// not even the term.
     pub(crate) fn take_raft<D: Disk, E: Engine>(
         &mut self,
@@ -113,7 +113,7 @@ impl Running {
             Offer::Nothing => self.step_raft(event, disk),
             Offer::Snapshot(applied) => {
                 self.step_install(event, applied, disk)?;
-                // The images of other databases stand there under numbers that those of the old ones had.
+                // The images of other databases are there under numbers that those of the old ones had.
                 engine.forget();
                 Ok(())
             }
@@ -121,14 +121,14 @@ impl Running {
         }
     }
 
-    /// A law: the databases are a machine.
+    /// A law: the databases are a state machine.
     pub(crate) fn holds_machine(&self)
         ensures { IsMachine self.now.applied.machine }
     {
         let _databases = self.applied.machine.databases();
     }
 
-    /// One step of Raft, kept and posted. Answers from which index on the log is another one now, where it is.
+    /// One step of Raft, kept and posted. Answers from which index on the log is another one now, if it is.
     pub(crate) fn make_step<D: Disk>(
         &mut self,
         event: RaftEvent,
@@ -141,7 +141,7 @@ impl Running {
         ensures made { IfOk result (λ batch. HasMade self.old self.new event batch) }
         ensures posts { OnOk result (Posts self.old self.new (input_of event)) }
         ensures stored { StaysStored D.tells (D.states disk.old) (D.states disk.new) self.old.replica self.new.replica result }
-        // Where it fails, a load finds what a stop in the step leaves.
+        // If it fails, a load finds what a stop in the step leaves.
         ensures stops { (opening : List ServerValue) → LeavesBy D.tells (D.states disk.old) (D.states disk.new) self.old.replica result
             (StopsIn (read_setup opening) (bytes_with event) self.old (input_of event)) }
         ensures cause { StepCause (D.faults disk.old) (D.faults disk.new) result }
@@ -159,7 +159,7 @@ impl Running {
     }
 
     /// One step of Raft, kept and posted; and sessions hear of a leadership that was lost, before anything else follows. Answers
-    /// from which index on the log is another one now, where it is.
+    /// from which index on the log is another one now, if it is.
     fn keep_step<D: Disk>(
         &mut self,
         event: RaftEvent,
@@ -221,7 +221,7 @@ impl Running {
         Ok(())
     }
 
-    /// The configurations follow the log, which is another one from this index on. False only where they are those that they
+    /// The configurations follow the log, which is another one from this index on. False only if they are those that they
     /// were.
     pub(crate) fn follow_members(&mut self, batch: Option<u64>) -> Result<bool, NodeFault>
         requires stand { AllStand self.old.members }
@@ -241,7 +241,7 @@ impl Running {
         Ok(self.replica.follow(&mut self.members, first)?)
     }
 
-    /// The configurations follow the log, which is another one from this index on; and where others are current now, a node that
+    /// The configurations follow the log, which is another one from this index on; and if others are current now, a node that
     /// follows tells its Raft so.
     fn follow_log<D: Disk>(&mut self, batch: Option<u64>, disk: &mut D) -> Result<(), NodeFault>
         requires whole { IsWhole self.old.replica }
@@ -267,7 +267,7 @@ impl Running {
     }
 
     /// A step of Raft that puts a snapshot in the place of entries: databases, servers and index become the snapshot's, and the
-    /// configurations those of the log behind it. Transactions have ended before, since the images that they read stand in the
+    /// configurations those of the log after it. Transactions have ended before, since the images that they read are in the
     /// old databases.
     fn step_install<D: Disk>(
         &mut self,
@@ -300,7 +300,7 @@ impl Running {
         Ok(())
     }
 
-    /// Databases, servers and index become those of a snapshot that has come, and the configurations those of the log behind it.
+    /// Databases, servers and index become those of a snapshot that has come, and the configurations those of the log after it.
     fn replace(&mut self, applied: Applied) -> Result<(), NodeFault>
         requires whole { IsWhole self.old.replica }
         requires servers { IsConfiguration applied.servers }
@@ -323,7 +323,7 @@ impl Running {
         Ok(())
     }
 
-    /// Raft is told servers.
+    /// Raft is given servers.
     pub(crate) fn tell<D: Disk>(&mut self, servers: Servers, disk: &mut D) -> Result<(), NodeFault>
         requires whole { IsWhole self.old.replica }
         requires short { HasShortTerm (node_of self.old.replica.raft) }
@@ -344,7 +344,7 @@ impl Running {
         Ok(())
     }
 
-    /// A node that follows tells its Raft the current configuration. A leader told it before it proposed the change, and the log of
+    /// A node that follows gives its Raft the current configuration. A leader told it before it proposed the change, and the log of
     /// a candidate doesn't change.
     fn tell_servers<D: Disk>(&mut self, disk: &mut D) -> Result<(), NodeFault>
         requires whole { IsWhole self.old.replica }
@@ -369,7 +369,7 @@ impl Running {
         self.tell(servers, disk)
     }
 
-    /// Leadership that was lost: transactions and proposals end, and their clients are told.
+    /// Leadership that was lost: transactions and proposals end, and their clients are informed.
     fn note_loss(&mut self) -> Result<(), NodeFault>
         requires unserved { self.old.office ≡ None → self.old.view.serving ≡ false }
         requires stand { AreValidOver self.old.clients self.old.applied.machine }
@@ -395,7 +395,7 @@ impl Running {
         self.lose()
     }
 
-    /// Whether the leadership of its office is lost.
+    /// Whether this leadership is lost.
     fn has_lost(&self) -> bool
         ensures is { result ≡ ends_office self.now.office self.now.replica.raft }
         ensures stays { result ≡ false → (self.now.office ≡ None → self.now.view.serving ≡ false) →
@@ -407,7 +407,7 @@ impl Running {
         }
     }
 
-    /// It is in no office, and serves no more.
+    /// It is in no leadership, and serves no more.
     fn leave_office(&mut self)
         ensures { self.new ≡ record self.old { office = None; view = record self.old.view { serving = false } } }
     {
@@ -415,7 +415,7 @@ impl Running {
         self.view.serving = false;
     }
 
-    /// Whether an office is the one of its term, in which it leads.
+    /// Whether a leadership is the one of its term, in which it leads.
     fn is_in(&self, office: Leadership) -> bool
         ensures { result ≡ (is_leader self.now.replica.raft.role && (office.term == self.now.replica.raft.term)) }
     {
@@ -423,7 +423,7 @@ impl Running {
         raft.role.leads() && office.term == raft.term
     }
 
-    /// Transactions and proposals end, where there are any, and no image of a database is read any more.
+    /// Transactions and proposals end, if there are any, and no image of a database is read any more.
     fn lose(&mut self) -> Result<(), NodeFault>
         requires stand { AreValidOver self.old.clients self.old.applied.machine }
         requires turns { HasTurns (clients_in self.old) }
@@ -432,7 +432,7 @@ impl Running {
         ensures stand { OnOk result (AreValidOver self.new.clients self.new.applied.machine) }
         ensures turns { OnOk result (HasTurns (clients_in self.new)) }
         ensures unmarked { OnOk result (HasNoMarks self.new.applied.machine) }
-        // No number stands for two images over any databases then, where no engine knows one.
+        // No number represents two images over any databases then, if no engine knows one.
         ensures anew { OnOk result ((databases : List Database) → IsMachine databases → Agrees [] self.new.clients databases) }
         ensures office { (self.new.office ≡ self.old.office) × (self.new.view.serving ≡ self.old.view.serving) }
         ensures replica { self.new.replica ≡ self.old.replica }

@@ -1,4 +1,4 @@
-//! Queries that readers answer beside a node, and queries that are yet to be answered.
+//! Queries that readers answer concurrently with a node, and queries that wait for their answers.
 
 ghost use Rattle.std.specs.Prelude.{◌≡◌, ◌<◌, ◌++◌, ◌∷◌, ℕ, List, [], Option, length, OnOk, IfErr, MatchOption};
 ghost use Rattle.raft_safety.specs.Members.{Setup};
@@ -128,7 +128,7 @@ impl Running {
         Ok(())
     }
 
-    /// The client of a query is told what its reader tells.
+    /// The client of a query is told what its reader answers.
     fn tell_read(&mut self, conn: u64, read: Read) -> Result<(), NodeFault>
         requires going { IsGoing self.old }
         ensures conns { OnOk result (KeepsConns self.old self.new) }
@@ -150,7 +150,7 @@ impl Running {
         }
     }
 
-    /// Runs the query of a connection that is yet to be answered, if there is one.
+    /// Runs the query of a connection that waits for its answer, if there is one.
     #[tactic(auto, using(crate::proofs::Waiting::resumed_turns))]
     pub(crate) fn run_later<E: Engine>(
         &mut self,

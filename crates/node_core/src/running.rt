@@ -25,15 +25,15 @@ pub(crate) struct Running {
     pub(crate) members: Members,
     pub(crate) applied: Applied,
     pub(crate) clients: Clients,
-    /// Connections that carry the messages of peers, and whether there are any at all: a node without links takes none from them.
+    /// Connections that carry the messages of peers, and whether there are any at all: a node without peer connections takes none from them.
     pub(crate) links: Links,
     pub(crate) has_links: bool,
-    /// Whether readers answer queries beside it, and the connections whose queries are at readers.
+    /// Whether readers answer queries concurrently with it, and the connections whose queries are at readers.
     pub(crate) has_readers: bool,
     pub(crate) lent: Vec<u64>,
     /// What it is for its sessions.
     pub(crate) view: View,
-    /// Its office while it leads.
+    /// Its leadership while it leads.
     pub(crate) office: Option<Leadership>,
     /// Events of Raft that are due, in order: the event of a step, and what the node itself gives Raft.
     pub(crate) due: VecDeque<RaftEvent>,
@@ -44,7 +44,7 @@ pub(crate) struct Running {
     pub(crate) mail: Outgoing,
 }
 
-/// The index behind this one. There is no memory for so many entries that there is none.
+/// The index after this one. Memory can't hold as many entries as would leave none.
 pub(crate) fn one_more(index: u64) -> Result<u64, AllocError>
     ensures { IfOk result (λ next. next ≡ suc index) }
 {

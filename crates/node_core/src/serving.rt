@@ -38,7 +38,7 @@ use sql_engine::Engine;
 use wire_words::WireBytes;
 
 impl Running {
-    /// Gives Raft an event, behind those that are due.
+    /// Gives Raft an event, after those that are due.
     pub(crate) fn give(&mut self, event: RaftEvent) -> Result<(), NodeFault>
         requires due { IsOwnDue event }
         requires going { IsGoing self.old }
@@ -55,7 +55,7 @@ impl Running {
         Ok(())
     }
 
-    /// A client connects; it is closed again where no session is left for it. Where the number is taken nothing happens.
+    /// A client connects; it is closed again where no session is left for it. If the number is taken nothing happens.
     #[tactic(auto, using(crate::proofs::Waiting::came_turns))]
     pub(crate) fn connect(&mut self, conn: u64) -> Result<(), NodeFault>
         requires going { IsGoing self.old }
@@ -125,7 +125,7 @@ impl Running {
         self.databases_stand();
     }
 
-    /// Takes the next message of a peer, where the node has links: it happens at Raft, or its connection is closed. False where
+    /// Takes the next message of a peer, if the node has peer connections: it happens at Raft, or its connection is closed. False where
     /// none waits.
     pub(crate) fn take_letter<D: Disk, E: Engine>(
         &mut self,
@@ -194,7 +194,7 @@ impl Running {
             (E.told engine.old) (E.told engine.new)) }
         ensures sessions { IfOk result (λ more. more ≡ false → (clients_in self.new).sessions ≡ (clients_in self.old).sessions) }
         ensures offers { IfOk result (λ more. more ≡ is_some (next_offer (clients_at (core_of self.old)))) }
-        // Whose turn it is, and what came of the message is told by the answers of the engine.
+        // Whose turn it is, and what came of the message is described by the answers of the engine.
         ensures exact { OnOk result (Answered (E.told engine.old) (E.told engine.new)
             (ExactOffer (E.meaning (E.kind engine.old)) (E.kind engine.old) (next_offer (clients_at (core_of self.old))) (core_of self.old) (core_of self.new))) }
         ensures moves { OnOk result (MovesLines self.old self.new []) }
@@ -220,7 +220,7 @@ impl Running {
         self.view.id
     }
 
-    /// A law: the databases are those of a machine.
+    /// A law: the databases are those of a state machine.
     pub(crate) fn databases_stand(&self)
         ensures { IsMachine self.now.applied.machine }
     {

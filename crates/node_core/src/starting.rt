@@ -42,7 +42,7 @@ use std::collections::VecDeque;
 /// How many of Raft's events there is room for from the start.
 const DUE_ROOM: usize = 4;
 
-/// What the bytes of a node's snapshot up to an index bring; a fault where they are none.
+/// What the bytes of a node's snapshot up to an index bring; a fault if they are none.
 fn restored(alloc: Global, index: u64, bytes: &[u8]) -> Result<Applied, StartFault>
     requires some { 0 < index }
     ensures restored { IfOk result (IsRestored index bytes.now) }

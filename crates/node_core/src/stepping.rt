@@ -54,7 +54,7 @@ impl Running {
         ensures cause { StepCause (D.faults disk.old) (D.faults disk.new) result }
         ensures runs { result ≢ Err fault.Down }
         ensures engine { Stays (E.kind engine.old) (E.kind engine.new) (E.refused_openings engine.old) (E.refused_openings engine.new) }
-        // Where it fails, a load finds what the acts of the rules left, if the disk kept what Raft was.
+        // If it fails, a load finds what the acts of the rules left, if the disk kept what Raft was.
         ensures stops { (opening : List ServerValue) →
             LeavesBy D.tells (D.states disk.old) (D.states disk.new) self.old.replica result
             (AccountsForStop (E.meaning (E.kind engine.old)) (E.kind engine.old) (read_setup opening) self.old event) }
@@ -133,12 +133,12 @@ impl Running {
         ensures turns { OnOk result ((clients_in self.new).turns ≡ []) }
         ensures heard { OnOk result (self.new.heard ≡ None) }
         ensures led { OnOk result (IsLed self.new) }
-        // A step that is under way is so behind it.
+        // A step that is under way is so after it.
         ensures on { (opening : List ServerValue) (start : RunningValue) (event : EventValue) (told : Option Told) →
             Underway (E.meaning (E.kind engine.old)) (E.kind engine.old) (read_setup opening) start self.old event told (E.told engine.old) →
             OnOk result (Underway (E.meaning (E.kind engine.old)) (E.kind engine.old) (read_setup opening) start self.new event told (E.told engine.new)) }
         ensures ends { OnOk result (MayEnd (moment_of self.new)) }
-        // Where it fails, a load finds what the acts of the rules left, if the disk kept what Raft was.
+        // If it fails, a load finds what the acts of the rules left, if the disk kept what Raft was.
         ensures stops { (opening : List ServerValue) (start : RunningValue) (event : EventValue) (told : Option Told) →
             Underway (E.meaning (E.kind engine.old)) (E.kind engine.old) (read_setup opening) start self.old event told (E.told engine.old) →
             LeavesBy D.tells (D.states disk.old) (D.states disk.new) self.old.replica result
@@ -158,7 +158,7 @@ impl Running {
 
     /// Does the first of what there is: an event of Raft that is due, an entry to apply, a query whose barrier is applied, a
     /// client's message, a snapshot to take, a peer's message, a connection to close. So nothing is decided for a client while an
-    /// event of Raft is due or an entry may be applied; and a peer's message is taken where the one before it has come to its end,
+    /// event of Raft is due or an entry may be applied; and a peer's message is taken where the one before it has ended,
     /// as if it had come alone. False where there is nothing.
     fn turn<D: Disk, E: Engine>(&mut self, disk: &mut D, engine: &mut E) -> Result<bool, NodeFault>
         requires going { IsGoing self.old }
@@ -171,14 +171,14 @@ impl Running {
         ensures agrees { OnOk result (Agrees (E.known engine.new) self.new.clients self.new.applied.machine) }
         ensures engine { Stays (E.kind engine.old) (E.kind engine.new) (E.refused_openings engine.old) (E.refused_openings engine.new) }
         ensures led { OnOk result (IsLed self.new) }
-        // Where nothing is left, nothing is due, and all that is committed is applied.
+        // If nothing is left, nothing is due, and all that is committed is applied.
         ensures idle { IfOk result (λ more. more ≡ false → IsIdle self.new) }
-        // A step that is under way is so behind it.
+        // A step that is under way is so after it.
         ensures on { (opening : List ServerValue) (start : RunningValue) (event : EventValue) (told : Option Told) →
             Underway (E.meaning (E.kind engine.old)) (E.kind engine.old) (read_setup opening) start self.old event told (E.told engine.old) →
             OnOk result (Underway (E.meaning (E.kind engine.old)) (E.kind engine.old) (read_setup opening) start self.new event told (E.told engine.new)) }
         ensures ends { IfOk result (λ more. more ≡ false → MayEnd (moment_of self.new)) }
-        // Where it fails, a load finds what the acts of the rules left, if the disk kept what Raft was.
+        // If it fails, a load finds what the acts of the rules left, if the disk kept what Raft was.
         ensures stops { (opening : List ServerValue) (start : RunningValue) (event : EventValue) (told : Option Told) →
             Underway (E.meaning (E.kind engine.old)) (E.kind engine.old) (read_setup opening) start self.old event told (E.told engine.old) →
             LeavesBy D.tells (D.states disk.old) (D.states disk.new) self.old.replica result
@@ -217,12 +217,12 @@ impl Running {
         ensures engine { Stays (E.kind engine.old) (E.kind engine.new) (E.refused_openings engine.old) (E.refused_openings engine.new) }
         ensures led { OnOk result (IsLed self.new) }
         ensures idle { IfOk result (λ more. more ≡ false → IsIdle self.new) }
-        // A step that is under way is so behind it.
+        // A step that is under way is so after it.
         ensures on { (opening : List ServerValue) (start : RunningValue) (event : EventValue) (told : Option Told) →
             Underway (E.meaning (E.kind engine.old)) (E.kind engine.old) (read_setup opening) start self.old event told (E.told engine.old) →
             OnOk result (Underway (E.meaning (E.kind engine.old)) (E.kind engine.old) (read_setup opening) start self.new event told (E.told engine.new)) }
         ensures ends { IfOk result (λ more. more ≡ false → MayEnd (moment_of self.new)) }
-        // Where it fails, a load finds what the acts of the rules left, if the disk kept what Raft was.
+        // If it fails, a load finds what the acts of the rules left, if the disk kept what Raft was.
         ensures stops { (opening : List ServerValue) (start : RunningValue) (event : EventValue) (told : Option Told) →
             Underway (E.meaning (E.kind engine.old)) (E.kind engine.old) (read_setup opening) start self.old event told (E.told engine.old) →
             LeavesBy D.tells (D.states disk.old) (D.states disk.new) self.old.replica result

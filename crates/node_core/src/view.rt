@@ -68,7 +68,7 @@ pub(crate) fn starting_view(
     }
 }
 
-/// Adds the id of a peer, where its log is known to reach a leader's last index.
+/// Adds the id of a peer, if its log is known to reach a leader's last index.
 fn add_even(even: &mut Vec<u64>, replica: &Replica, server: &Server) -> Result<(), AllocError>
     ensures { OnOk result (even.new.items ≡ even.old.items ++ evens (node_of replica.now.raft) (server.now ∷ [])) }
 {

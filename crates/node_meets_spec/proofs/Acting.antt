@@ -60,7 +60,7 @@ pub record ComesSo (m : Meaning) (kind : EngineKind) (r : Run) (n : ℕ) (begin 
   pub reads : ReadsJob m kind r n came
 
 module _ (mean : Meaning) (kind : EngineKind) (r : Run) (n : ℕ) (x : Taken) where
-  -- nothing comes to Raft, and no connection
+  -- nothing reaches Raft, and no connection
   came_none : (begin : Begin) (own : List raft.Input) → AllByRecursion IsOwn own → x.inputs ≡ own → x.joins ≡ None → x.read ≡ None → NoneAsks x.asks → ComesSo mean kind r n begin x
   came_none begin own each is joins read asks = record {
     came = nothing;
@@ -124,7 +124,7 @@ module _ (mean : Meaning) (kind : EngineKind) (r : Run) (n : ℕ) (x : Taken) wh
     reads = tells;
   }
 
-  -- a reader tells something, or gives its query back
+  -- a reader answers something, or gives its query back
   came_read : (begin : Begin) (conn : ℕ) (o : Option Reply) → ReadTells mean kind r n conn o → (own : List raft.Input) → AllByRecursion IsOwn own → x.inputs ≡ own → x.joins ≡ None → x.read ≡ told_of conn o → NoneAsks x.asks → ComesSo mean kind r n begin x
   came_read begin conn None tells own each is joins read asks = came_none begin own each is joins read asks
   came_read begin conn (Some reply) tells own each is joins read asks = came_so begin (Reads conn reply) tells (λ added. refl) own each is joins read asks

@@ -71,6 +71,6 @@ at_letter : (m : RaftMessage) (xs : List RaftMessage) → In m xs → (j : ℕ) 
 at_letter m [] h = absurd h
 at_letter m (x ∷ xs) h = ⊎_elim (λ e. (0, ap (λ (z : RaftMessage). Some (letter_of z)) (sym e))) (λ r. let a = at_letter m xs r in (suc a.0, a.1)) h
 
--- each message that is sent is among the letters of what was posted
+-- each message that is sent is among the peer messages of what was posted
 pub sent_among : (posted : List RaftMessage) (k : ℕ) (m : RaftMessage) → slice_get (sent (all_posted no_mail posted)) k ≡ Some m → (j : ℕ) × (slice_get (map letter_of posted) j ≡ Some (letter_of m))
 sent_among posted k m e = at_letter m posted (⊎_elim (λ a. absurd a) (λ b. b) (in_all m no_mail posted (in_at (sent (all_posted no_mail posted)) k m e)))

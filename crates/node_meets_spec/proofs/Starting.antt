@@ -1,4 +1,4 @@
--- Starts and crashes are events of a run; and what a disk stands for between them.
+-- Starts and crashes are events of a run; and what a disk represents between them.
 use Rattle.std.proofs.Common.{◌≡◌, ◌⊎◌, inl, inr, ℕ, [], ◌∷◌, refl, sym, ap, ◌∙◌, subst, arith}
 use Rattle.std.specs.Prelude.{Ok, Err, min}
 use Rattle.sql_engine.specs.declared.kind.EngineKind.{EngineKind}
@@ -37,7 +37,7 @@ use Rattle.node_meets_spec.specs.Starts.{StartsRun, StartStopsRun, StartsKeep, C
 -- ---- events of a run
 
 module _ (m : Meaning) (kind : EngineKind) (setup : Setup) (r : Run) (n : ℕ) (place : Place) (e : Event) where
-  -- an event after which the place stands so, and that says nothing
+  -- an event after which the place is so, and that says nothing
   abbrev pub leads_by : Holds m kind setup r e → happens r e ≡ with_place r n place no_jobs [] [] → Leads m kind setup r n place [] []
   leads_by h is = record {
     events = e ∷ [];
@@ -110,7 +110,7 @@ module _ (P : Outcome → Type 0) where
     seen = rest_seen d e crashed;
   }
 
--- it stands for what it might have left
+-- it represents what it might have left
 may_have : (d : Disk Text) → IsSeen (folder d) → StandsFor (MayHave (folder d)) (folder d)
 may_have d seen = record { crash = λ g left fair. record { files = g; left = left; fair = fair; is = refl }; seen = seen }
 

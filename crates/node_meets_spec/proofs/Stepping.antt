@@ -31,7 +31,7 @@ use Rattle.node_meets_spec.specs.Steps.{Leads, used_in, StaysUp, StepRuns, Steps
 use Rattle.node_meets_spec.proofs.Sending.{sent_among}
 use Rattle.node_meets_spec.proofs.Acting.{EventHolds, act_holds, stop_holds}
 
--- ---- letters stay
+-- ---- peer messages stay
 
 pub get_front : (xs ys : List Letter) (k : ℕ) (l : Letter) → slice_get xs k ≡ Some l → slice_get (xs ++ ys) k ≡ Some l
 get_front [] ys k l e = cc

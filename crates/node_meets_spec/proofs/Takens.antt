@@ -23,7 +23,7 @@ NoneReceived [] = Unit {0}
 NoneReceived (raft.Local local ∷ is) = NoneReceived is
 NoneReceived (raft.Receive m ∷ is) = ⊥
 
--- One is taken in as the other: of the bytes of a snapshot it matters only where a message is among what is taken in.
+-- One is taken in as the other: of the bytes of a snapshot it matters only if a message is among what is taken in.
 pub record AsTaken (x y : Taken) : Type 0 where
   pub inputs : x.inputs ≡ y.inputs
   pub bytes : (x.bytes ≡ y.bytes) ⊎ NoneReceived x.inputs

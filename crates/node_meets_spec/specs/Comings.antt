@@ -1,4 +1,4 @@
--- What comes to a node of a run where an act of a step begins.
+-- What reaches a node of a run where an act of a step begins.
 use Rattle.std.specs.Prelude.{◌≡◌, ℕ, List, [], ◌∷◌, Option, Some, None, slice_get}
 use Rattle.std.specs.List.{AllByRecursion}
 use Rattle.sql_engine.specs.declared.kind.EngineKind.{EngineKind}
@@ -15,18 +15,18 @@ use Rattle.cluster_safety.specs.Runs.{Run, Asks, TellsOf}
 abbrev pub nothing : runs.Comes
 nothing = Asks 0 []
 
--- The message was made in the run, as the letter of this number, and is for this node.
+-- The message was made in the run, as the peer message of this number, and is for this node.
 pub record IsMade (r : Run) (n : ℕ) (m : RaftMessage) : Type 0 where
   pub number : ℕ
   pub is : slice_get r.letters number ≡ Some (letter_of m)
   pub to : m.to ≡ n
 
--- What a reader tells is made of answers over the image of its job; one that gives its query back tells nothing.
+-- What a reader answers is made of answers over the image of its job; one that gives its query back says nothing.
 abbrev pub ReadTells : Meaning → EngineKind → Run → ℕ → ℕ → Option Reply → Type 0
 ReadTells m kind r n conn None = Unit {0}
 ReadTells m kind r n conn (Some reply) = TellsOf m kind (r.jobs n conn) reply
 
--- What comes to a node where an act begins may come in the run.
+-- What reaches a node where an act begins may come in the run.
 abbrev pub Arrives : Meaning → EngineKind → Run → ℕ → Begin → Type 0
 Arrives m kind r n (Happens (events.Peer message)) = IsMade r n message
 Arrives m kind r n (Happens (events.ReadDone conn read)) = ReadTells m kind r n conn (read_named read)
@@ -39,7 +39,7 @@ Arrives m kind r n (Happens (events.Hangup conn)) = Unit {0}
 Arrives m kind r n (Comes message) = IsMade r n message
 Arrives m kind r n (Compacts index) = Unit {0}
 
--- so of an act behind the first one: a message on a connection was made in the run
+-- so of an act after the first one: a message on a connection was made in the run
 abbrev pub ArrivesLater : Run → ℕ → Begin → Type 0
 ArrivesLater r n (Happens event) = ⊥
 ArrivesLater r n (Comes message) = IsMade r n message

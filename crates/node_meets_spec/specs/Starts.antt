@@ -1,4 +1,4 @@
--- Starts and crashes of a node in a run, and what its disk stands for meanwhile.
+-- Starts and crashes of a node in a run, and what its disk represents meanwhile.
 use Rattle.std.specs.Prelude.{◌≡◌, ℕ, List, [], Ok, Err}
 use Rattle.sql_engine.specs.declared.kind.EngineKind.{EngineKind}
 use Rattle.sql_engine.specs.Meanings.{Meaning}
@@ -47,7 +47,7 @@ CrashesRun m kind = (setup : Setup) (past : List Event) (n : ℕ) → Leads m ki
 
 -- ---- the disk
 
--- A disk without files stands for nothing that was kept, whatever a crash leaves.
+-- A disk without files represents nothing that was kept, whatever a crash leaves.
 abbrev pub FirstDisk : Type 0
 FirstDisk = StandsFor (λ o. o ≡ Loaded nothing_kept) (folder no_files)
 
@@ -55,18 +55,18 @@ FirstDisk = StandsFor (λ o. o ≡ Loaded nothing_kept) (folder no_files)
 abbrev pub OpenKeeps : Type 0
 OpenKeeps = (store : Open) (kept : Kept) (d : Disk Text) → HasNew store kept (folder d) → StandsFor (λ o. o ≡ Loaded kept) (folder d)
 
--- So it is after a crash.
+-- This holds after a crash.
 abbrev pub CrashLeavesKept : Type 0
 CrashLeavesKept =
     (store : Open) (kept : Kept) (d e : Disk Text) → HasNew store kept (folder d) → AfterCrash d e → StandsFor (λ o. o ≡ Loaded kept) (folder e)
 
--- The disk of a node that is down stands after a crash for what it might have stood for before, where no checksum matches by chance in
+-- The disk of a node that is down represents after a crash what it might have represented before, if no checksum matches by chance in
 -- what the crash leaves.
 abbrev pub CrashKeeps : Type 0
 CrashKeeps =
     (d e : Disk Text) → IsSeen (folder d) → AfterCrash d e → NoChance node_format (folder d) (folder e).read → StandsFor (MayHave (folder d)) (folder e)
 
--- A node that starts over the disk as it is, or after a crash, has loaded what the disk might have stood for, and keeps it.
+-- A node that starts over the disk as it is, or after a crash, has loaded what the disk might have represented, and keeps it.
 abbrev pub StartFinds : Type 0
 StartFinds =
     (d e f : Disk Text) (node : Node) → IsSeen (folder d) → Begins d e → StartLeaves (Ok node) e f →

@@ -23,8 +23,8 @@ use Rattle.node_meets_spec.specs.Comings.{AllArrive, asks_of}
 
 -- ---- a stretch of a run at one node
 
--- Events whose clauses hold lead from a run to where the node stands so; no other place has changed, and these letters and replies
--- are behind those before.
+-- Events whose clauses hold lead from a run to where the node is so; no other place has changed, and these peer messages and replies
+-- are after those before.
 pub record Leads (m : Meaning) (kind : EngineKind) (setup : Setup) (r : Run) (n : ℕ) (place : Place) (letters : List Letter)
     (replies : List (ℕ × Reply)) : Type 0 where
   pub events : List Event
@@ -62,13 +62,13 @@ pub record StaysUp (n : ℕ) (begins : List Begin) (events : List Event) : Type 
 
 -- ---- a step that ended well
 
--- the messages are among these letters
+-- the messages are among these peer messages
 abbrev pub AreAmong : List RaftMessage → List Letter → Type 0
 AreAmong messages letters = (k : ℕ) (m : RaftMessage) → slice_get messages k ≡ Some m → (j : ℕ) × (slice_get letters j ≡ Some (letter_of m))
 
--- The step is events of the run. All that it says to other nodes is among the run's letters; what it says to clients is what the run
+-- The step is events of the run. All that it says to other nodes is among the run's peer messages; what it says to clients is what the run
 -- said, except for the refusals of messages that read as no request; and what it lends to readers is what the run has handed out. Its
--- engine told the answers that the events use.
+-- engine gave the answers that the events use.
 pub record StepRuns (m : Meaning) (kind : EngineKind) (setup : Setup) (r : Run) (n : ℕ) (new : Running) (begins : List Begin) (outs : StepOutputs)
     (told_before told_now : Option Told) : Type 0 where
   pub letters : List Letter

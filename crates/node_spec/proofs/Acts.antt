@@ -106,7 +106,7 @@ stands_for s c (raft.Append prev commit entries) same f = tt
 stands_for s c (raft.Ack good index) same f = tt
 stands_for s c raft.TimeoutNow same f = tt
 
--- a step in the midst of an event is the last one of an event of its own
+-- a step in the midst of an event is the last one of its own event
 has_front : (vs : Setup) (es : List Event) (n : ℕ) (cs : List Cause) (k : ℕ) → (node_at vs es n).up ≡ true →
     HasFrontOf (steps (member_step vs n) (node_at vs es n) (take (suc k) (inputs n (run vs es).messages cs))) (slice_get (inputs n (run vs es).messages cs) k)
 has_front vs es n cs k up = by (slice_get (inputs n (run vs es).messages cs) k) refl

@@ -56,14 +56,14 @@ take_next k [] e h = absurd cc
 take_next zero (x ∷ l) e h = let same : x ≡ e = cc in ap (λ y. y ∷ []) same
 take_next (suc k) (x ∷ l) e h = ap (λ r. x ∷ r) (take_next k l e h)
 
--- what isn't cut off of a node is what its twin has there
+-- what isn't compacted of a node is what its twin has there
 pub entries_are : (h : NodeValue) (t : Node) → Twin t (node_of h) → (h.base ≡ t.base) × (h.entries ≡ drop t.base t.log)
 entries_are h t twin =
     let base : h.base ≡ t.base = ap (λ (z : Node). z.base) twin.node in
     let log : compacted h.snapshot h.base ++ h.entries ≡ twin.log = ap (λ (z : Node). z.log) twin.node in
     (base, sym (drop_at (compacted h.snapshot h.base) h.entries h.base (length-replicate h.base _)) ∙ ap (drop h.base) log ∙ ap (λ b. drop b twin.log) base ∙ sym twin.same.rest)
 
--- the entry stands in the whole log
+-- the entry is in the whole log
 entry_at : (h : NodeValue) (t : Node) (k : ℕ) (e : Entry) → Twin t (node_of h) → h.base ≤ k → slice_get h.entries (k - h.base) ≡ Some e → slice_get t.log k ≡ Some e
 entry_at h t k e twin low is =
     let r = entries_are h t twin in
@@ -82,7 +82,7 @@ again lacks since m (Does command) = commands_restart_hold lacks since m command
 again lacks since m (Configures servers) = (since, refl)
 again lacks since m Other = (since, refl)
 
--- ---- who is told
+-- ---- who is informed
 
 told_kind : (conn : ℕ) (t : Trail) (f : Flight) (k : Kind) → map told (said_landed conn t f k) ≡ told_to conn (landed_reply k)
 told_kind conn t f Opening = refl
@@ -111,7 +111,7 @@ told_all : (index : ℕ) (trail : ℕ → Trail) (g : Gateway) → map told (sai
 unfolding told_applied
 told_all index trail g = told_each index trail g.session g.conns
 
--- what is told is of the term in which the node serves
+-- what is reported is of the term in which the node serves
 landed_in : (w : Life) (conn : ℕ) (t : Trail) (f : Flight) (k : Kind) → (f.term ≡ w.term) × (w.leads ≡ true) → InTerm w (said_landed conn t f k)
 landed_in w conn t f Opening h = ((λ some. h), tt)
 landed_in w conn t f Configuring h = ((λ some. h), tt)
@@ -194,7 +194,7 @@ applying_goes_holds m kind vs n bytes joins a b replies x = quiet_goes m kind vs
       completes = λ conn o z. record { all = all_same (b.node.waiting conn) (a.node.waiting conn) (x.same.waiting conn); handled = refl };
     })
 
--- ---- sessions in which nothing is in flight
+-- ---- sessions in which nothing is pending
 
 record Ended (g : Gateway) : Type 0 where
   conns : filter (λ (conn : ℕ). (lost (g.session conn)).there) g.conns ≡ g.conns

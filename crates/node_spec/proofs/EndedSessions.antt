@@ -1,4 +1,4 @@
--- Sessions of which nothing is open nor in flight stay so where the node doesn't serve.
+-- Sessions of which nothing is open nor pending stay so if the node doesn't serve.
 use Rattle.std.proofs.Common.{◌≡◌, ℕ, suc, ◌≤◌, Bool, true, false, cond, List, [], ◌∷◌, ◌++◌, length, refl, sym, ap, ◌∙◌, subst, arith}
 use Rattle.std.specs.Prelude.{map, not, ◌&&◌, ◌||◌, ◌==◌, Option, Some, None}
 use Rattle.std.specs.List.{filter}
@@ -55,7 +55,7 @@ filter_short f (x ∷ xs) =
 tail_is : (x : ℕ) (xs ys : List ℕ) → x ∷ xs ≡ x ∷ ys → xs ≡ ys
 tail_is x xs ys e = cc
 
--- a list of which a test keeps all is kept by one that is true where that is
+-- a list of which a test keeps all is kept by one that is true if that is
 filter_wider : (f h : ℕ → Bool) (xs : List ℕ) → filter f xs ≡ xs → ((x : ℕ) → f x ≡ true → h x ≡ true) → filter h xs ≡ xs
 filter_wider f h [] e wide = refl
 filter_wider f h (x ∷ xs) e wide = by (f x) refl (λ q. filter_wider f h xs q wide)

@@ -26,7 +26,7 @@ use Rattle.node_spec.specs.Steps.{TakesIn, told, calls, ArePartOf}
 use Rattle.node_spec.specs.Accounts.{Moment, resting, with_due, StandsAt, Piece, no_piece, taken_by, GoesToEnd, StopsBetween, read_by, LeftBetween, StopsWithin}
 use Rattle.node_spec.proofs.Stretches.{halves, keep_join, fits_join, part_before, part_of_part, part_none, tail_is}
 
--- a node at rest stands at this moment for what it stands for
+-- a node at rest represents at this moment what it represents
 pub begun : (vs : Setup) (n : rules.Node) (s : Node) (w : Life) → Stands vs n s w → StandsAt vs (resting n) s w
 begun vs n s w x =
     let commit : n.raft.commit ≡ s.commit = ap (λ (z : Node). z.commit) x.twin.node in
@@ -49,7 +49,7 @@ begun vs n s w x =
       kept = x.kept;
     }
 
--- and so the other way, where all is applied and nothing is left to propose
+-- and so the other way, if all is applied and nothing is left to propose
 ended : (vs : Setup) (b : Moment) (s : Node) (w : Life) → b.applied ≡ b.node.raft.commit → b.due ≡ [] → StandsAt vs b s w → Stands vs b.node s w
 ended vs b s w applied due x =
     let commit : b.node.raft.commit ≡ s.commit = ap (λ (z : Node). z.commit) x.twin.node in
@@ -76,7 +76,7 @@ ended vs b s w applied due x =
 said_more : (w : Life) (life : List Doing) (more : List Said) → (lives_on w life).said ≡ w.said ++ more → said_in w life ≡ more
 said_more w life more e = ap (drop (length w.said)) e ∙ drop-append_seam w.said more
 
--- what a reader tells is no input of Raft's
+-- what a reader answers is no input of Raft's
 plain : {vs : Setup} {n : ℕ} {old : rules.Node} {s : Node} {is : List Input} {bytes : List ℕ} {joins : Option ℕ} {read : Option (ℕ × Reply)} (p : Piece) → TakesIn vs n old s is (read_by bytes joins read p) → TakesIn vs n old s is (taken_by bytes joins p)
 plain p t = record { alike = t.alike; front = t.front; kept = t.kept; fronts = t.fronts; twins = t.twins }
 
@@ -112,7 +112,7 @@ kept_same vs kept x k = subst (λ b. KeptIs vs kept (record x { base = b })) (sy
 dropped : (c left was : _) → ArePartOf (c ++ left) was → ArePartOf (c ++ []) was
 dropped c left was h = part_of_part (c ++ []) (c ++ left) was (part_before c [] left (part_none left)) h
 
--- what is due stands behind the log
+-- what is due follows the log
 pub before_due : (term : ℕ) (log : List Entry) (due : List (List Entry)) (k : ℕ) → k ≤ length log → take k (with_due term log due) ≡ take k log
 before_due term log [] k h = refl
 before_due term log (es ∷ due) k h =

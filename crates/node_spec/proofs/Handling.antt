@@ -33,7 +33,7 @@ use Rattle.node_spec.specs.Turns.{KeepsRaft, view_at, gate_after, told_at_once, 
 use Rattle.node_spec.proofs.Moving.{no_inputs, moved, in_term, all_used}
 use Rattle.node_spec.proofs.Stretches.{part_self}
 
--- what comes of it, at what the moment stands for
+-- what comes of it, at what the moment represents
 pub record Comes (vs : Setup) (b : Moment) (s : Node) (w v : Life) (heard : List (ℕ × Reply)) : Type 0 where
   pub said : List Said
   pub stands : StandsAt vs b s v

@@ -64,7 +64,7 @@ same laters w lacks since standing conn statement answers v m g e f h =
       given = ap (λ z. handed_later z (databases w) gate conn statement) e ∙ ap (λ z. handed_later v z gate conn statement) f ∙ ap (λ z. handed_later v (restarted lacks since m) z conn statement) h ∙ r.handed;
     }
 
--- where something comes of it, that is as of a request
+-- if something comes of it, that is as of a request
 resumed_is : (w : Life) (conn : ℕ) (t : Turned) → comes t ≡ true → resumed_by w conn t ≡ called (undue w conn) conn t
 resumed_is w conn (Refused cause) c = refl
 resumed_is w conn Lacks c = absurd cc
@@ -102,7 +102,7 @@ resuming_goes_holds laters m kind vs n bytes joins a b conn replies x = quiet_go
       completes = λ other o z. record { all = all_same (b.node.waiting other) (a.node.waiting other) (x.waiting other); handled = refl };
     })
 
--- ---- a reader tells
+-- ---- a reader answers
 
 pub reading_begins_holds : (m : Meaning) (kind : EngineKind) → ReadingBegins m kind
 unfolding happens

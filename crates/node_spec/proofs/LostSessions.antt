@@ -1,4 +1,4 @@
--- Sessions of which all that was open or in flight has ended.
+-- Sessions of which all that was open or pending has ended.
 use Rattle.std.proofs.Common.{◌≡◌, ℕ, zero, suc, ◌+◌, ◌≤◌, Bool, true, false, cond, List, [], ◌∷◌, ◌++◌, length, refl, sym, ap, ◌∙◌, arith, append-nil}
 use Rattle.std.specs.Prelude.{Option, None}
 use Rattle.std.specs.Option.{option_map}
@@ -62,7 +62,7 @@ lost_silent index trail lacks g [] = refl
 lost_silent index trail lacks g (conn ∷ conns) =
     ap (λ (o : Option Flight). said_by index conn (trail conn) (lost (g.session conn)).hung o ++ said_applied index trail (shifted lacks (on_lost g)).session conns) (lost_flight (g.session conn)) ∙ lost_silent index trail lacks g conns
 
--- So many entries are applied, and all else stays.
+-- This many entries are applied, and all else stays.
 pub record Climbs (m : Meaning) (kind : EngineKind) (logs : ℕ → List Line) (w : Life) (count : ℕ) : Type 0 where
   pub life : List Doing
   pub fits : AllFitIn m kind logs w life

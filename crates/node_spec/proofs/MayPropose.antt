@@ -1,4 +1,4 @@
--- What a request comes to may be proposed.
+-- The outcome of a request may be proposed.
 use Rattle.std.proofs.Common.{◌≡◌, inl, inr, ⊎_elim, ◌<◌, Bool, true, false, List, sym, subst}
 use Rattle.std.specs.Prelude.{Option}
 use Rattle.std.proofs.lemmas.Bool.{leb-false}

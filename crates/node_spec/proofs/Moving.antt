@@ -28,7 +28,7 @@ pub no_inputs : (is : List Input) → AlikeInputs is [] → is ≡ []
 no_inputs [] e = refl
 no_inputs (i ∷ is) e = absurd cc
 
--- a turn in which Raft takes nothing in, and which lends nothing, is a stretch, where the life has such events
+-- a turn in which Raft takes nothing in, and which lends nothing, is a stretch, if the life has such events
 pub quiet_goes : (m : Meaning) (kind : EngineKind) (vs : Setup) (n : ℕ) (bytes : List ℕ) (joins : Option ℕ) (a b : Moment) (asks : ℕ → List Request) (replies : List (ℕ × Reply)) (answers : List Answer) (late : Bool) → b.node.raft ≡ a.node.raft →
     ((s : Node) (w : Life) → StandsAt vs a s w → s.commit ≤ length s.log → Lives m kind vs n joins a b (record { inputs = []; asks = asks; letters = []; replies = replies; jobs = []; answers = answers; late = late }) s w []) → Goes m kind vs n bytes joins a b (record { inputs = []; asks = asks; letters = []; replies = replies; jobs = []; answers = answers; late = late })
 quiet_goes m kind vs n bytes joins a b asks replies answers late raft alone = record {

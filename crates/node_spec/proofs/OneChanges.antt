@@ -151,7 +151,7 @@ stay_role id role last (s ∷ ss) le a =
     let rest = stay_role id role s.id ss (omega arith) a.1 in
     λ i. head i ∷ rest i
 
--- the server of the id stands first
+-- the server of the id is first
 here_role : (id role : ℕ) (s : Server) (ss : List Server) → s.id ≡ id → Ascend s.id ss → with_role id role (s ∷ ss) ≡ changed s role ∷ ss
 here_role id role s ss e a =
     let head = cond-true (s.id == id) (changed s role) s (eq-eqb s.id id e) in
@@ -182,7 +182,7 @@ votes_upto : (b : Bool) (x : ℕ) (xs ys : List ℕ) → length ys ≤ length xs
 votes_upto true x xs ys le = omega arith
 votes_upto false x xs ys le = le
 
--- where no voter is gained there are no more of them
+-- if no voter is gained there are no more of them
 no_more : (id role last : ℕ) (ss : List Server) → Ascend last ss → (role == 0 ≡ true → among (voters ss) id ≡ true) → length (voters (with_role id role ss)) ≤ length (voters ss)
 no_more id role last [] a h = omega arith
 no_more id role last (s ∷ ss) a h = by (s.id == id) refl (λ f. no_more id role s.id ss a.1 f)

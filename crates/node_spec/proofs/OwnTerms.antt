@@ -20,7 +20,7 @@ use Rattle.raft_safety.proofs.Origins.{leaders_add_hold}
 use Rattle.node_spec.specs.Voting.{LeadersOwn}
 use Rattle.node_spec.proofs.VoterSteps.{as_fixed}
 
--- what a node has cut off leaves the terms past the cut
+-- what a node has compacted leaves the terms past the cut
 compact_term : (t : Node) (k : ℕ) → t.base ≤ length t.log → t.base < k → term_at (compact t).log k ≡ term_at t.log k
 unfolding term_at
 compact_term t k low past =

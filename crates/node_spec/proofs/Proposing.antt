@@ -41,7 +41,7 @@ conf_append : (vs : Setup) (c : List Server) (xs ys : List Entry) → configurat
 conf_append vs c [] ys = refl
 conf_append vs c (e ∷ xs) ys = conf_append vs _ xs ys
 
--- where the last change is the applied one, none stands past it
+-- if the last change is the applied one, none is past it
 past_or_none : (vs : Setup) (k : ℕ) (es : List Entry) (at : ℕ) → (changes_from vs k es ≡ []) ⊎ (k ≤ last_from at (changes_from vs k es))
 past_or_none vs k [] at = inl refl
 past_or_none vs k (x ∷ es) at = by (changes vs x) (servers_read (vs.read x.bytes)) (past_or_none vs (suc k) es k) (past_or_none vs (suc k) es at)
@@ -70,7 +70,7 @@ none_later vs log m h same = by (past_or_none vs (suc m.at) (drop m.at log) m.at
         let last : last_from m.at (changes_from vs (suc m.at) (drop m.at log)) ≡ m.at = ap (last_from m.at) (sym h.later) ∙ same in
         absurd (omega (arith, le, last))
 
--- where no change stands past the applied index, the applied configuration is the current one
+-- if no change is past the applied index, the applied configuration is the current one
 current : (vs : Setup) (log : List Entry) (m : Configurations) → IsOf vs log m → m.later ≡ [] → configuration vs log ≡ m.servers
 unfolding configuration
 current vs log m h none =

@@ -113,7 +113,7 @@ pub local_is : (j i : Input) → AlikeInput j i → LeavesLog i → j ≡ i
 local_is (Local local) i alike l = sym alike
 local_is (Receive m) i alike l = absurd (subst LeavesLog alike.1 l)
 
--- ---- a step at what a moment stands for
+-- ---- a step at what a moment represents
 
 -- The node after it, beside the moment before it and the node of the code's after it.
 pub record Stepped (vs : Setup) (me : ℕ) (a : Moment) (s t u : Node) : Type 0 where
@@ -167,7 +167,7 @@ still_kept vs me a b i j letters x s w step keeps stands takes st =
     let was : SnapshotIs vs s b.node.kept.snap.bytes = subst (λ k. SnapshotIs vs s k.bytes) (sym keeps.bytes) stands.kept.bytes in
     kept_stands vs b.node.kept b.node.raft t st.twin step.kept (snapshots_stay vs me a.node s (j ∷ []) x 0 b.node.kept.snap.bytes takes st.low same was)
 
--- ---- what is told where a leadership is lost
+-- ---- what is reported where a leadership is lost
 
 pub told_none : (replies : List (ℕ × Reply)) → NoneWaited (told_all replies)
 told_none [] = tt
@@ -183,7 +183,7 @@ term_of_none w (x ∷ xs) a = let z : x.index ≡ 0 = a.0 in ((λ h. absurd (ome
 
 -- ---- the life of a step
 
--- What happens in a life by a step, and that it stands at the moment after it, where nothing is due.
+-- What happens in a life by a step, and that it is at the moment after it, if nothing is due.
 pub record Ends (m : Meaning) (kind : EngineKind) (logs : ℕ → List Line) (b : Moment) (t : Node) (w : Life) (replies : List (ℕ × Reply)) : Type 0 where
   pub life : List Doing
   pub fits : AllFitIn m kind logs w life
@@ -304,7 +304,7 @@ still_lives m kind vs me joins a b i j letters s w step x st still other due res
       completes = λ conn opened differs. record { all = rest.waiting conn ∙ sym (append-nil (a.node.waiting conn)); handled = refl };
     }
 
--- a stretch of one input, by its life at whatever the moment stands for
+-- a stretch of one input, by its life at whatever the moment represents
 pub one_goes : (m : Meaning) (kind : EngineKind) (vs : Setup) (me : ℕ) (bytes : List ℕ) (joins : Option ℕ) (a b : Moment) (i : Input) (letters : List Letter) (replies : List (ℕ × Reply)) → RaftSteps me a b i letters →
     ((s : Node) (w : Life) (j : Input) → AlikeInput j i → StandsAt vs a s w → TakesIn vs me a.node s (j ∷ []) (taken_by bytes joins (record no_piece { inputs = i ∷ []; letters = letters; replies = replies })) → Told vs me s (j ∷ []) →
     Lives m kind vs me joins a b (record no_piece { inputs = i ∷ []; letters = letters; replies = replies }) s w (j ∷ [])) →
@@ -329,7 +329,7 @@ leaving_goes_holds m kind vs me bytes joins a b i letters l = one_goes m kind vs
     still_lives m kind vs me joins a b i j letters s w l.step x st still other l.due l.rest
     (still_kept vs me a b i j letters (taken_by bytes joins (record no_piece { inputs = i ∷ []; letters = letters })) s w l.step l.snapshot x takes st))
 
--- ---- a message, a timeout or a beat
+-- ---- a message, a timeout or a heartbeat
 
 -- the life with a leadership that is lost first, or without
 pub record Before (m : Meaning) (kind : EngineKind) (logs : ℕ → List Line) (a b : Moment) (t : Node) (w : Life) (lacks : List ℕ → ℕ) (replies : List (ℕ × Reply)) : Type 0 where
@@ -422,7 +422,7 @@ first_of m kind logs vs me a b s t w replies x st (has_none down ended sessions 
     (λ (l : s.term < t.term). loses_first m kind logs a b s t w replies vs x l (sessions ∙ sym ended.ended) serving (told ∙ sym ended.told))
     (same_or_more s.term t.term st.shape.up)
 
--- lists of events that fit, one behind the other
+-- lists of events that fit, one after the other
 pub fit_both : (m : Meaning) (kind : EngineKind) (logs : ℕ → List Line) (w : Life) (xs ys : List Doing) → AllFitIn m kind logs w xs → AllFitIn m kind logs (lives_on w xs) ys → AllFitIn m kind logs w (xs ++ ys)
 fit_both m kind logs w [] ys a b = b
 fit_both m kind logs w (x ∷ xs) ys a b = (a.0, fit_both m kind logs (happens w x) xs ys a.1 b)

@@ -22,7 +22,7 @@ use Rattle.cluster_model.specs.Clusters.{AllFitIn, step_logs}
 use Rattle.cluster_model.proofs.Lines.{size_of, seen_append, seen_agree}
 use Rattle.node_spec.specs.Steps.{calls}
 
--- A life goes on up to this log, term and leadership, by events in which nobody comes, nothing is asked, nothing is said and no entry is
+-- A life continues up to this log, term and leadership, by events in which nobody comes, nothing is asked, nothing is said and no entry is
 -- applied.
 pub record Led (m : Meaning) (kind : EngineKind) (logs : ℕ → List Line) (w : Life) (log : List Line) (term : ℕ) (leads : Bool) : Type 0 where
   pub life : List Doing

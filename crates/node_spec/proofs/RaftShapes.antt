@@ -19,7 +19,7 @@ pub data Places (s t : Node) : Type 0 where
   log_stays : t.log ≡ s.log → Places s t
   clears : matches s.log t.snapshot ≡ false → t.base ≡ t.snapshot.index → Places s t
 
--- The term doesn't fall. Who led and still has the term leads. A snapshot past the commit index comes to no leader.
+-- The term doesn't fall. Who led and still has the term leads. A snapshot past the commit index reaches no leader.
 pub record Shape (s t : Node) : Type 0 where
   pub up : s.term ≤ t.term
   pub leads : is_leader s.role ≡ true → t.term ≡ s.term → is_leader t.role ≡ true
@@ -50,7 +50,7 @@ follows s t none up snapshot base = record {
   places = cut_stays base;
 }
 
--- where the term rises, and snapshot and cut stay
+-- if the term rises, and snapshot and cut stay
 rises : (s t : Node) → s.term < t.term → t.snapshot ≡ s.snapshot → t.base ≡ s.base → Shape s t
 rises s t up snapshot base = record {
   up = omega (arith, up);
@@ -243,7 +243,7 @@ pub transfer_still : (vs : Setup) (me : ℕ) (s : Node) (to : ℕ) → Still s (
 unfolding member_step raft_step on_transfer
 transfer_still vs me s to = ends_still (voters_after vs) me s (on_transfer me s to) (cond_both (is_leader s.role && not (to == me)) _ _ (Stays s) (λ e. record { log = refl; term = refl; role = refl }) (λ e. fixed_at s))
 
--- an own snapshot at an applied index past the last one stands there
+-- an own snapshot at an applied index past the last one is there
 pub record Snapt (s t : Node) (index : ℕ) : Type 0 where
   pub still : Still s t
   pub index_is : t.snapshot.index ≡ index

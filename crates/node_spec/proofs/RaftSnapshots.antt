@@ -42,13 +42,13 @@ use Rattle.node_spec.proofs.Taking.{kept_stands}
 some_same : {A : Type 0} {a b : A} → Some a ≡ Some b → a ≡ b
 some_same q = cc
 
--- two snapshots that bytes spell are one
+-- two snapshots that bytes encode are one
 one_snapshot : SnapshotsRead → (x y : NodeSnapshot) (bytes : List ℕ) → SpellsSnapshot x bytes → SpellsSnapshot y bytes → x ≡ y
 one_snapshot reads x y bytes a b = some_same (sym (reads x bytes a) ∙ reads y bytes b)
 
 -- ---- what is applied
 
--- what is due stands behind the log
+-- what is due follows the log
 before_due : (term : ℕ) (log : List Entry) (due : List (List Entry)) (k : ℕ) → k ≤ length log → take k (with_due term log due) ≡ take k log
 before_due term log [] k h = refl
 before_due term log (es ∷ due) k h =
@@ -78,7 +78,7 @@ conf_append : (vs : Setup) (c : List Server) (xs ys : List Entry) → configurat
 conf_append vs c [] ys = refl
 conf_append vs c (e ∷ xs) ys = conf_append vs _ xs ys
 
--- the configuration up to an index behind the snapshot, by the entries that the node holds
+-- the configuration up to an index after the snapshot, by the entries that the node holds
 behind_snapshot : (vs : Setup) (a : Moment) (s : Node) (w : Life) → StandsAt vs a s w → a.node.raft.snapshot.index ≤ a.applied →
     configuration vs (take a.applied s.log) ≡ configuration_from vs (configuration vs (take s.snapshot.index s.log)) (applied_behind a)
 unfolding configuration

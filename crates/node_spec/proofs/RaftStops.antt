@@ -61,7 +61,7 @@ has_end log base last past within term =
     both_true : (b c : Bool) → b ≡ true → c ≡ true → (b && c) ≡ true
     both_true b c p q = ap (λ (x : Bool). x && c) p ∙ q
 
--- what stands behind a snapshot is the log itself: its end is at or before the cut, or the log has it
+-- what follows a snapshot is the log itself: its end is at or before the cut, or the log has it
 behind_is : (s : Snap) (base : ℕ) (log : List Entry) → behind s (record { first = suc base; entries = drop base log }) ≡ record { first = suc base; entries = drop base log } → (s.index ≤ base) ⊎ (matches log (record { index = s.index; term = s.term }) ≡ true)
 unfolding behind
 behind_is s base log e = by (nat_lt s.index (suc base)) refl (nat_lt s.index (suc base + length (drop base log)) && (store.nth_term (drop base log) (s.index - suc base) == s.term)) refl
@@ -131,7 +131,7 @@ left_log s t snap old new log was now index term places longer (earlier stands p
         let diff : s.base + (log.first - old.first) ≡ base = (let a = part.first in omega (arith, a, old_first)) in
         part.entries ∙ ap (λ (l : Log). drop (log.first - old.first) l.entries) was ∙ drop-drop (log.first - old.first) s.base s.log ∙ ap (λ (n : ℕ). drop n s.log) diff
 
-    -- where both begin at the same place
+    -- if both begin at the same place
     whole : base ≡ t.base → Cut t log
     whole e =
         let none : new.first - log.first ≡ 0 = omega (arith, new_first, first_is, e) in

@@ -1,4 +1,4 @@
--- What is in flight was proposed in the term in which the node serves: so it stays in a life, whatever happens that fits.
+-- What is pending was proposed in the term in which the node serves: so it stays in a life, whatever happens that fits.
 use Rattle.std.proofs.Common.{◌≡◌, ◌⊎◌, inl, inr, ℕ, suc, Bool, true, false, true≢false, ◌+◌, List, [], ◌∷◌, length, refl, sym, ◌∙◌, subst}
 use Rattle.std.specs.Prelude.{cond, ◌==◌, ◌&&◌, Option, Some, None}
 use Rattle.std.proofs.lemmas.Bool.{cond_both}
@@ -28,7 +28,7 @@ use Rattle.node_spec.specs.Steps.{IsServed, FlightsServed}
 
 -- ---- what comes of a request
 
--- an answer leaves what was in flight or nothing; and a proposal is one of the view's term, where the node serves and the log has room
+-- an answer leaves what was pending or nothing; and a proposal is one of the view's term, if the node serves and the log has room
 abbrev pub Next : View → Option Flight → Turned → Type 0
 Next v old (Refused cause) = Unit {0}
 Next v old Lacks = Unit {0}
@@ -113,7 +113,7 @@ request_next v m g c r answers = does_next v m g c (g.session c) r (asked v m g 
 pub later_next : (v : View) (m : Machine) (g : Gateway) (c : ℕ) (s : Statement) (answers : List Answer) → Next v (g.session c).flight (on_later v m g c s answers)
 later_next v m g c s answers = later_both (Next v (g.session c).flight) v m g c s answers tt (λ e. run_next v m g c (g.session c) e (g.session c).tx (s ∷ []) true answers)
 
--- so what was in flight stays of the term in which the node serves
+-- so what was pending stays of the term in which the node serves
 abbrev By : ℕ → Bool → Turned → Type 0
 By term serving (Refused cause) = Unit {0}
 By term serving Lacks = Unit {0}
@@ -168,7 +168,7 @@ affected_so term serving g (HandsOver id) h = h
 affected_so term serving g (JoinsPeer id) h = h
 affected_so term serving g (Weighs weight) h = h
 
--- none is in flight where the node doesn't serve
+-- none is pending where the node doesn't serve
 idle_so : (term other : ℕ) (serving : Bool) (o : Option Flight) → serving ≡ false → IsServed term serving o → IsServed other false o
 idle_so term other serving None e h = tt
 idle_so term other serving (Some f) e h = absurd (true≢false (sym h.1 ∙ e))
@@ -240,7 +240,7 @@ module _ (m : Meaning) (kind : EngineKind) (logs : ℕ → List Line) where
   lives_so w [] f h = h
   lives_so w (e ∷ es) f h = lives_so (happens w e) es f.1 (happens_so w e f.0 h)
 
--- so it is of each life in a run
+-- this holds for each life in a run
 pub life_served : (m : Meaning) (w : Life) → NodeOk m w → FlightsServed w
 life_served m w ok = record { leads = ok.leads; flights = λ conn. by (w.gate.session conn).flight refl (ok.sessions conn).flight (serves conn w.serving refl) }
   where

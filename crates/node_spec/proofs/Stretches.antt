@@ -202,7 +202,7 @@ pub answers_join : (w : Life) (xs ys : List Doing) → answers_in w (xs ++ ys) �
 answers_join w [] ys = refl
 answers_join w (x ∷ xs) ys = ap (λ l. answers_by w x ++ l) (answers_join (happens w x) xs ys) ∙ sym (append_assoc (answers_by w x) (answers_in (happens w x) xs) (answers_in (lives_on (happens w x) xs) ys))
 
--- where there are none in either part
+-- if there are none in either part
 pub none_lent : (w : Life) (xs ys : List Doing) → lent_in w xs ≡ [] → lent_in (lives_on w xs) ys ≡ [] → lent_in w (xs ++ ys) ≡ []
 none_lent w xs ys a b = lent_join w xs ys ∙ ap (λ l. l ++ lent_in (lives_on w xs) ys) a ∙ b
 

@@ -24,7 +24,7 @@ use Rattle.node_spec.specs.Accounts.{with_due, DueWeaves, StandsAt, no_piece, ta
 use Rattle.node_spec.specs.Turns.{KeepsAll, ProposalGoes}
 use Rattle.node_spec.proofs.Stretches.{tail_is, part_self}
 
--- what is kept of a node that is this one except for what is cut off
+-- what is kept of a node that is this one except for what is compacted
 pub kept_stands : (vs : Setup) (k : Kept) (h : NodeValue) (t : Node) → Twin t (node_of h) → KeepsAll k h → (0 < t.snapshot.index → SnapshotOf vs (take t.snapshot.index t.log) k.snap.bytes) → KeptIs vs k (stored_of t)
 kept_stands vs k h t twin all bytes =
     let term : h.term ≡ t.term = ap (λ (z : Node). z.term) twin.node in

@@ -1,4 +1,4 @@
--- Stretches in which a node is told its voters join, and are what a whole event has to tell.
+-- Stretches in which a node is given its voters join, and are what a whole event has to tell.
 use Rattle.std.proofs.Common.{◌≡◌, ℕ, zero, suc, ◌≤◌, List, [], ◌∷◌, ◌++◌, length, take, refl, sym, ap, ◌∙◌, subst, arith}
 use Rattle.std.specs.Prelude.{slice_get}
 use Rattle.raft_spec.specs.Node as raft

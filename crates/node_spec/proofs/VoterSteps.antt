@@ -1,4 +1,4 @@
--- What a step of Raft does to the servers that a node was told, and to the log of a node that doesn't follow.
+-- What a step of Raft does to the servers that a node was given, and to the log of a node that doesn't follow.
 use Rattle.std.proofs.Common.{◌≡◌, ℕ, ◌≤◌, Bool, true, false, List, [], ◌∷◌, ◌++◌, length, refl, sym, ap, ◌∙◌, subst}
 use Rattle.std.specs.Prelude.{◌≢◌, ◌==◌, ◌&&◌, ◌||◌, not, nat_lt, nat_le}
 use Rattle.std.proofs.lemmas.Bool.{cond-true, cond_both}
@@ -25,7 +25,7 @@ use Rattle.node_spec.proofs.VoterLogs.{others_follow, with_term_changes}
 
 -- ---- servers
 
--- a node that has cut its log steps as one with fixed voters
+-- a node that has compacted its log steps as one with fixed voters
 pub as_fixed : (me : ℕ) (v : Node) (i : Input) → member_step (fixed v.servers) me v i ≡ raft_step (λ log. voters v.servers) me v i
 unfolding member_step voters_after
 as_fixed me v i =
@@ -189,14 +189,14 @@ member_stands : (vs : Setup) (me : ℕ) (s : Node) (i : Input) → Stands s.log 
 unfolding member_step
 member_stands vs me s i = cond_both (may_take vs s i) _ _ (Stands s.log) (λ e. step_stands (voters_after vs) me s i) (λ e c. refl)
 
--- who leads adds no change, where none is proposed
+-- who leads adds no change, if none is proposed
 leader_same : (opening : List Server) (s : Node) (i : Input) (t : Node) → IsPlain i → Adds s i t → voters_after (read_setup opening) t.log ≡ voters_after (read_setup opening) s.log
 leader_same opening s i t p (nothing_new e) = ap (voters_after (read_setup opening)) e
 leader_same opening s i t p (a_barrier e) = ap (voters_after (read_setup opening)) e ∙ others_follow (read_setup opening) s.log (barrier t.term ∷ []) refl
 leader_same opening s i t p (proposed new is leads term e) =
     ap (voters_after (read_setup opening)) e ∙ others_follow (read_setup opening) s.log (with_term t.term new) (with_term_changes (read_setup opening) t.term new ∙ subst IsPlain is p)
 
--- a node that doesn't follow behind a step has the voters that it had
+-- a node that doesn't follow after a step has the voters that it had
 pub ahead_same : (opening : List Server) (me : ℕ) (s : Node) (i : Input) (r : Role) → IsPlain i → s.snapshot.index ≤ length s.log → (member_step (read_setup opening) me s i).node.role ≡ r → r ≢ Follower →
     voters_after (read_setup opening) (member_step (read_setup opening) me s i).node.log ≡ voters_after (read_setup opening) s.log
 ahead_same opening me s i Leader p low e n = leader_same opening s i (member_step (read_setup opening) me s i).node p (leaders_add_hold (read_setup opening) me s i low (ap is_leader e))

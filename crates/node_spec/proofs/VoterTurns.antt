@@ -1,4 +1,4 @@
--- Each turn of a node is a stretch in which it is told its voters.
+-- Each turn of a node is a stretch in which it is given its voters.
 use Rattle.std.proofs.Common.{◌≡◌, ℕ, zero, suc, ◌<◌, ◌≤◌, Bool, true, false, List, [], ◌∷◌, ◌++◌, length, take, drop, refl, sym, ap, ◌∙◌, subst, arith, take-append-drop, length-take, length-append}
 use Rattle.std.proofs.lemmas.List.{length-replicate}
 use Rattle.std.specs.Prelude.{◌&&◌, ◌+◌, cond, Option, Some, None, Result, Ok, Err}
@@ -78,7 +78,7 @@ same_commit s h t = ap (λ (z : Node). z.commit) t.node
 same_voters : (s : Node) (h : NodeValue) → Twin s (node_of h) → voters h.servers ≡ voters s.servers
 same_voters s h t = ap (λ (z : Node). voters z.servers) t.node
 
--- behind a place that isn't cut off both logs are the same
+-- after a place that isn't compacted both logs are the same
 held : (s : Node) (h : NodeValue) (k : ℕ) → Twin s (node_of h) → h.base ≤ k → drop k s.log ≡ drop k (node_of h).log
 held s h k t low =
     let base : h.base ≡ s.base = ap (λ (z : Node). z.base) t.node in

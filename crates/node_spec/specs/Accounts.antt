@@ -1,4 +1,4 @@
--- What happens at a node between two moments of an event. One such stretch joins the next, and the whole is what an event has to
+-- What happens at a node between two moments of an event, a stretch. One stretch joins the next, and the whole is what an event has to
 -- show, ended or stopped; so a turn of a node shows its own stretch alone.
 use Rattle.std.specs.Prelude.{◌≡◌, ◌≢◌, ◌⊎◌, ℕ, ◌≤◌, Bool, true, false, ◌||◌, List, [], ◌∷◌, ◌++◌, map, Option, Some, None}
 use Rattle.sql_engine.specs.declared.kind.EngineKind.{EngineKind}
@@ -42,7 +42,7 @@ pub record Moment : Type 0 where
 abbrev pub resting : Node → Moment
 resting n = record { node = n; applied = n.raft.commit; due = [] }
 
--- a log behind which these proposals are taken, in a term
+-- a log after which these proposals are taken, in a term
 abbrev pub with_due : ℕ → List Entry → List (List Entry) → List Entry
 with_due term log [] = log
 with_due term log (es ∷ due) = with_due term (log ++ with_term term es) due
@@ -52,7 +52,7 @@ abbrev pub DueWeaves : ℕ → List Entry → List (List Entry) → Type 0
 DueWeaves term log [] = Unit {0}
 DueWeaves term log (es ∷ due) = (IsWoven log → IsWoven (log ++ with_term term es)) × DueWeaves term (log ++ with_term term es) due
 
--- A moment stands for a node of Raft with its whole log, and for a life, which has what is proposed behind that log.
+-- A moment represents a node of Raft with its whole log, and a life, which has what is proposed after that log.
 pub record StandsAt (setup : Setup) (a : Moment) (s : raft.Node) (w : Life) : Type 0 where
   pub twin : Twin s (node_of a.node.raft)
   pub raft : IsCoherent a.node.raft
@@ -74,7 +74,7 @@ pub record StandsAt (setup : Setup) (a : Moment) (s : raft.Node) (w : Life) : Ty
 -- ---- stretches
 
 -- What comes of a stretch: what Raft takes in, what connections ask, what is said; the queries that are handed to readers, and the
--- answers that the engine told; and whether a reply may be one that waited for a proposal.
+-- answers that the engine answered; and whether a reply may be one that waited for a proposal.
 pub record Piece : Type 0 where
   pub inputs : List raft.Input
   pub asks : ℕ → List Request
@@ -103,7 +103,7 @@ both p q = record {
 abbrev pub taken_by : List ℕ → Option ℕ → Piece → Taken
 taken_by bytes joins p = record { inputs = p.inputs; bytes = bytes; joins = joins; read = None; asks = p.asks }
 
--- and in one that begins with what a reader tells
+-- and in one that begins with what a reader answers
 abbrev pub read_by : List ℕ → Option ℕ → Option (ℕ × Reply) → Piece → Taken
 read_by bytes joins read p = record { inputs = p.inputs; bytes = bytes; joins = joins; read = read; asks = p.asks }
 
@@ -134,15 +134,15 @@ pub record Lives (m : Meaning) (kind : EngineKind) (setup : Setup) (me : ℕ) (j
   pub handles : (conn : ℕ) → ArePartOf (calls conn life ++ b.node.waiting conn) (a.node.waiting conn ++ p.asks conn)
   pub completes : (conn : ℕ) → IsOpen (b.node.sessions.session conn) → joins ≢ Some conn → AllKept a b p w life conn
 
--- From one moment to another: Raft's part makes the steps and says their messages; and for whatever the first one stood for there
--- is such a life, after which the second stands for what the steps and the life lead to.
+-- From one moment to another: Raft's part makes the steps and says their messages; and for whatever the first one represented there
+-- is such a life, after which the second represents what the steps and the life lead to.
 pub record Goes (m : Meaning) (kind : EngineKind) (setup : Setup) (me : ℕ) (bytes : List ℕ) (joins : Option ℕ) (a b : Moment) (p : Piece) : Type 0 where
   pub made : node_of b.node.raft ≡ steps (compacted_step me) (node_of a.node.raft) p.inputs
   pub letters : map (λ (l : Letter). l.message) p.letters ≡ said (compacted_step me) (node_of a.node.raft) p.inputs
   pub lives : (s : raft.Node) (w : Life) (is : List raft.Input) → StandsAt setup a s w → TakesIn setup me a.node s is (taken_by bytes joins p) →
       Told setup me s is → Lives m kind setup me joins a b p s w is
 
--- So it is from an event's begin, where a reader may have told this: its life rests on what the reader tells being so.
+-- This holds from an event's begin, if a reader may have told this: its life rests on what the reader answers being so.
 pub record Begins (m : Meaning) (kind : EngineKind) (setup : Setup) (me : ℕ) (bytes : List ℕ) (joins : Option ℕ) (read : Option (ℕ × Reply)) (a b : Moment) (p : Piece) : Type 0 where
   pub made : node_of b.node.raft ≡ steps (compacted_step me) (node_of a.node.raft) p.inputs
   pub letters : map (λ (l : Letter). l.message) p.letters ≡ said (compacted_step me) (node_of a.node.raft) p.inputs
@@ -156,11 +156,11 @@ pub record SameTerm (a b : Moment) : Type 0 where
 
 -- ---- the laws
 
--- where nothing happens
+-- if nothing happens
 abbrev pub NothingGoes : Meaning → EngineKind → Type 0
 NothingGoes m kind = (setup : Setup) (me : ℕ) (bytes : List ℕ) (joins : Option ℕ) (a : Moment) → Goes m kind setup me bytes joins a a no_piece
 
--- One stretch more. What waited for a proposal is told in the term of the end: so a term may change only where nothing that waited
+-- One stretch more. What waited for a proposal is told in the term of the end: so a term may change only if nothing that waited
 -- was told in this event before.
 abbrev pub GoesOn : Meaning → EngineKind → Type 0
 GoesOn m kind =
@@ -168,7 +168,7 @@ GoesOn m kind =
     Goes m kind setup me bytes joins a b p → Goes m kind setup me bytes joins b c q → (p.late ≡ false) ⊎ SameTerm b c →
     Goes m kind setup me bytes joins a c (both p q)
 
--- A stretch may be an event's first one, whatever a reader told; and the event goes on by any stretch.
+-- A stretch may be an event's first one, whatever a reader answered; and the event continues by any stretch.
 abbrev pub GoesBegins : Meaning → EngineKind → Type 0
 GoesBegins m kind =
     (setup : Setup) (me : ℕ) (bytes : List ℕ) (joins : Option ℕ) (read : Option (ℕ × Reply)) (a b : Moment) (p : Piece) →
@@ -184,7 +184,7 @@ BeginsOn m kind =
 abbrev pub SentOn : Type 0
 SentOn = (a b c : Kept) (xs ys : List Letter) → AllSent a b xs → AllSent b c ys → (a.snap ≡ b.snap) ⊎ (b.snap ≡ c.snap) → AllSent a c (xs ++ ys)
 
--- An event may end here: all that is committed is applied, nothing is left to propose, no request waits but behind one that is yet
+-- An event may end here: all that is committed is applied, nothing is left to propose, no request waits but after one that is yet
 -- to be answered, and a query whose barrier is applied has been run.
 pub record MayEnd (a : Moment) : Type 0 where
   pub applied : a.applied ≡ a.node.raft.commit
@@ -214,7 +214,7 @@ LeftBetween setup kept s t =
     (base : ℕ) × (KeptIs setup kept (older base (stored_of s)) ⊎
     (KeptIs setup kept (older base (record (stored_of s) { term = t.term; vote = t.vote })) ⊎ KeptIs setup kept (older base (stored_of t))))
 
--- so in the step of this input at whatever the moment stands for
+-- so in the step of this input at whatever the moment represents
 abbrev pub LeftBy : Setup → ℕ → List ℕ → Option ℕ → Moment → raft.Input → Kept → Type 0
 LeftBy setup me bytes joins b i kept =
     (s : raft.Node) (w : Life) (j : raft.Input) → StandsAt setup b s w →

@@ -29,7 +29,7 @@ pub record KeepsWaiting (a b : Moment) : Type 0 where
 
 -- ---- nothing
 
--- Nothing has changed but marks and counts of the databases, and what isn't asked: so where a message that waits is none that reads as
+-- Nothing has changed but marks and counts of the databases, and what isn't asked: so if a message that waits is none that reads as
 -- a request, or an event is of a connection that isn't there.
 pub record Stays (a b : Moment) : Type 0 where
   pub sessions : b.node.sessions ≡ a.node.sessions
@@ -64,7 +64,7 @@ abbrev pub HangingGoes : Meaning → EngineKind → Type 0
 HangingGoes m kind =
     (setup : Setup) (me : ℕ) (bytes : List ℕ) (joins : Option ℕ) (a b : Moment) (conn : ℕ) → HangsUp a b conn → Goes m kind setup me bytes joins a b no_piece
 
--- Bytes come, with these requests behind those that wait.
+-- Bytes come, with these requests after those that wait.
 pub record Hears (a b : Moment) (asks : ℕ → List Request) : Type 0 where
   pub sessions : b.node.sessions ≡ a.node.sessions
   pub waiting : (conn : ℕ) → b.node.waiting conn ≡ a.node.waiting conn ++ asks conn
@@ -102,14 +102,14 @@ ApplyingGoes m kind =
     (setup : Setup) (me : ℕ) (bytes : List ℕ) (joins : Option ℕ) (a b : Moment) (replies : List (ℕ × Reply)) →
     Applies a b replies → Goes m kind setup me bytes joins a b (record no_piece { replies = replies; late = true })
 
--- Where a lost leadership would change nothing at the sessions, neither does an entry that is applied, and nobody is told.
+-- If a lost leadership would change nothing at the sessions, neither does an entry that is applied, and no client is informed.
 abbrev pub EndedStay : Type 0
 EndedStay = (index : ℕ) (g : Gateway) → on_lost g ≡ g → (on_applied index g ≡ g) × (told_applied index g ≡ [])
 
 -- ---- queries that are answered later than they were asked
 
--- A query that is yet to be answered is run by the node, where nothing is due at Raft: its barrier is applied, or its reader gave it
--- back. By answers that the engine may give, all of which it uses, it comes to what the rules say.
+-- A query that waits for its answer is run by the node, if nothing is due at Raft: its barrier is applied, or its reader gave it
+-- back. By answers that the engine may give, all of which it uses, it ends with what the rules say.
 pub record Resumes (m : Meaning) (kind : EngineKind) (a b : Moment) (conn : ℕ) (replies : List (ℕ × Reply)) : Type 0 where
   pub standing : Standing
   pub statement : Statement
@@ -142,7 +142,7 @@ pub record Reads (a b : Moment) (conn : ℕ) : Type 0 where
   pub same : KeepsWaiting a b
   pub rest : KeepsRaft a b
 
--- That is the first stretch of an event in which a reader told this. It was the reader's engine that told the answers.
+-- That is the first stretch of an event in which a reader answered this. It was the reader's engine that told the answers.
 abbrev pub ReadingBegins : Meaning → EngineKind → Type 0
 ReadingBegins m kind =
     (setup : Setup) (me : ℕ) (bytes : List ℕ) (joins : Option ℕ) (a b : Moment) (conn : ℕ) (reply : Reply) →

@@ -1,4 +1,4 @@
--- A whole node as a value, and what it stands for: a node of Raft's world with its whole log, and a life.
+-- A whole node as a value, and what it represents: a node of Raft's world with its whole log, and a life.
 use Rattle.std.specs.Prelude.{[], false, ◌≡◌, ℕ, suc, ◌<◌, Bool, true, List, ◌++◌, take, drop}
 use Rattle.database_state.specs.declared.database.Database.{Database}
 use Rattle.database_state.specs.Machines.{IsMachine}
@@ -20,7 +20,7 @@ use Rattle.store_laws.specs.Store.{Kept, no_snap}
 use Rattle.cluster_model.specs.Clusters.{Coherent}
 
 -- A node that runs: Raft's part, as the value of the code's, and the configurations of its whole log; its sessions, with the
--- databases of its machine, and what each connection has asked that isn't handled yet; whether it serves; and what its disk has kept.
+-- databases of its state machine, and what each connection has asked that isn't handled yet; whether it serves; and what its disk has kept.
 pub record Node : Type 0 where
   pub raft : NodeValue
   pub members : Configurations
@@ -32,12 +32,12 @@ pub record Node : Type 0 where
 
 -- ---- what is kept
 
--- The bytes are spelled as the snapshot of what these entries make: the configuration, and then the databases. So they read as that.
+-- The bytes are encoded as the snapshot of what these entries make: the configuration, and then the databases. So they read as that.
 abbrev pub SnapshotOf : Setup → List Entry → List ℕ → Type 0
 SnapshotOf setup front bytes = SpellsSnapshot (made_in setup front) bytes
 
--- What isn't cut off tells all of the whole log but the entries before the cut: how long it is, and which term it has where the
--- snapshot ends. So it is of each node in a run.
+-- What isn't compacted tells all of the whole log but the entries before the cut: how long it is, and which term it has where the
+-- snapshot ends. This holds for each node in a run.
 abbrev pub IsCutOff : Stored → Type 0
 IsCutOff x = Same x.base x.snapshot.index x.log (compacted x.snapshot x.base ++ drop x.base x.log)
 
@@ -50,11 +50,11 @@ pub record KeptIs (setup : Setup) (k : Kept) (x : Stored) : Type 0 where
   pub snap_term : k.snap.term ≡ x.snapshot.term
   pub bytes : 0 < x.snapshot.index → SnapshotOf setup (take x.snapshot.index x.log) k.snap.bytes
 
--- ---- what a node stands for
+-- ---- what a node represents
 
--- The node stands for a node of Raft with its whole log, and for a life.
+-- The node represents a node of Raft with its whole log, and a life.
 pub record Stands (setup : Setup) (n : Node) (s : raft.Node) (w : Life) : Type 0 where
-  -- Raft's part is that node without what it has cut off
+  -- Raft's part is that node without what it has compacted
   pub twin : Twin s (node_of n.raft)
   pub raft : IsCoherent n.raft
   pub up : s.up ≡ true
@@ -70,7 +70,7 @@ pub record Stands (setup : Setup) (n : Node) (s : raft.Node) (w : Life) : Type 0
   -- the disk has what Raft's node has stored
   pub kept : KeptIs setup n.kept (stored_of s)
 
--- a node that has kept nothing and was told no servers, and what it stands for: so a node can stand for something
+-- a node that has kept nothing and was given no servers, and what it represents: so a node can represent something
 abbrev pub first_node : ℕ → Node
 first_node id = record {
   raft = record { id = id; term = 0; vote = 0; entries = []; role = raft.Follower; leader = 0; commit = 0; grants = []; servers = []; rows = []; snapshot = record { index = 0; term = 0 }; base = 0 };

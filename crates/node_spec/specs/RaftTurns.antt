@@ -67,7 +67,7 @@ ProposalsTaken =
 
 -- ---- a step that leaves the log
 
--- it is time for a beat, a leadership is handed over, or Raft is told servers
+-- it is time for a heartbeat, a leadership is handed over, or Raft is given servers
 abbrev pub LeavesLog : Input → Type 0
 LeavesLog (Local Beat) = Unit {0}
 LeavesLog (Local (Transfer to)) = Unit {0}
@@ -91,14 +91,14 @@ LeavingGoes m kind =
     (setup : Setup) (me : ℕ) (bytes : List ℕ) (joins : Option ℕ) (a b : Moment) (i : Input) (letters : List Letter) →
     Leaves me a b i letters → Goes m kind setup me bytes joins a b (record no_piece { inputs = i ∷ []; letters = letters })
 
--- ---- a message, a timeout or a beat, where no snapshot comes
+-- ---- a message, a timeout or a heartbeat, if no snapshot comes
 
--- sessions in which nothing is in flight, no transaction is open and no query is due: a lost leadership ends nothing there
+-- sessions in which nothing is pending, no transaction is open and no query is due: a lost leadership ends nothing there
 pub record HasEnded (g : Gateway) : Type 0 where
   pub ended : on_lost g ≡ g
   pub told : told_lost g ≡ []
 
--- So it is where a node starts and where a leadership was lost; and connections that come and go, entries that are applied, and what is
+-- This holds if a node starts and if a leadership was lost; and connections that come and go, entries that are applied, and what is
 -- done for one session that has nothing open leave it so.
 pub record EndsOn : Type 0 where
   pub started : HasEnded no_sessions
@@ -109,8 +109,8 @@ pub record EndsOn : Type 0 where
   pub gone : (g : Gateway) (conn : ℕ) → HasEnded g → HasEnded (on_hangup g conn)
   pub session : (g : Gateway) (conn : ℕ) (s : Session) → HasEnded g → lost s ≡ s → s.there ≡ (g.session conn).there → HasEnded (with_session g conn s)
 
--- What a step leaves of sessions and service, and who is told: its leadership stays, and so do they; its leadership of that term is
--- lost, and what was open or in flight has ended; or the node had none, and nothing was open or in flight.
+-- What a step leaves of sessions and service, and who is informed: its leadership stays, and so do they; its leadership of that term is
+-- lost, and what was open or pending has ended; or the node had none, and nothing was open or pending.
 pub data LeadershipFollows (a b : Moment) (replies : List (ℕ × Reply)) : Type 0 where
   in_office : is_leader a.node.raft.role ≡ true → is_leader b.node.raft.role ≡ true → b.node.raft.term ≡ a.node.raft.term →
       b.node.sessions ≡ a.node.sessions → b.node.serving ≡ a.node.serving → replies ≡ [] → LeadershipFollows a b replies
@@ -150,7 +150,7 @@ FollowingGoes m kind =
 -- ---- a snapshot comes
 
 -- The message puts a snapshot past the commit index in the place of entries: the databases are those of each front of a log of which
--- its bytes are the snapshot. What was open or in flight has ended.
+-- its bytes are the snapshot. What was open or pending has ended.
 pub record Installs (setup : Setup) (me : ℕ) (a b : Moment) (bytes : List ℕ) (message : Message) (letters : List Letter)
     (replies : List (ℕ × Reply)) : Type 0 where
   pub idle : a.due ≡ []
@@ -177,16 +177,16 @@ InstallGoes m kind =
 
 -- ---- an own snapshot
 
--- the configuration that a kept snapshot has; where there is none, the opening one
+-- the configuration that a kept snapshot has; without one, the opening one
 pub record SnapServers (setup : Setup) (snap : Snap) (servers : List Server) : Type 0 where
   pub none : snap.index ≡ 0 → servers ≡ setup.opening
   pub some : 0 < snap.index → (contents : List Content) × SpellsSnapshot (record { servers = servers; contents = contents }) snap.bytes
 
--- the entries behind the kept snapshot that are applied
+-- the entries after the kept snapshot that are applied
 abbrev pub applied_behind : Moment → List Entry
 applied_behind a = take (a.applied - a.node.raft.snapshot.index) (drop (a.node.raft.snapshot.index - a.node.raft.base) a.node.raft.entries)
 
--- The applied configuration, by what the node holds: that of the kept snapshot, and then the changes among the entries behind it, up to
+-- The applied configuration, by what the node holds: that of the kept snapshot, and then the changes among the entries after it, up to
 -- the applied index.
 pub record HasServers (setup : Setup) (a : Moment) (servers : List Server) : Type 0 where
   pub low : a.node.raft.snapshot.index ≤ a.applied
@@ -194,7 +194,7 @@ pub record HasServers (setup : Setup) (a : Moment) (servers : List Server) : Typ
   pub snap : SnapServers setup a.node.kept.snap first
   pub is : servers ≡ configuration_from setup first (applied_behind a)
 
--- So it is with a node at rest that counts by its configurations, as in each run, where these go up to the applied index.
+-- This holds for a node at rest that counts by its configurations, as in each run, if these go up to the applied index.
 abbrev pub RestingServers : Type 0
 RestingServers =
     (setup : Setup) (n : rules.Node) (s : Node) (w : Life) → Stands setup n s w → Counts setup n s → n.members.at ≡ n.raft.commit →

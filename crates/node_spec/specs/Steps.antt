@@ -30,7 +30,7 @@ pub record Letter : Type 0 where
   pub message : raft.Message
   pub bytes : List ℕ
 
--- the bytes of a snapshot are those of the front that it stands for
+-- the bytes of a snapshot are those of the front that it represents
 abbrev pub FrontIs : Setup → List ℕ → raft.What → Type 0
 FrontIs setup bytes (raft.Install last front) = 0 < last.index → SnapshotOf setup front bytes
 FrontIs setup bytes (raft.AskVote last transfer) = Unit {0}
@@ -41,7 +41,7 @@ FrontIs setup bytes raft.TimeoutNow = Unit {0}
 
 -- What a node takes in by an event, one after another: the event's own message, timeout, heartbeat or request, and then what the
 -- node adds, as servers, proposals and own snapshots. With a message that has a snapshot come its bytes; and it may be that a
--- connection comes, or asks something, or that a reader tells the reply to the query which its connection has lent.
+-- connection comes, or asks something, or that a reader answers the reply to the query which its connection has lent.
 pub record Taken : Type 0 where
   pub inputs : List raft.Input
   pub bytes : List ℕ
@@ -55,7 +55,7 @@ BytesAre setup bytes [] = Unit {0}
 BytesAre setup bytes (raft.Local local ∷ is) = BytesAre setup bytes is
 BytesAre setup bytes (raft.Receive m ∷ is) = FrontIs setup bytes m.what × BytesAre setup bytes is
 
--- a snapshot that comes and is kept stands for the front of the log behind the step
+-- a snapshot that comes and is kept represents the front of the log after the step
 abbrev pub HasFront : raft.Node → raft.What → Type 0
 HasFront s (raft.Install last front) = s.snapshot ≡ last → take last.index s.log ≡ front
 HasFront s (raft.AskVote last transfer) = Unit {0}
@@ -69,21 +69,21 @@ HasFrontOf s None = Unit {0}
 HasFrontOf s (Some (raft.Local local)) = Unit {0}
 HasFrontOf s (Some (raft.Receive m)) = HasFront s m.what
 
--- It stands for what a node of the world takes in.
+-- It represents what a node of the world takes in.
 pub record TakesIn (setup : Setup) (me : ℕ) (old : Node) (s : raft.Node) (is : List raft.Input) (x : Taken) : Type 0 where
   pub alike : AlikeInputs is x.inputs
   -- bytes are those of the fronts
   pub front : BytesAre setup x.bytes is
   -- each step keeps what was applied: the law `applied_kept` gives it in every run
   pub kept : (k : ℕ) → let a = steps (member_step setup me) s (take k is) in let b = steps (member_step setup me) s (take (suc k) is) in (a.commit ≤ b.commit) × SameUpTo a.commit a.log b.log
-  -- a snapshot that comes, and is kept behind its step, is that of the log's front: the law `snapshot_fronts` gives it in every run
+  -- a snapshot that comes, and is kept after its step, is that of the log's front: the law `snapshot_fronts` gives it in every run
   pub fronts : (k : ℕ) → HasFrontOf (steps (member_step setup me) s (take (suc k) is)) (slice_get is k)
-  -- after each step up to which it was told so, it is the node of the world except for what is cut off: the law
+  -- after each step up to which it was given its voters, it is the node of the world except for what is compacted: the law
   -- `cut_steps`
   pub twins : (k : ℕ) → Told setup me s (take k is) → Twin (steps (member_step setup me) s (take k is)) (steps (compacted_step me) (node_of old.raft) (take k x.inputs))
 
--- What a reader tells is what it makes of answers that the engine may give over the image at which the query was lent. So whoever
--- runs the readers shows it; where no query of the connection is lent, it is asked nothing.
+-- What a reader answers is what it makes of answers that the engine may give over the image at which the query was lent. So whoever
+-- runs the readers shows it; if no query of the connection is lent, it is asked nothing.
 abbrev pub ReadIsAnswered : Meaning → EngineKind → Life → ℕ → Reply → Option Statement → Type 0
 ReadIsAnswered m kind w conn reply None = Unit {0}
 ReadIsAnswered m kind w conn reply (Some statement) = (answers : List Answer) × AllowsRead m kind w conn answers (Some statement) × (told_at w conn statement answers ≡ Some reply)
@@ -92,7 +92,7 @@ abbrev pub ReadsIn : Meaning → EngineKind → Life → Option (ℕ × Reply) �
 ReadsIn m kind w None = Unit {0}
 ReadsIn m kind w (Some (conn, reply)) = ReadIsAnswered m kind w conn reply (lent_query (w.gate.session conn).later)
 
--- What is in flight was proposed in the node's term, in which it serves; and a node that serves leads. So it is of each life in a run.
+-- What is pending was proposed in the node's term, in which it serves; and a node that serves leads. This holds for each life in a run.
 abbrev pub IsServed : ℕ → Bool → Option Flight → Type 0
 IsServed term serving None = Unit {0}
 IsServed term serving (Some f) = (f.term ≡ term) × (serving ≡ true)
@@ -101,7 +101,7 @@ pub record FlightsServed (w : Life) : Type 0 where
   pub leads : w.serving ≡ true → w.leads ≡ true
   pub flights : (conn : ℕ) → IsServed w.term w.serving (w.gate.session conn).flight
 
--- the voters that a node was told last are those that its log gives
+-- the voters that a node was given last are those that its log gives
 abbrev pub IsTold : Setup → raft.Node → Type 0
 IsTold setup s = raft.voters s.servers ≡ voters_after setup s.log
 
@@ -110,11 +110,11 @@ pub record Counts (setup : Setup) (n : Node) (s : raft.Node) : Type 0 where
   pub told : IsTold setup s
   pub members : IsOf setup s.log n.members
 
--- A node that was told so is told at each step of an event the voters by which it is to be counted, whether the event ends well or not.
+-- A node that was given its voters is given, at each step of an event, those by which it is to be counted, whether the event ends well or not.
 abbrev pub TellsVoters : Setup → ℕ → Node → Taken → Type 0
 TellsVoters setup me old x = (s : raft.Node) (w : Life) (is : List raft.Input) → Stands setup old s w → Counts setup old s → TakesIn setup me old s is x → Told setup me s is
 
--- After an event that ended well it was told so again.
+-- After an event that ended well it was given its voters again.
 abbrev pub VotersWereTold : Setup → ℕ → Node → Node → Taken → Type 0
 VotersWereTold setup me old new x =
     (s : raft.Node) (w : Life) (is : List raft.Input) → Stands setup old s w → Counts setup old s → TakesIn setup me old s is x → Told setup me s is → Counts setup new (steps (member_step setup me) s is)
@@ -153,7 +153,7 @@ abbrev pub Handles : Node → (ℕ → List Request) → Taken → List Doing �
 Handles old left x life = (conn : ℕ) → ArePartOf (calls conn life ++ left conn) (old.waiting conn ++ x.asks conn)
 
 -- Of a connection that is open after the event, and didn't come by it, no request is dropped: each is handled, and something comes
--- of it, or waits still; none waits but behind one that is yet to be answered; and a query whose barrier is applied has been run.
+-- of it, or waits still; none waits but after one that waits for its answer; and a query whose barrier is applied has been run.
 pub record AllTaken (old new : Node) (x : Taken) (w : Life) (life : List Doing) (conn : ℕ) : Type 0 where
   pub all : calls conn life ++ new.waiting conn ≡ old.waiting conn ++ x.asks conn
   pub handled : map (λ (h : Handled). h.request) (handled_in conn w life) ≡ calls conn life
@@ -163,9 +163,9 @@ pub record AllTaken (old new : Node) (x : Taken) (w : Life) (life : List Doing) 
 abbrev pub Completes : Node → Node → Taken → Life → List Doing → Type 0
 Completes old new x w life = (conn : ℕ) → IsOpen (new.sessions.session conn) → x.joins ≢ Some conn → AllTaken old new x w life conn
 
--- An event that ended well: for whatever the old node stood for, the events of a life that fit, after which the new one stands
+-- An event that ended well: for whatever the old node represented, the events of a life that fit, after which the new one stands
 -- for what the steps and these events lead to. It says what they say; the queries that it hands to readers are those that they lend;
--- and the answers of engines that they use are those that its engine told.
+-- and the answers of engines that they use are those that its engine answered.
 abbrev pub CompletesStep : Meaning → EngineKind → Setup → ℕ → Node → Node → Taken → List Letter → List (ℕ × Reply) → List (ℕ × Job) → List Answer → Type 0
 CompletesStep m kind setup me old new x letters replies jobs answers =
     (s : raft.Node) (w : Life) (is : List raft.Input) → Stands setup old s w → TakesIn setup me old s is x → Told setup me s is → ReadsIn m kind w x.read → FlightsServed w →
@@ -196,14 +196,14 @@ abbrev pub AllSent : Kept → Kept → List Letter → Type 0
 AllSent old new [] = Unit {0}
 AllSent old new (l ∷ ls) = WhatSent old new l.bytes l.message.what × AllSent old new ls
 
--- An event that failed or was stopped: what is kept is what stands after so many acts of the steps' account, maybe with a longer
+-- An event that failed or was stopped: what is kept is what is after this many acts of the steps' account, maybe with a longer
 -- old part of the log, and the life went as far as these.
 abbrev pub StopsInStep : Meaning → EngineKind → Setup → ℕ → Node → Kept → Taken → Type 0
 StopsInStep m kind setup me old kept x =
     (s : raft.Node) (w : Life) (is : List raft.Input) → Stands setup old s w → TakesIn setup me old s is x → Told setup me s is → ReadsIn m kind w x.read →
     (stands applied base : ℕ) × (life : List Doing) × KeptIs setup kept (older base (stands_after setup me s is stands applied)) × StopFits m kind setup me s is stands applied w life × JoinsOnly x.joins life × Handles old (λ conn. []) x life
 
--- A start from what is kept: the node stands for the one that is loaded, and for a life that begins; it was told the voters that
+-- A start from what is kept: the node represents the one that is loaded, and a life that begins; it was given the voters that
 -- the log gives, and has the log's configurations; and nothing waits.
 abbrev pub CompletesStart : Setup → Kept → Node → List raft.Server → Type 0
 CompletesStart setup kept new servers = ((x : Stored) → KeptIs setup kept x → IsCutOff x → Stands setup new (loaded true servers x) (booted (loaded true servers x)) × Counts setup new (loaded true servers x)) × ((conn : ℕ) → new.waiting conn ≡ [])
@@ -212,8 +212,8 @@ CompletesStart setup kept new servers = ((x : Stored) → KeptIs setup kept x �
 abbrev pub StopsInStart : Setup → Kept → Kept → Type 0
 StopsInStart setup kept left = (x : Stored) → KeptIs setup kept x → (base : ℕ) × KeptIs setup left (older base x)
 
--- What a step makes that ended well: its letters and replies, the queries that it hands to readers, each with its connection, and the
--- answers that its engine told in it.
+-- What a step makes that ended well: its peer messages and replies, the queries that it hands to readers, each with its connection, and the
+-- answers that its engine answered in it.
 pub record Made : Type 0 where
   pub letters : List Letter
   pub replies : List (ℕ × Reply)
@@ -230,11 +230,11 @@ pub record StepHolds {E : Type 0} (m : Meaning) (kind : EngineKind) (setup : Set
 
 -- ---- voters
 
--- With fixed voters a node that tells itself no others is told so.
+-- With fixed voters a node that gives itself no others is given its voters.
 abbrev pub FixedTells : Type 0
 FixedTells = (servers : List raft.Server) (me : ℕ) (old : Node) (x : Taken) → SameVoters (raft.voters servers) x.inputs → TellsVoters (fixed servers) me old x
 
--- And so it is afterwards, where it has these servers and no change behind them.
+-- And this holds afterwards, if it has these servers and no change after them.
 abbrev pub FixedCounts : Type 0
 FixedCounts =
     (servers : List raft.Server) (me : ℕ) (old new : Node) (x : Taken) → SameVoters (raft.voters servers) x.inputs →
@@ -249,8 +249,8 @@ MembersKnown =
 
 -- ---- what follows
 
--- An event that ended well is an act that fits; the node goes on to stand for Raft's node and for its life; it says what they say,
--- except for what snapshots stand for; it hands to readers what the life lends, and its engine told the answers that the life uses.
+-- An event that ended well is an act that fits; the node continues to represent Raft's node and its life; it says what they say,
+-- except for what snapshots represent; it hands to readers what the life lends, and its engine gave the answers that the life uses.
 pub record Moved (m : Meaning) (kind : EngineKind) (setup : Setup) (acts : List Act) (n : ℕ) (causes : List Cause) (places : List ℕ) (old new : Node) (x : Taken) (letters : List Letter) (replies : List (ℕ × Reply)) (jobs : List (ℕ × Job)) (answers : List Answer) : Type 0 where
   pub life : List Doing
   pub fit : ActsFit m kind setup first_cluster (acts ++ Moves n causes places life ∷ [])
@@ -290,7 +290,7 @@ StopsFit m kind =
     AlikeInputs (taken_in setup (cluster setup acts) n causes) x.inputs → BytesAre setup x.bytes (taken_in setup (cluster setup acts) n causes) →
     ReadsIn m kind ((cluster setup acts).lives n) x.read → TellsVoters setup n old x → StopsInStep m kind setup n old kept x → Stopped m kind setup acts n causes old x kept
 
--- A node that is started from what was kept stands for Raft's node and for a new life.
+-- A node that is started from what was kept represents Raft's node and a new life.
 abbrev pub StartsFit : Meaning → EngineKind → Type 0
 StartsFit m kind =
     (setup : Setup) (acts : List Act) (n : ℕ) (servers : List raft.Server) (kept : Kept) (new : Node) →

@@ -61,7 +61,7 @@ gate_after g conn (Suggests s contents note) = with_session g conn s
 gate_after g conn (Lends s job) = with_session g conn s
 gate_after g conn (Affects effect) = affected_by g effect
 
--- what is told at once
+-- what is reported at once
 abbrev pub told_at_once : ℕ → Turned → List (ℕ × Reply)
 told_at_once conn (Refused cause) = (conn, Refusal cause) ∷ []
 told_at_once conn Lacks = []
@@ -101,7 +101,7 @@ AreSpelled (Answers s reply note) = Unit {0}
 AreSpelled (Lends s job) = Unit {0}
 AreSpelled (Affects effect) = Unit {0}
 
--- What a request comes to may be proposed, where it reads back and only who leads serves; and so what a query comes to that is run later
+-- The outcome of a request may be proposed, if it reads back and only who leads serves; and so may that of a query that is run later
 -- than it was asked.
 abbrev pub RequestsMayPropose : Type 0
 RequestsMayPropose =
@@ -113,7 +113,7 @@ LatersMayPropose =
     (v : View) (leads : Bool) (m : Machine) (g : Gateway) (conn : ℕ) (statement : Statement) (answers : List Answer) → (v.serving ≡ true → leads ≡ true) →
     AreSpelled (on_later v m g conn statement answers) → MayPropose v leads (on_later v m g conn statement answers)
 
--- A client's request was handled, where nothing was due at Raft: by answers that the engine may give, all of which it used, it came to
+-- A client's request was handled, if nothing was due at Raft: by answers that the engine may give, all of which it used, it came to
 -- what the rules say.
 pub record Handles (m : Meaning) (kind : EngineKind) (a b : Moment) (conn : ℕ) (request : Request) (replies : List (ℕ × Reply)) : Type 0 where
   pub standing : Standing
@@ -179,7 +179,7 @@ ProposalGoes m kind =
 
 -- ---- what a leader owes
 
--- A leader's own entries, as its Undos or a Checkpoint, are due behind what is due: they have no pages, and read back.
+-- A leader's own entries, as its Undos or a Checkpoint, are due after what is due: they have no pages, and read back.
 pub record Owes (a b : Moment) (contents : List Content) : Type 0 where
   pub leads : is_leader a.node.raft.role ≡ true
   pub plain : ArePlain a.node.serving contents

@@ -1,4 +1,4 @@
--- What a node is told of its voters, where they change, turn by turn: facts of the node before a turn and after it, in its own words,
+-- What a node learns of its voters, if they change, turn by turn: facts of the node before a turn and after it, in its own words,
 -- that each turn can show, and what they are enough for.
 use Rattle.std.specs.Prelude.{◌≡◌, ◌≢◌, ℕ, ◌<◌, ◌≤◌, true, false, List, [], ◌∷◌, ◌++◌, length, drop, Some, None}
 use Rattle.database_state.specs.Files.{Content}
@@ -30,7 +30,7 @@ abbrev pub MayTell : Setup → ℕ → List ℕ → Node → List raft.Input →
 MayTell setup me bytes a inputs =
     (s : raft.Node) (is : List raft.Input) → Counts setup a s → TakesIn setup me a s is (taking bytes inputs) → Told setup me s is
 
--- Raft's part makes the steps, the node is told its voters at each of them, and it was told so after the last.
+-- Raft's part makes the steps, the node is given its voters at each of them, and it was given them after the last.
 pub record Tells (setup : Setup) (me : ℕ) (bytes : List ℕ) (a b : Node) (inputs : List raft.Input) : Type 0 where
   pub made : node_of b.raft ≡ steps (compacted_step me) (node_of a.raft) inputs
   pub may : MayTell setup me bytes a inputs
@@ -55,7 +55,7 @@ TellsToStop =
 
 -- ---- turns
 
--- the input tells no servers, and proposes no change
+-- the input names no servers, and proposes no change
 abbrev pub IsPlain : raft.Input → Type 0
 IsPlain (Local Timeout) = Unit {0}
 IsPlain (Local Beat) = Unit {0}
@@ -66,7 +66,7 @@ IsPlain (Local (Snapped index)) = Unit {0}
 IsPlain (Local (UseServers servers)) = ⊥
 IsPlain (Receive m) = Unit {0}
 
--- The configurations follow the log in a step of Raft, whatever whole logs stand behind its two ends.
+-- The configurations follow the log in a step of Raft, whatever whole logs its two ends represent.
 abbrev pub FollowLog : NodeValue → NodeValue → Configurations → Configurations → Type 0
 FollowLog old new m n =
     (opening : List Server) (s t : raft.Node) → Twin s (node_of old) → Twin t (node_of new) → SameUpTo s.commit s.log t.log →
@@ -80,7 +80,7 @@ pub record VotersRest (a b : Node) : Type 0 where
   pub settle : (setup : Setup) (log : List Entry) → IsOf setup log a.members → applied ≤ length log → IsOf setup log b.members
 
 -- How the turn of a step ends: with the configurations that were; with a node that doesn't follow, whose own entries aren't changes;
--- or Raft is told the servers of the current one.
+-- or Raft is given the servers of the current one.
 pub data TellsLast (me : ℕ) (a b : Node) (mid : NodeValue) (more : List raft.Input) : Type 0 where
   with_same : b.raft ≡ mid → b.members ≡ a.members → more ≡ [] → TellsLast me a b mid more
   with_own : b.raft ≡ mid → mid.role ≢ Follower → more ≡ [] → TellsLast me a b mid more
@@ -96,7 +96,7 @@ pub record VotersFollow (me : ℕ) (a b : Node) (i : raft.Input) (more : List ra
   pub follow : FollowLog a.raft mid a.members b.members
   pub last : TellsLast me a b mid more
 
--- The entry at the commit index is of the node's own term: so it is of a leader that has committed the barrier of its term.
+-- The entry at the commit index is of the node's own term: this holds for a leader that has committed the barrier of its term.
 abbrev pub OwnsCommit : NodeValue → Type 0
 OwnsCommit h = term_at (node_of h).log h.commit ≡ h.term
 
@@ -112,7 +112,7 @@ pub record MayChange (a : Node) (e : Entry) (servers : List Server) : Type 0 whe
   pub barrier : OwnsCommit a.raft
   pub near : are_near (voters a.members.servers) (voters servers) ≡ true
 
--- Raft is told the servers, and then proposes the entry, which is counted by them.
+-- Raft is given the servers, and then proposes the entry, which is counted by them.
 pub record VotersChange (me : ℕ) (a b : Node) (e : Entry) (servers : List Server) : Type 0 where
   pub may : MayChange a e servers
   pub mid : NodeValue
@@ -120,13 +120,13 @@ pub record VotersChange (me : ℕ) (a b : Node) (e : Entry) (servers : List Serv
   pub made : node_of b.raft ≡ (compacted_step me (node_of mid) (Local (Propose (e ∷ [])))).node
   pub follow : FollowLog mid b.raft a.members b.members
 
--- The configurations of a whole log up to an index, with these servers there, and with the entries behind it that are held.
+-- The configurations of a whole log up to an index, with these servers there, and with the entries after it that are held.
 abbrev pub FromSnapshot : List Server → ℕ → List Entry → Configurations → Type 0
 FromSnapshot servers index held m =
     (opening : List Server) (front : List Entry) → length front ≡ index → configuration (read_setup opening) front ≡ servers →
     IsOf (read_setup opening) (front ++ drop index held) m
 
--- A message puts its snapshot in the place of entries; the configurations are those of the log behind it, and Raft is told the current one.
+-- A message puts its snapshot in the place of entries; the configurations are those of the log after it, and Raft is given the current one.
 pub record VotersInstall (me : ℕ) (bytes : List ℕ) (a b : Node) (m : raft.Message) (servers : List Server) : Type 0 where
   pub coherent : IsCoherent a.raft
   pub mid : NodeValue
@@ -145,7 +145,7 @@ pub record VotersCompact (me : ℕ) (a b : Node) (index : ℕ) : Type 0 where
   pub made : node_of b.raft ≡ (compacted_step me (node_of a.raft) (Local (Snapped index))).node
   pub members : b.members ≡ a.members
 
--- A start over what was kept: the configurations are those of the log behind the snapshot, or behind nothing, and Raft is told the
+-- A start over what was kept: the configurations are those of the log after the snapshot, or after nothing, and Raft is told the
 -- current one.
 pub record VotersStart (opening : List Server) (kept : Kept) (new : Node) (servers : List Server) : Type 0 where
   pub first : List Server
@@ -181,7 +181,7 @@ CompactTells =
 
 -- ---- a turn that is stopped has been told too
 
--- in a step that proposes no change, or behind it
+-- in a step that proposes no change, or after it
 abbrev pub PlainStops : Type 0
 PlainStops =
     (opening : List Server) (me : ℕ) (bytes : List ℕ) (a : Node) (i : raft.Input) (servers : List Server) → IsPlain i →

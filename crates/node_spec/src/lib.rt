@@ -14,12 +14,12 @@ ghost use Rattle.node_spec.specs.Voting.{ChangeStops, ChangeTells, CompactTells,
 
 use sql_engine::Engine;
 
-/// A node that has kept nothing stands for Raft's first node and for a life that begins.
+/// A node that has kept nothing represents Raft's first node and a life that begins.
 pub fn first_nodes_stand()
     ensures { FirstStands }
 {}
 
-/// Where a node's step shows its clauses, its events are acts that fit, and what it stands for goes on: an event that ended
+/// If a node's step shows its clauses, its events are acts that fit, and what it represents continues: an event that ended
 /// well, one that failed or was stopped, and a start.
 pub fn nodes_make_acts<E: Engine>()
     ensures steps { (kind : _) → StepsFit (E.meaning kind) kind }
@@ -27,7 +27,7 @@ pub fn nodes_make_acts<E: Engine>()
     ensures starts { (kind : _) → StartsFit (E.meaning kind) kind }
 {}
 
-/// With fixed voters the clauses on voters hold of each event in which the node tells itself no others. With voters that change
+/// With fixed voters the clauses on voters hold of each event in which the node gives itself no others. With voters that change
 /// the configuration of a whole log is known from the snapshot's and the entries that the node holds.
 pub fn voters_are_told()
     ensures tells { FixedTells }
@@ -35,7 +35,7 @@ pub fn voters_are_told()
     ensures members { MembersKnown }
 {}
 
-/// Stretches of an event in which a node is told its voters join, and show what is asked of a whole event, or of one that is
+/// Stretches of an event in which a node is given its voters join, and show what is asked of a whole event, or of one that is
 /// stopped in further steps.
 pub fn told_voters_join()
     ensures on { TellsOn }
@@ -43,7 +43,7 @@ pub fn told_voters_join()
     ensures stops { TellsToStop }
 {}
 
-/// Each turn of a node is such a stretch, with voters that change: one without a step of Raft; a step behind which the
+/// Each turn of a node is a stretch of an event, with voters that change: one without a step of Raft; a step after which the
 /// configurations follow the log; a change that a leader tells and then proposes; a snapshot that comes; and an own one.
 pub fn turns_tell_voters()
     ensures rest { RestTells }
@@ -53,25 +53,25 @@ pub fn turns_tell_voters()
     ensures compact { CompactTells }
 {}
 
-/// A turn that is stopped in one of its steps was told its voters too: by what stood before it alone.
+/// A turn that is stopped in one of its steps was told its voters too: by what was before it alone.
 pub fn stopped_turns_tell_voters()
     ensures plain { PlainStops }
     ensures change { ChangeStops }
 {}
 
 /// A leader moves its commit index to entries of its own term alone. So one that has committed past the log with which it was elected
-/// owns the entry at its commit index for as long as it leads that term, as has to be so where it proposes a change.
+/// owns the entry at its commit index while it leads that term, as has to be so if it proposes a change.
 pub fn leaders_own_commits()
     ensures { LeadersOwn }
 {}
 
-/// A node that starts counts by the configurations of the log behind its snapshot, and was told the current one.
+/// A node that starts counts by the configurations of the log after its snapshot, and was given the current one.
 pub fn starts_tell_voters()
     ensures { StartCounts }
 {}
 
 /// Where servers may stand together and one change was let pass, those after it may, and their voters differ in one at most, so
-/// that a leader may propose it where its node has applied every earlier change and the barrier of its term. That the address of a
+/// that a leader may propose it if its node has applied every earlier change and the barrier of its term. That the address of a
 /// server that joins holds no NUL is asked of the request.
 pub fn one_change_stands()
     ensures joins { JoinsStand }
@@ -81,8 +81,8 @@ pub fn one_change_stands()
     ensures proposed { ChangesAreProposed }
 {}
 
-/// Behind each step of an event it is known of which front of the log a node's snapshot is, and by which bytes: those that it had,
-/// where the step leaves the snapshot, those that came, where a message has one put in place, and those of an own snapshot, which is
+/// After each step of an event it is known of which front of the log a node's snapshot is, and by which bytes: those that it had,
+/// if the step leaves the snapshot, those that came, if a message has one put in place, and those of an own snapshot, which is
 /// of the log up to an applied index. So its configuration is known.
 pub fn snapshots_are_known()
     ensures stay { SnapshotsStay }
@@ -90,7 +90,7 @@ pub fn snapshots_are_known()
     ensures taken { SnapshotsTaken }
 {}
 
-/// Stretches of an event join: where each turn of a node shows its own, so does the whole. A reader may have told a reply in the
+/// Stretches of an event join: if each turn of a node shows its own, so does the whole. A reader may have told a reply in the
 /// first one.
 pub fn stretches_join<E: Engine>()
     ensures on { (kind : _) → GoesOn (E.meaning kind) kind }
@@ -121,15 +121,15 @@ pub fn clients_turn<E: Engine>()
     session_spec::counts_restart();
 }
 
-/// What a request comes to, or a query that is run later than it was asked, a leader may propose, as who serves is: it is numbered by
+/// The outcome of a request, or of a query that is run later than it was asked, may be proposed by a leader, and who serves is one: it is numbered by
 /// the log's end, which has room, or has no pages.
 pub fn proposals_fit()
     ensures requests { RequestsMayPropose }
     ensures later { LatersMayPropose }
 {}
 
-/// So is an entry that is applied; without an office that changes nothing at the sessions. And so is what a leader then does: it takes
-/// the first proposal that is due into its log, owes entries of its own, and begins to serve.
+/// An entry that is applied is a stretch; without a leadership it changes nothing at the sessions. What a leader then does is one too: it takes
+/// the first proposal that is due into its log, owes its own entries, and begins to serve.
 pub fn logs_turn<E: Engine>()
     ensures applies { (kind : _) → ApplyingGoes (E.meaning kind) kind }
     ensures ended { EndedStay }
@@ -138,7 +138,7 @@ pub fn logs_turn<E: Engine>()
     ensures serves { (kind : _) → ServingGoes (E.meaning kind) kind }
 {}
 
-/// Raft's turns are stretches too: a step that leaves the log, as one in which Raft is told servers; a message, a timeout or a beat, by
+/// Raft's turns are stretches too: a step that leaves the log, as one in which Raft is given servers; a message, a timeout or a heartbeat, by
 /// which term and leadership may change and others change the log; a snapshot that comes; and an own one.
 pub fn raft_turns<E: Engine>()
     ensures leaves { (kind : _) → LeavingGoes (E.meaning kind) kind }
@@ -161,8 +161,8 @@ pub fn raft_steps_are_kept()
     applied_state::snapshots_read_back();
 }
 
-/// Sessions in which nothing is open nor in flight, so that a lost leadership changes nothing at them and is told nobody: at a start,
-/// behind a lost leadership, and as long as the node doesn't serve.
+/// Sessions in which nothing is open nor pending, so that a lost leadership changes nothing at them and is told nobody: at a start,
+/// after a lost leadership, and while the node doesn't serve.
 pub fn ended_sessions_stay()
     ensures { EndsOn }
 {}

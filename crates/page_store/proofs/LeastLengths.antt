@@ -1,4 +1,4 @@
--- The least number of a stretch: of one place, of two stretches, and of a place below which nothing is cut.
+-- The least number of a stretch: of one place, of two stretches, and of a place below which nothing is truncated.
 use Rattle.std.proofs.Common.{◌≡◌, ℕ, zero, suc, ◌+◌, ◌-◌, ◌<◌, ◌≤◌, ◌⊎◌, min, List, ◌∷◌, ◌++◌, length, refl, sym, ap, arith, inl, inr}
 use Rattle.std.specs.Prelude.{◌↔◌}
 use Rattle.std.proofs.lemmas.Bool.{cases_lt}
@@ -17,7 +17,7 @@ least_one g at k =
 pub least_at : (g : ℕ → ℕ) (first last first' last' least : ℕ) → first ≡ first' → last ≡ last' → Least g first last least → Least g first' last' least
 least_at g first last first' last' least e f l k = (λ h i from to. (l k).0 h i (omega arith) (omega arith), λ r. (l k).1 (λ i from to. r i (omega arith) (omega arith)))
 
--- one stretch right behind another
+-- one stretch right after another
 pub least_join : (g : ℕ → ℕ) (first middle last x y : ℕ) → first < middle → middle ≤ last → Least g first (middle - 1) x → Least g middle last y → Least g first last (min x y)
 least_join g first middle last x y below within front back k = (
   λ h i from to. elim (cases_lt i middle) [

@@ -63,7 +63,7 @@ least_mark-seen pages marks = seen_least pages None marks
 
 -- ---- more pages, and fewer
 
--- marks see what they saw when pages are added behind
+-- marks see what they saw when pages are added after
 pub seen_longer : (pages more : List NumberedPage) (marks : List (Option ℕ)) → ((id count : ℕ) → mark_at marks id ≡ Some count → IsEnd pages count) → map (seen (pages ++ more)) marks ≡ map (seen pages) marks
 seen_longer pages more marks ends = map_same (seen (pages ++ more)) (seen pages) marks (λ i. each (get_or marks i None) (ends i))
   where

@@ -45,7 +45,7 @@ stayed s n k q up e =
       | inr off ↦ (λ same. false≢true (sym off ∙ ap (λ (x : ℕ × ℕ). is_eq (pair_cmp k x)) (sym same) ∙ pair_same k), sym (up.2 q off) ∙ e)
     ]
 
--- ---- a frame pushed behind the others
+-- ---- a frame pushed after the others
 
 pub placed_push : (numbers : List ℕ) (first : ℕ) (s n : Places) (number : ℕ) → Placed numbers first s → first + length numbers + 1 < 2 ^ 64 → Updates pair_cmp s n (number, first + length numbers) true → Placed (numbers ++ number ∷ []) first n
 placed_push numbers first s n number placed fits up =

@@ -1,4 +1,4 @@
--- Sets that stand one behind the other in a list of pages: the list in two parts, and how many pages they have.
+-- Sets that stand one after the other in a list of pages: the list in two parts, and how many pages they have.
 use Rattle.std.proofs.Common.{◌≡◌, ℕ, ◌+◌, ◌-◌, ◌≤◌, true, false, cond, eqb, List, [], ◌∷◌, ◌++◌, length, take, drop, refl, sym, ap, ◌∙◌, append-nil, add-zero, zero-add, append_assoc, arith}
 use Rattle.std.specs.Prelude.{sum_by}
 use Rattle.std.specs.List.{flat_map}
@@ -29,7 +29,7 @@ open_after-append begun (p ∷ xs) ys =
       | false ↦ open_after-append (begun ++ p ∷ []) xs ys
     ]
 
--- behind whole sets
+-- after whole sets
 pub sets_of-append : (xs ys : List NumberedPage) → open_after [] xs ≡ [] → sets_of (xs ++ ys) ≡ sets_of xs ++ sets_of ys
 unfolding sets_of
 sets_of-append xs ys closed = sets_from-append [] xs ys ∙ ap (λ (b : List NumberedPage). sets_from [] xs ++ sets_from b ys) closed

@@ -30,7 +30,7 @@ LeavesAlone id (Pin other) = other ≢ id
 LeavesAlone id (Release other) = other ≢ id
 LeavesAlone id Checkpoint = Unit {0}
 
--- Among the calls is the one that pinned the mark as it stands: none behind it pinned or released that mark. After all of
+-- Among the calls is the one that pinned the mark as it stands: none after it pinned or released that mark. After all of
 -- them the mark shows the image that was newest when it was pinned.
 pub record ShowsImagePinned (start : Store) (calls : List Call) (id : ℕ) : Type 0 where
   pub before : List Call

@@ -19,7 +19,7 @@ pub record IsEnd (pages : List NumberedPage) (count : ℕ) : Type 0 where
   pub closed : open_after [] (take count pages) ≡ []
 
 -- The pages are whole sets that can be applied, each page with its set's lengths; there is room for each length; a mark
--- stands where a set ends.
+-- is where a set ends.
 pub record Holds (main side : ℕ) (pages : List NumberedPage) (lengths : List Lengths) (newest : ℕ) (marks : List (Option ℕ)) : Type 0 where
   pub sound : AllByRecursion IsSoundSet (sets_of pages)
   pub sized : AllByRecursion IsSized pages

@@ -9,7 +9,7 @@ use Rattle.dq_base.specs.Applying.{replaced}
 abbrev pub length_of : ℕ → Lengths → ℕ
 length_of parity lengths = if parity == 0 then lengths.main else lengths.side
 
--- a file with one page put into it, where the page is one of this file's
+-- a file with one page put into it, if the page is one of this file's
 abbrev pub put_one : Bool → NumberedPage → List ℕ → List ℕ
 put_one mine p file = if mine then replaced file (page_start p.number) p.page else file
 

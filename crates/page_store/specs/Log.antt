@@ -13,7 +13,7 @@ pub record Log : Type 0 where
   pub pages : List NumberedPage
   pub lengths : List Lengths
 
--- a log with more pages behind the others, all of one set
+-- a log with more pages after the others, all of one set
 abbrev pub extended : Log → List NumberedPage → Lengths → Log
 extended log pages lengths = record { pages = log.pages ++ pages; lengths = log.lengths ++ map (λ p. lengths) pages }
 
@@ -35,7 +35,7 @@ lengths_of frames = map (λ f. f.lengths) frames
 abbrev pub IsSized : NumberedPage → Type 0
 IsSized p = length p.page ≡ 4096
 
--- A frame at a place looks back over a stretch that ends with it; where the stretch begins in the log, the frame has the
+-- A frame at a place looks back over a stretch that ends with it; if the stretch begins in the log, the frame has the
 -- least lengths in it.
 pub record LooksBack (lengths : List Lengths) (i : ℕ) (back : ℕ) (least : Lengths) : Type 0 where
   pub from_one : 1 ≤ back

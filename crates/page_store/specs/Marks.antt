@@ -9,7 +9,7 @@ no_marks = replicate 64 None
 abbrev pub mark_at : List (Option ℕ) → ℕ → Option ℕ
 mark_at table id = slice_index_or table id None
 
--- a mark stands at this place
+-- a mark is at this place
 abbrev pub IsLive : List (Option ℕ) → ℕ → Type 0
 IsLive table id = IsSome (mark_at table id)
 
@@ -42,7 +42,7 @@ abbrev pub least_from : Option ℕ → List (Option ℕ) → Option ℕ
 least_from least [] = least
 least_from least (mark ∷ table) = least_from (lesser least mark) table
 
--- the least live mark, where one is live
+-- the least live mark, if one is live
 abbrev pub least_mark : List (Option ℕ) → Option ℕ
 least_mark table = least_from None table
 

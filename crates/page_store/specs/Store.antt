@@ -54,11 +54,11 @@ pinned store id = record store { marks = with_mark store.marks id (length store.
 abbrev pub released : Store → ℕ → Store
 released store id = record store { marks = without_mark store.marks id }
 
--- how many sets a checkpoint moves: those up to the least live mark, or all where no mark is live
+-- how many sets a checkpoint moves: those up to the least live mark, or all if no mark is live
 abbrev pub sets_to_move : Store → ℕ
 sets_to_move store = unwrap_or (least_mark store.marks) (length store.sets)
 
--- after so many sets moved into the base: every live mark is lowered by their number
+-- after this many sets moved into the base: every live mark is lowered by their number
 abbrev pub moved : ℕ → Store → Store
 moved count store = record {
   base = view store.base store.sets count;
@@ -75,7 +75,7 @@ checkpointed store = moved (sets_to_move store) store
 abbrev pub pages_to_move : Store → ℕ
 pages_to_move store = sum_by length (take (sets_to_move store) store.sets)
 
--- Where the mark was live it still is, and it shows the image that it showed.
+-- If the mark was live it still is, and it shows the image that it showed.
 pub record StillShows (old new : Store) (id : ℕ) : Type 0 where
   pub live : IsLive old id → IsLive new id
   pub same_image : IsLive old id → image_under new id ≡ image_under old id

@@ -48,7 +48,7 @@ pub(crate) fn make_room(file: &mut Vec<u8>, len: usize) -> Result<(), AllocError
     file.reserve(len.saturating_sub(file.len()))
 }
 
-/// Resizes a file to the length that a page's set states for it, and puts the page into it where it is one of this file's.
+/// Resizes a file to the length that a page's set states for it, and puts the page into it if it is one of this file's.
 fn lay_one(file: &mut Vec<u8>, page: &NumberedPage, lengths: Lengths, parity: u64)
     requires { length_of parity lengths ≤ vec_capacity file.old }
     ensures items { file.new.items ≡ laid_one parity page.now lengths file.old.items }

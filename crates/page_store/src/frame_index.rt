@@ -50,7 +50,7 @@ impl FrameIndex {
         self.numbers.len() as u64
     }
 
-    /// Adds a frame with this page number behind the others. `Err` means out of memory, which comes also where 2^64
+    /// Adds a frame with this page number after the others. `Err` means out of memory, which comes also if 2^64
     /// frames would have been pushed; the index is then unchanged. Costs a look-up in an ordered set, and now and then,
     /// as a `VecDeque` grows, a move of all numbers.
     pub fn push(&mut self, number: u64) -> Result<(), AllocError>
@@ -67,7 +67,7 @@ impl FrameIndex {
         Ok(())
     }
 
-    /// The last frame with this page number among the first `mark` frames; `None` exactly where none of them has it.
+    /// The last frame with this page number among the first `mark` frames; `None` exactly if none of them has it.
     /// Costs a look-up in an ordered set.
     pub fn last_at(&self, number: u64, mark: u64) -> Option<u64>
         ensures { MatchOption result (NoneAt self.now number mark) (λ frame. IsLastAt self.now number mark frame) }
@@ -79,7 +79,7 @@ impl FrameIndex {
         }
     }
 
-    /// Drops the first `count` frames, or all where there are fewer; the rest count from 1. Costs a look-up in an ordered
+    /// Drops the first `count` frames, or all if there are fewer; the rest count from 1. Costs a look-up in an ordered
     /// set for each frame that is dropped.
     pub fn drop_first(&mut self, count: u64)
         ensures { self.new ≡ drop count self.old }
@@ -89,7 +89,7 @@ impl FrameIndex {
         }
     }
 
-    /// Keeps the first `count` frames, or all where there are fewer, and drops the rest. Costs a look-up in an ordered
+    /// Keeps the first `count` frames, or all if there are fewer, and drops the rest. Costs a look-up in an ordered
     /// set for each frame that is dropped.
     pub fn truncate(&mut self, count: u64)
         ensures { self.new ≡ take count self.old }
@@ -99,7 +99,7 @@ impl FrameIndex {
         }
     }
 
-    /// Drops the first frame, where there is one.
+    /// Drops the first frame, if there is one.
     fn drop_one(&mut self)
         ensures { self.new ≡ drop 1 self.old }
     {
@@ -109,7 +109,7 @@ impl FrameIndex {
         }
     }
 
-    /// Drops the last frame, where there is one.
+    /// Drops the last frame, if there is one.
     fn drop_last(&mut self)
         ensures { self.new ≡ take (length self.old - 1) self.old }
     {
@@ -120,7 +120,7 @@ impl FrameIndex {
     }
 }
 
-/// The greatest place below an end that stands beside a number.
+/// The greatest place below an end that is next to a number.
 fn last_place(places: &BTreeSet<(u64, u64)>, number: u64, end: u64) -> Option<u64>
     ensures { MatchOption result (NoPlace places.now number end) (λ place. IsLastPlace places.now number end place) }
 {

@@ -13,7 +13,7 @@ use std::marker::Model;
 /// One page of a committed set, with the lengths that its set states.
 ///
 /// A frame also looks back over a stretch of frames that ends with itself, and has the least lengths in it. The
-/// stretches are those of a skew-binary list: a frame looks back over the two stretches before it where these are
+/// stretches are those of a skew-binary list: a frame looks back over the two stretches before it if these are
 /// equally long, and else over itself alone. So the least lengths of any stretch come together from a number of frames
 /// in the order of the logarithm of its length.
 #[derive(Clone, Copy)]
@@ -22,7 +22,7 @@ pub(crate) struct Frame {
     pub lengths: Lengths,
     // how many frames it looks back over, itself included
     pub back: usize,
-    // the least lengths of these frames, where none of them was dropped
+    // the least lengths of these frames, if none of them was dropped
     pub least: Lengths,
 }
 
@@ -115,7 +115,7 @@ impl FrameLog {
         done
     }
 
-    /// Drops the first frames, or all where there are fewer. Costs a look-up for each.
+    /// Drops the first frames, or all if there are fewer. Costs a look-up for each.
     pub fn drop_first(&mut self, count: usize)
         ensures { self.new ≡ without_first count self.old }
     {
@@ -136,7 +136,7 @@ impl FrameLog {
         Ok(())
     }
 
-    /// Adds one page, or nothing where memory runs out.
+    /// Adds one page, or nothing if memory runs out.
     fn push(&mut self, page: &NumberedPage, lengths: Lengths) -> Result<(), AllocError>
         ensures done { OnOk result (self.new ≡ extended self.old (page.now ∷ []) lengths) }
         ensures kept { OnErr result (self.new ≡ self.old) }
@@ -163,7 +163,7 @@ impl FrameLog {
         }
     }
 
-    /// Drops the first frame, where there is one.
+    /// Drops the first frame, if there is one.
     fn drop_one(&mut self)
         ensures { self.new ≡ without_first 1 self.old }
     {
@@ -172,7 +172,7 @@ impl FrameLog {
         }
     }
 
-    /// Drops the last frame, where there is one.
+    /// Drops the last frame, if there is one.
     fn drop_last(&mut self)
         ensures { self.new ≡ first_of (length self.old.pages - 1) self.old }
     {
@@ -182,7 +182,7 @@ impl FrameLog {
     }
 }
 
-/// How far back a frame with these lengths looks that comes behind others, and the least lengths there.
+/// How far back a frame with these lengths looks that comes after others, and the least lengths there.
 fn next_stretch(frames: &VecDeque<Frame>, lengths: Lengths) -> (usize, Lengths)
     requires { AllLookBack frames.now.items }
     ensures { LooksBack (lengths_of frames.now.items ++ lengths ∷ []) (length frames.now.items) result.0 result.1 }

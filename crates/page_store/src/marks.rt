@@ -8,7 +8,7 @@ use std::marker::Model;
 const MAX_MARKS: usize = 64;
 
 /// A live mark of one table. Contracts see it as its place there. It is made by `Marks::pin` alone, can't be copied, and
-/// is spent by `Marks::release`; so where a table's marks are released only by its own ids, an id that wasn't spent is
+/// is spent by `Marks::release`; so if a table's marks are released only by its own ids, an id that wasn't spent is
 /// live.
 #[derive(Debug, Drop)]
 pub struct MarkId {
@@ -59,7 +59,7 @@ impl Marks {
         }
     }
 
-    /// Pins a mark at a free place. `Full(64)` exactly where 64 marks are live; the table is then unchanged. Constant
+    /// Pins a mark at a free place. `Full(64)` exactly if 64 marks are live; the table is then unchanged. Constant
     /// cost: it looks at no more than 64 places.
     pub fn pin(&mut self, mark: u64) -> Result<MarkId, MarkFault>
         ensures pinned { IfOk result (λ id. Pinned self.old self.new id mark) }
@@ -83,7 +83,7 @@ impl Marks {
         self.table[id.place] = None;
     }
 
-    /// The least live mark; `None` exactly where none is live. Looks at 64 places.
+    /// The least live mark; `None` exactly if none is live. Looks at 64 places.
     pub fn least(&self) -> Option<u64>
         ensures value { result ≡ least_mark self.now }
         ensures meaning { MatchOption result (NoneLive self.now) (λ least. IsLeastMark self.now least) }

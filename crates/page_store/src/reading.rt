@@ -79,7 +79,7 @@ fn page_from_start(
 }
 
 /// The bytes of a page of one file after the first frames of a log: those of the last frame of the page, or of the base
-/// where there is none, as far as no later set cut the file, and then zeros.
+/// without one, as far as no later set cut the file, and then zeros.
 fn page_of_file(file: &[u8], log: &FrameLog, count: usize, number: u64, start: usize) -> Page
     requires within { count ≤ length log.now.pages }
     requires above { 1 < number }

@@ -22,7 +22,7 @@ use std::sync::Arc;
 /// into the base, up to the least live mark.
 ///
 /// It may also keep its newest image whole, to be lent without a copy. Each commit brings that image along, in place where
-/// nobody else holds it and in a copy where somebody does; where memory is short it is let go, and no commit fails for it.
+/// no one else holds it and in a copy where somebody does; where memory is short it is let go, and no commit fails for it.
 ///
 /// Contracts see it as the base, the list of page sets over it, the number of commits that are in the base, and a table
 /// of live marks, each with the number of sets that it sees.
@@ -76,7 +76,7 @@ impl PageStore {
     /// applied counts nowhere.
     ///
     /// It makes the room first that the base needs for the set's two lengths. It looks at the set's pages and costs a
-    /// look-up and a copy for each; now and then, as the frames or the base outgrow their room, they are moved. Where the
+    /// look-up and a copy for each; now and then, as the frames or the base outgrow their room, they are moved. If the
     /// newest image is kept whole, each page is copied once more, into that image, and the image is copied first where
     /// somebody else holds it.
     pub fn commit(&mut self, set: &PageSet) -> Result<u64, PageFault>
@@ -121,7 +121,7 @@ impl PageStore {
         self.newest
     }
 
-    /// Pins a mark that sees all commits so far. `Full(64)` exactly where 64 marks are live; the store is then unchanged.
+    /// Pins a mark that sees all commits so far. `Full(64)` exactly if 64 marks are live; the store is then unchanged.
     /// Constant cost.
     pub fn pin(&mut self) -> Result<MarkId, MarkFault>
         ensures was_free { IfOk result (λ id. mark_at self.old.marks id ≡ None) }
@@ -147,7 +147,7 @@ impl PageStore {
     }
 
     /// The page of a number in the image that a live mark shows, a last page that its file only partly fills with zeros to
-    /// its end; `None` exactly where that image has no such page. Page 1 is the sizes page and always exists.
+    /// its end; `None` exactly if that image doesn't have the page. Page 1 is the sizes page and always exists.
     ///
     /// Costs a look-up and the copy of one page.
     pub fn page_under(&self, id: &MarkId, number: u64) -> Option<Page>
@@ -203,7 +203,7 @@ impl PageStore {
         image_under(self.alloc, main, side, &self.log, count)
     }
 
-    /// The image with all commits. Copies the image that is kept whole, and where none is, copies the base and lays all
+    /// The image with all commits. Copies the image that is kept whole, and if none is, copies the base and lays all
     /// frames into the copy.
     pub fn newest_image(&self) -> Result<Image, AllocError>
         ensures { IfOk result (λ image. image ≡ newest_image self.now) }
@@ -228,7 +228,7 @@ impl PageStore {
         Ok(Arc::new(self.alloc, self.newest_image()?)?)
     }
 
-    /// Keeps the newest image whole from here on, where there is the memory. Copies it at the first time, and after it was
+    /// Keeps the newest image whole from here on, if there is the memory. Copies it at the first time, and after it was
     /// let go.
     pub fn keep_newest(&mut self)
         ensures { self.new ≡ self.old }
@@ -236,7 +236,7 @@ impl PageStore {
         self.whole = self.newest_shared().ok();
     }
 
-    /// Moves frames into the base: those up to the least live mark, or all where no mark is live. Answers how many moved,
+    /// Moves frames into the base: those up to the least live mark, or all if no mark is live. Answers how many moved,
     /// which is the number of pages of the sets that moved. Every live mark shows what it showed before.
     ///
     /// Costs a look-up and the copy of a page for each frame that moves, and the bytes by which the files grow. The base
@@ -255,7 +255,7 @@ impl PageStore {
     }
 }
 
-/// How many frames a checkpoint moves: those up to the least live mark, or all of so many where no mark is live.
+/// How many frames a checkpoint moves: those up to the least live mark, or all of this many where no mark is live.
 fn frames_to_move(marks: &Marks, frames: u64) -> u64
     ensures { result ≡ unwrap_or (least_mark marks.now) frames }
 {
@@ -265,8 +265,8 @@ fn frames_to_move(marks: &Marks, frames: u64) -> u64
     }
 }
 
-/// An image that was kept whole, after a commit of these pages: changed in place where nobody else holds it, and in a copy
-/// where somebody does. `None` where memory is short.
+/// An image that was kept whole, after a commit of these pages: changed in place where no one else holds it, and in a copy
+/// if somebody does. `None` where memory is short.
 fn brought_along(
     alloc: Global,
     whole: Option<Arc<Image, Global>>,

@@ -115,7 +115,7 @@ fn faults_say_why(rt: HostRuntime) -> Result<(), Fail> {
     Ok(())
 }
 
-/// Whether these bytes stand at a place of the log of two frames.
+/// Whether these bytes are at a place of the log of two frames.
 fn has(log: &[u8], place: usize, bytes: &[u8]) -> bool {
     match log.get(place..) {
         Some(rest) => rest.starts_with(bytes),
@@ -162,12 +162,12 @@ fn read(alloc: Global, bytes: &[u8]) -> Result<(usize, u64), WalFault> {
     Ok((read.frames.len(), read.end))
 }
 
-/// The same of the first bytes.
+/// How many frames are read of the first bytes, and where they end.
 fn read_front(alloc: Global, bytes: &[u8], len: usize) -> Result<(usize, u64), WalFault> {
     read(alloc, &bytes[..len.min(bytes.len())])
 }
 
-/// The same with another byte at a place, which is put back then.
+/// How many frames are read with another byte at a place, which is put back then.
 fn read_with(alloc: Global, bytes: &mut [u8], place: usize) -> Result<(usize, u64), WalFault> {
     if let Some(byte) = bytes.get_mut(place) {
         *byte ^= 1;
@@ -225,7 +225,7 @@ fn no_frame_is_read_whose_bytes_changed(rt: HostRuntime) -> Result<(), Fail> {
     Ok(())
 }
 
-/// A log of one frame behind five bytes.
+/// A log of one frame after five bytes.
 fn behind_bytes(alloc: Global) -> Result<Vec<u8>, AllocError> {
     let mut out = Vec::from_slice(alloc, b"front")?;
     let mut writer = WalWriter::begin(&mut out, 0)?;

@@ -2,7 +2,7 @@ use page_store::*;
 use std::alloc::Global;
 use std::test::Fail;
 
-/// Whether so many marks are pinned.
+/// Whether this many marks are pinned.
 fn pins(marks: &mut Marks, count: u64) -> bool {
     for mark in 0..count {
         if marks.pin(mark).is_err() {

@@ -51,7 +51,7 @@ fn moves(store: &mut PageStore, pin: MarkId) -> (u64, u64, Option<u8>, Option<u8
     (first, again, byte, image, store.checkpoint())
 }
 
-/// The same around a pin, behind which a set is committed.
+/// What `moves` answers around a pin, after which a set is committed.
 fn moves_around_a_pin(
     store: &mut PageStore,
     set: &PageSet,

@@ -1,4 +1,4 @@
--- A node's log that is cut off.
+-- A node's log that is compacted.
 use Rattle.std.proofs.Common.{◌≡◌, ℕ, suc, ◌-◌, ◌<◌, ◌≤◌, List, length, drop, refl, sym, ap, subst, ◌∙◌, ⊎_elim, arith}
 use Rattle.std.specs.Prelude.{Bool, true, false, ◌&&◌, ◌||◌, ◌==◌, not, nat_lt, nat_le, max, min, if◌then◌else◌, Option, Some, None}
 use Rattle.std.proofs.lemmas.Bool.{cond-true, cond-false, cases_lt, and_parts, leb-true, leb-false, eqb-true, le-leb}
@@ -68,7 +68,7 @@ plans_same first h last own plan at ok known is =
 min_left : (a b : ℕ) → a ≤ b → min a b ≡ a
 min_left a b le = omega arith
 
--- a log that has a snapshot's end is cut off there
+-- a log that has a snapshot's end is compacted there
 pub cut_kept : (first : LogEnd) (h : NodeValue) (last : LogEnd) → first.index ≡ h.base → IsLog (log_with first h) h.commit h.snapshot → h.commit < last.index → matches (node_of h).log last ≡ true → cut_at (log_with first h) last.index ≡ record { first = last; entries = drop (last.index - h.base) h.entries }
 unfolding matches
 cut_kept first h last at ok new has =
@@ -88,7 +88,7 @@ kept_log new last es commit is at =
     let i = ap (λ (l : CutLog). l.first.index) is in
     record { low = omega arith; applied = omega arith; within = omega arith; cut = λ e. ap (λ (l : CutLog). l.first.term) is }
 
--- a log that is cut off at an index that it has
+-- a log that is compacted at an index that it has
 pub cut_behind : (first : LogEnd) (h : NodeValue) (k : ℕ) → first.index ≡ h.base → k ≤ length (node_of h).log → ((cut_at (log_with first h) k).first.index ≡ max h.base k) × ((cut_at (log_with first h) k).entries ≡ drop (k - h.base) h.entries)
 cut_behind first h k at within =
     let n = whole_count (log_with first h) in

@@ -111,7 +111,7 @@ same_messages (m ∷ ms) ks a =
     let rest = same_messages ms a.1 a.4 in
     (λ i. one i ∷ rest i) ∙ ap (map compact_message) (sym a.2)
 
--- outcomes that differ in what is cut off alone show the same
+-- outcomes that differ in what is compacted alone show the same
 same_outcome : (voters_of : List Entry → List ℕ) (ids : List ℕ) (d e : Outcome) → Alike voters_of ids d e → compact_outcome d ≡ compact_outcome e
 same_outcome voters_of ids d e a =
     let node : compact d.node ≡ compact e.node = ap (λ l. with_whole_log d.node (compacted d.node.snapshot d.node.base ++ l)) a.same.rest ∙ ap compact (sym a.node) in

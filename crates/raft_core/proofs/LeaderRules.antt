@@ -71,7 +71,7 @@ same_updated f p v = cond-true (p == p) v (f p) (eq-eqb p p refl)
 good_match : (h now : NodeValue) (from index : ℕ) → among (peers h.servers h.id) from ≡ true → ids_in h.rows ≡ peers h.servers h.id → progress_of now.rows ≡ after_ack (progress_of h.rows) from true index → match_in now.rows from ≡ max (match_in h.rows from) index
 good_match h now from index p ids rows = ap (λ (t : ProgressTable). t.match_of from) (good_rows h.rows now.rows (peers h.servers h.id) from index ids p rows) ∙ same_updated (match_in h.rows) from (max (match_in h.rows from) index)
 
--- a good one: the peer is sent to again where it is behind
+-- a good one: the peer is sent to again where it lags
 abbrev pub again : Bool → ℕ → SentTo
 again true from = sent.Only from
 again false from = sent.Nobody

@@ -1,4 +1,4 @@
--- Other servers, as the code's node is told them.
+-- Other servers, as the code's node is given them.
 use Rattle.std.proofs.Common.{◌≡◌, ℕ, suc, ◌+◌, ◌<◌, List, [], ◌∷◌, ◌++◌, length, take, refl, sym, ap, ◌∙◌}
 use Rattle.std.specs.Prelude.{Bool, true, false, cond, not, ◌&&◌, ◌==◌, nat_lt, map, slice_index_or}
 use Rattle.std.specs.List.{filter}

@@ -1,4 +1,4 @@
--- What a node tells of its log.
+-- What a node says of its log.
 use Rattle.std.proofs.Common.{◌≡◌, ◌⊎◌, inl, inr, ℕ, length, refl, sym, ap, ◌∙◌, ⊎_elim}
 use Rattle.std.specs.Prelude.{Bool, true, false, not, ◌&&◌, ◌==◌, nat_le, if◌then◌else◌, Some, None}
 use Rattle.std.proofs.lemmas.Bool.{and_cases, not-false, leb-true, eqb-true, eqb-false}
@@ -11,7 +11,7 @@ use Rattle.raft_core.specs.Queries.{forgets_at, known_at}
 use Rattle.raft_core.proofs.WholeLogs.{log_with, log_same}
 use Rattle.raft_core.proofs.FinishRules.{term_same}
 
--- where the term at the cut isn't forgotten, the cut is the log's begin or the snapshot's end
+-- if the term at the cut isn't forgotten, the cut is the log's begin or the snapshot's end
 kept_cut : (h : NodeValue) (i : ℕ) → forgets_at h i ≡ false → i ≡ h.base → (h.base ≡ 0) ⊎ (h.base ≡ h.snapshot.index)
 kept_cut h i f at =
     ⊎_elim

@@ -96,7 +96,7 @@ snapshot_from h now (events.Transfer to) e y r n = inl (stays h now (on_transfer
 snapshot_from h now (events.Snapped end) e y r n = absurd n
 snapshot_from h now (events.Servers servers) e y r n = absurd r
 
--- one that stands past what was committed is one that a message brings
+-- one that is past what was committed is one that a message brings
 came_with : (h now : NodeValue) (event : RaftEvent) (e : Effects) (last : LogEnd) → h.snapshot.index ≤ h.commit → Ends h (rule_at h event) now e → h.commit < now.snapshot.index → last ≡ now.snapshot → IsRuled event → NoSnap event → option_map snapshot_end (offered event) ≡ Some last
 came_with h now event e last low y past is r n = ⊎_elim
     (λ (z : now.snapshot ≡ h.snapshot). let i = ap (λ (l : LogEnd). l.index) z in absurd (omega arith))

@@ -23,7 +23,7 @@ use Rattle.raft_core.specs.Effects.{ChangesLog, Takes, change_from}
 use Rattle.raft_core.specs.Nodes.{IsLog}
 use Rattle.raft_core.proofs.WholeLogs.{log_with, log_same}
 
--- the first m entries stay, and others stand behind them from the first that differs on
+-- the first m entries stay, and others follow them from the first that differs on
 pub begins_from : (commit : ℕ) (old rest new : List Entry) (m k : ℕ) → new ≡ take m old ++ rest → m ≤ length old → 0 < length rest → k ≡ suc m → commit < k → (m ≡ length old) ⊎ (nth_term old m ≢ nth_term rest 0) → Begins commit old new k
 begins_from commit old rest new m k is le some at past x =
     let s = starts m old rest new le some is x in
@@ -50,7 +50,7 @@ front_of h place le =
 abbrev pub with_entries : NodeValue → List Entry → ℕ → NodeValue
 with_entries h es commit = record h { entries = es; commit = commit }
 
--- the first that doesn't agree is past the commit index, where no committed entry is replaced
+-- the first that doesn't agree is past the commit index, if no committed entry is replaced
 late_at : (h : NodeValue) (coming : List Entry) (place n : ℕ) → h.base ≤ place → place ≤ length (node_of h).log → h.commit ≤ length (node_of h).log → (nat_lt 0 (first_replaced (node_of h).log place coming) && nat_le (first_replaced (node_of h).log place coming) h.commit) ≡ false → agreeing_front (drop (place - h.base) h.entries) coming ≡ n → n < length coming → h.commit < suc (place + n)
 unfolding first_replaced
 late_at h coming place n low high in_log keeps front lt =
@@ -168,7 +168,7 @@ not_le a b lt = none (nat_le a b) (λ e. let le : a ≤ b = leb-true a b e in om
     none true f = absurd (f refl)
     none false f = refl
 
--- the code's log has a place past the snapshot exactly where the node's log has it
+-- the code's log has a place past the snapshot exactly if the node's log has it
 pub agrees_same : (first : LogEnd) (h : NodeValue) (prev : LogEnd) → first.index ≡ h.base → IsLog (log_with first h) h.commit h.snapshot → (h.snapshot.index < prev.index) → meets (log_with first h) prev ≡ agrees (node_of h) prev
 unfolding agrees matches
 agrees_same first h prev at ok past =

@@ -69,7 +69,7 @@ does_wait h say won = record { id = refl; servers = refl; outcome = cond-false (
 
 -- ---- standing
 
--- a node that stands in the next term
+-- a node that stands for election in the next term
 abbrev pub standing : NodeValue → NodeValue
 standing h = record h { term = suc h.term; vote = h.id; role = Candidate; leader = 0; grants = h.id ∷ [] }
 
@@ -133,11 +133,11 @@ candidate_of Follower e = absurd cc
 
 -- ---- for the code's branches
 
--- the same of effects that are these
+-- the same for effects that are these
 pub effects_are : (h now : NodeValue) (d : Outcome) (e e' : Effects) → e ≡ e' → Does h d now e' → Does h d now e
 effects_are h now d e e' is x = subst (λ (e : Effects). Does h d now e) (sym is) x
 
--- what holds of a value, where there is one, holds of it in another form
+-- what holds of a value, if there is one, holds of it in another form
 pub if_ok : {A E : Type 0} (r : Result A E) (P Q : A → Type 0) → IfOk r P → ((x : A) → P x → Q x) → IfOk r Q
 if_ok (Ok x) P Q p f = f x p
 if_ok (Err e) P Q p f = tt
@@ -152,7 +152,7 @@ pub leads_with : (h m now : NodeValue) (b : Entry) (next t : ℕ) → m ≡ reco
 leads_with h m now b next t is term made now_is =
     now_is ∙ ap (λ (m : NodeValue). record m { entries = m.entries ++ b ∷ [] }) is ∙ ap (λ b. record (led h next) { entries = h.entries ++ b ∷ [] }) (made ∙ ap barrier (term ∙ ap (λ (m : NodeValue). m.term) is))
 
--- who may stand votes, and has a term to stand in
+-- who may stand votes, and has a term to be in
 pub may_parts : (h : NodeValue) → may_start_election (told h) h.id (node_of h) ≡ true → (among (voters h.servers) h.id ≡ true) × (h.term < 4294967295)
 unfolding may_start_election
 may_parts h e =

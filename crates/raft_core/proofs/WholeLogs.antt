@@ -1,4 +1,4 @@
--- The code's log and the log of the node that it stands for are the same past the cut, and end alike.
+-- The code's log and the log of the node that it represents are the same past the cut, and end alike.
 use Rattle.std.proofs.Common.{◌≡◌, ℕ, suc, ◌+◌, ◌-◌, ◌<◌, ◌≤◌, List, length, drop, sym, ap, ◌∙◌, ⊎_elim, arith}
 use Rattle.std.proofs.lemmas.List.{drop_at}
 use Rattle.std.proofs.lemmas.Bool.{cases_lt}
@@ -13,7 +13,7 @@ use Rattle.raft_safety.proofs.Alikes.{same_end}
 use Rattle.raft_safety.proofs.AlikeRules.{Shape}
 use Rattle.raft_core.specs.Nodes.{IsLog}
 
--- the log of a node's entries, cut off at this place
+-- the log of a node's entries, compacted at this place
 abbrev pub log_with : LogEnd → NodeValue → CutLog
 log_with first h = record { first = first; entries = h.entries }
 

@@ -1,4 +1,4 @@
--- What a rule has made beside the node after it: what is said, to whom the log is sent, where the log has changed.
+-- What a rule has made beside the node after it: what is said, to whom the log is sent, if the log has changed.
 use Rattle.std.specs.Prelude.{◌≡◌, ℕ, ◌<◌, max, Option, Some, None, List, [], ◌∷◌, map}
 use Rattle.raft_spec.specs.Log.{Entry, accept}
 use Rattle.raft_spec.specs.Node as rules
@@ -17,7 +17,7 @@ use Rattle.raft_core.specs.declared.effects.Effects.{Effects}
 abbrev pub message_in : ℕ → ℕ → ℕ → rules.What → rules.Message
 message_in me term to what = record { from = me; to = to; term = term; what = what }
 
--- the messages that it says, where these are the other voters
+-- the messages that it says, if these are the other voters
 abbrev pub said_in : ℕ → ℕ → List ℕ → Say → List rules.Message
 said_in me term voters says.Nothing = []
 said_in me term voters (says.AskVotes last transfer) = map (λ to. message_in me term to (rules.AskVote last transfer)) voters
@@ -38,7 +38,7 @@ recipients_value (sent.Only peer) = rules.Only (peer ∷ [])
 abbrev pub outcome_of : NodeValue → Effects → rules.Outcome
 outcome_of h e = record { node = node_of h; out = said h e.say; recipients = recipients_value e.recipients }
 
--- where the log of a node has changed in a step: nowhere, from the first index on at which it is another one, past the cut, or a snapshot stands in its place
+-- if the log of a node has changed in a step: nowhere, from the first index on at which it is another one, past the cut, or a snapshot is in its place
 abbrev pub ChangesLog : rules.Node → rules.Node → LogChange → Type 0
 ChangesLog s t changes.Nothing = (t.snapshot ≡ s.snapshot) × (t.log ≡ s.log)
 ChangesLog s t (changes.From k) = (t.snapshot ≡ s.snapshot) × (t.base < k) × Begins s.commit s.log t.log k
@@ -51,7 +51,7 @@ pub record Does (h : NodeValue) (d : rules.Outcome) (now : NodeValue) (e : Effec
   pub outcome : d ≡ outcome_of now e
   pub log : ChangesLog (node_of h) (node_of now) e.change
 
--- where the log changes that takes entries
+-- if the log changes that takes entries
 abbrev pub change_from : Option ℕ → LogChange
 change_from None = changes.Nothing
 change_from (Some k) = changes.From k

@@ -31,7 +31,7 @@ input_of (events.Transfer to) = rules.Local (rules.Transfer to)
 input_of (events.Snapped end) = rules.Local (rules.Snapped end.index)
 input_of (events.Servers servers) = rules.Local (rules.UseServers servers)
 
--- the servers that a node is told may stand together, and a candidate is told no other voters
+-- the servers that a node is given may stand together, and a candidate is given no other voters
 abbrev pub EventFits : NodeValue → RaftEvent → Type 0
 EventFits h (events.Servers servers) = IsConfiguration servers × (h.role ≡ rules.Candidate → rules.voters servers ≡ rules.voters h.servers)
 EventFits h event = Unit {0}
@@ -52,14 +52,14 @@ abbrev pub IsRuled : RaftEvent → Type 0
 IsRuled (events.Servers servers) = ⊥
 IsRuled event = Unit {0}
 
--- where the log has changed; the owner has kept its own snapshot, and the log that is left with it
+-- if the log has changed; the owner has kept its own snapshot, and the log that is left with it
 abbrev pub ChangesAt : RaftEvent → rules.Node → rules.Node → LogChange → Type 0
 ChangesAt (events.Snapped end) s t change = change ≡ changes.Nothing
 ChangesAt event s t change = ChangesLog s t change
 
 -- ---- what is to be kept
 
--- term and vote, where one of them isn't these
+-- term and vote, if one of them isn't these
 abbrev pub IsMeta : ℕ → ℕ → NodeValue → Option (ℕ × ℕ) → Type 0
 IsMeta term vote now None = (now.term ≡ term) × (now.vote ≡ vote)
 IsMeta term vote now (Some meta) = ((now.term ≢ term) ⊎ (now.vote ≢ vote)) × (meta.0 ≡ now.term) × (meta.1 ≡ now.vote)
@@ -90,7 +90,7 @@ offered (events.Transfer to) = None
 offered (events.Snapped end) = None
 offered (events.Servers servers) = None
 
--- of that one what is to be kept, where it has come in the log's place
+-- of that one what is to be kept, if it has come in the log's place
 abbrev pub kept_at : LogChange → Option Snapshot → Option Snapshot
 kept_at changes.Nothing came = None
 kept_at (changes.From k) came = None
@@ -101,7 +101,7 @@ abbrev pub IsOffered : RaftEvent → Option Snapshot → Type 0
 IsOffered event None = Unit {0}
 IsOffered event (Some snapshot) = offered event ≡ Some snapshot
 
--- A snapshot or a batch that makes the log of the new node; none where the owner has kept its own snapshot.
+-- A snapshot or a batch that makes the log of the new node; none if the owner has kept its own snapshot.
 abbrev pub WritesLog : RaftEvent → rules.Node → rules.Node → Option Snapshot → Option ℕ → Type 0
 WritesLog (events.Snapped end) s t install batch = (install ≡ None) × (batch ≡ None)
 WritesLog event s t install batch = IsLogWrite s t (option_map snapshot_end install) batch

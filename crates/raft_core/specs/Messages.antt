@@ -1,4 +1,4 @@
--- What a node sends, as the rules' messages. A snapshot stands there for a front of a log of which the end alone is known.
+-- What a node sends, as the rules' messages. A snapshot represents a front of a log of which the end alone is known.
 use Rattle.std.specs.Prelude.{ℕ, List, [], ◌∷◌, map}
 use Rattle.raft_spec.specs.Node as rules
 use Rattle.raft_spec.specs.Compaction.{compacted}
@@ -33,7 +33,7 @@ abbrev pub IsBare : Outgoing → Type 0
 IsBare (sendings.Message message) = IsBareWhat message.what
 IsBare (sendings.Install to term last) = Unit {0}
 
--- ---- the same with a mark: an Install as a message stands for one that no step makes
+-- ---- the same with a mark: an Install as a message represents one that no step makes
 
 -- what a message says, where an Install is marked by a front that is longer than its end
 abbrev pub sent_what : MessageBody → rules.What

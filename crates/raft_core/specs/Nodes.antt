@@ -8,7 +8,7 @@ use Rattle.raft_spec.specs.NodeValues.{NodeValue}
 use Rattle.raft_messages.specs.Grants.{AreAmong}
 use Rattle.raft_messages.specs.Servers.{IsConfiguration}
 
--- the voters that a node was told, whatever its log
+-- the voters that a node was given, whatever its log
 abbrev pub told : NodeValue → List Entry → List ℕ
 told h log = rules.voters h.servers
 

@@ -11,7 +11,7 @@ use Rattle.raft_core.specs.declared.effects.Effects.{Effects}
 use Rattle.raft_core.specs.Effects.{outcome_of}
 use Rattle.raft_core.specs.Nodes.{told}
 
--- an outcome without what is cut off
+-- an outcome without what is compacted
 abbrev pub compact_outcome : Outcome → Outcome
 compact_outcome d = record { node = compact d.node; out = map compact_message d.out; recipients = d.recipients }
 
@@ -21,7 +21,7 @@ pub record Ends (h : NodeValue) (d : Outcome) (now : NodeValue) (e : Effects) : 
   pub servers : now.servers ≡ h.servers
   pub same : compact_outcome (finish (told h) h.id d) ≡ compact_outcome (finish (told h) h.id (outcome_of now e))
 
--- the node with a snapshot at an index, and its log cut off behind it
+-- the node with a snapshot at an index, and its log cut off after it
 abbrev pub compacted_at : NodeValue → ℕ → NodeValue
 compacted_at h i = record h { snapshot = record { index = i; term = term_at (node_of h).log i }; base = max h.base (i - 16); entries = drop (i - 16 - h.base) h.entries }
 

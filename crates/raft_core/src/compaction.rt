@@ -55,7 +55,7 @@ impl RaftNode {
         Compact::new(self.snapshot).plan(last, self.commit, self.log.term_at(last.index))
     }
 
-    // An Install that tells nothing new.
+    // An Install that says nothing new.
     fn install_old(&mut self, from: u64, last: LogEnd) -> Effects
         requires follows { is_leader self.old.role ≡ false }
         requires old { nat_le last.index self.old.commit ≡ true }
@@ -108,14 +108,14 @@ impl RaftNode {
         }
     }
 
-    // A snapshot was kept at an applied index: the log is cut off behind it, except for the last
+    // A snapshot was kept at an applied index: the log is compacted after it, except for the last
     // entries.
     fn compact(&mut self, index: u64)
         requires newer { self.old.snapshot.index < index }
         requires applied { index ≤ self.old.commit }
         ensures { self.new ≡ compacted_at self.old index }
     {
-        // A look at a part tells the prover what holds of the log.
+        // A look at a part shows the prover what holds of the log.
         let _ = &self.votes;
         let term = self.log_term(index);
         let first = Compact::new(self.snapshot).keep_from(index);
@@ -128,7 +128,7 @@ impl RaftNode {
         ensures outcome { Ends self.old (on_snapped (node_of self.old) index) self.new result }
         ensures change { result.change ≡ LogChange.Nothing }
     {
-        // A look at a part tells the prover what holds of the log.
+        // A look at a part shows the prover what holds of the log.
         let _ = &self.votes;
         let snapshot = self.snapshot();
         if index <= snapshot.index {

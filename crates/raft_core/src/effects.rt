@@ -32,7 +32,7 @@ pub enum LogChange {
     Installed(LogEnd),
 }
 
-/// What a rule has made: what is said, to whom the log is sent, where it has changed.
+/// What a rule has made: what is said, to whom the log is sent, if it has changed.
 #[derive(Clone, Copy)]
 pub struct Effects {
     pub say: Say,

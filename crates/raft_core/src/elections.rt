@@ -16,7 +16,7 @@ use wire_words::WireBytes;
 /// At the last term no node stands for election.
 const MAX_TERM: u64 = 4_294_967_295;
 
-/// From so many entries on a node doesn't stand for election.
+/// From this many entries on a node doesn't stand for election.
 const MAX_INDEX: u64 = 4_294_900_000;
 
 // The entry that a new leader appends first.

@@ -33,7 +33,7 @@ fn in_term(entry: Entry, term: u64) -> Entry
 
 impl RaftNode {
     /// Takes entries that follow a place of the log, at the snapshot's end or past it, of which none replaces a committed
-    /// one; the commit index becomes the given one, where that is greater. The entries are moved.
+    /// one; the commit index becomes the given one, if that is greater. The entries are moved.
     pub(crate) fn take_in(
         &mut self,
         place: u64,

@@ -17,7 +17,7 @@ pub enum RaftEvent {
     Message(RaftMessage),
     /// A leader is to append entries of this kind and these bytes, in its own term. At other nodes nothing happens.
     Propose(Entries),
-    /// A leader is to hand its office over to this node.
+    /// A leader is to hand its leadership over to this node.
     Transfer(u64),
     /// The node's owner has kept a snapshot that ends there.
     Snapped { at: LogEnd },
@@ -30,7 +30,7 @@ pub enum RaftEvent {
 pub struct StoredRaft {
     /// The term.
     pub term: u64,
-    /// To whom the node gave its vote in this term; 0 for nobody.
+    /// To whom the node gave its vote in this term; 0 for no node.
     pub vote: u64,
     /// The end of the kept snapshot.
     pub snapshot: Option<LogEnd>,
@@ -47,7 +47,7 @@ pub struct RaftView {
     pub term: u64,
     /// What it is in this term.
     pub role: RaftRole,
-    /// The leader of this term, where it knows one.
+    /// The leader of this term, if it knows one.
     pub leader: Option<u64>,
     /// Where its log ends.
     pub last: LogEnd,
@@ -59,7 +59,7 @@ pub struct RaftView {
 /// sent and before an entry up to `commit` is applied.
 #[derive(Drop)]
 pub struct Todo {
-    /// Term and vote, where one of them is new.
+    /// Term and vote, if one of them is new.
     pub meta: Option<(u64, u64)>,
     /// The first index at which the log is another one now: the entries from there on (`RaftNode::tail`) are to be kept, in
     /// place of all from there.

@@ -23,7 +23,7 @@ use std::alloc::{AllocError, Global};
 /// The most entries that are sent at once.
 const MAX_ENTRIES: usize = 16;
 
-// To whom the log is sent: to all where the commit index moved.
+// To whom the log is sent: to all if the commit index moved.
 fn recipients_where(moved: bool, recipients: Recipients) -> Recipients
     ensures { recipients_value result ≡ cond moved rules.Everyone (recipients_value recipients) }
 {
@@ -34,7 +34,7 @@ fn recipients_where(moved: bool, recipients: Recipients) -> Recipients
 }
 
 impl RaftNode {
-    // A leader's commit index moves; true where it did.
+    // A leader's commit index moves; true if it did.
     fn advance(&mut self) -> bool
         ensures node { self.new ≡ record self.old { commit = commit_index (told self.old) self.old.id (node_of self.old) } }
         ensures moved { result ≡ nat_lt self.old.commit self.new.commit }

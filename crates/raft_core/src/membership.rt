@@ -1,4 +1,4 @@
-//! Other servers: what a node does when it is told them.
+//! Other servers: what a node does when it is given them.
 ghost use Rattle.std.specs.Prelude.{◌≡◌, ◌++◌, ◌∷◌, [], suc, IfOk, length};
 ghost use Rattle.raft_spec.specs.Membership.{gained, on_servers};
 ghost use Rattle.raft_spec.specs.Node.{Candidate, voters, peers};
@@ -96,7 +96,7 @@ impl RaftNode {
         self.peers = sent;
     }
 
-    // The node is told its servers. Answers the peers that it gains.
+    // The node is given its servers. Answers the peers that it gains.
     fn tell(&mut self, alloc: Global, servers: &[Server]) -> Result<Vec<u64>, AllocError>
         requires config { IsConfiguration servers.now }
         requires same { self.old.role ≡ Candidate → voters servers.now ≡ voters self.old.servers }
@@ -112,7 +112,7 @@ impl RaftNode {
         Ok(gained)
     }
 
-    /// The step in which a node is told its servers: a leader sends to the peers that it gains.
+    /// The step in which a node is given its servers: a leader sends to the peers that it gains.
     pub(crate) fn use_servers(
         &mut self,
         alloc: Global,

@@ -151,7 +151,7 @@ impl RaftNode {
         ensures next { IfOk result (λ next. next ≡ suc (length (node_of self.now).log)) }
         ensures past { IfOk result (λ next. self.now.commit < next) }
     {
-        // It tells the prover that what is committed stands in the log.
+        // It shows the prover that what is committed is in the log.
         self.coherent();
         match self.last_index().checked_add(1) {
             Some(next) => Ok(next),

@@ -1,4 +1,4 @@
-//! What a node tells of itself. No call takes memory.
+//! What a node says of itself. No call takes memory.
 ghost use Rattle.std.specs.Prelude.{◌≡◌, ◌<◌, ◌≤◌, ◌-◌, ◌&&◌, ◌==◌, ◌↔◌, IsSome, IfSome, drop, length, max, slice_index_or, suc};
 ghost use Rattle.raft_spec.specs.Log.{log_end};
 ghost use Rattle.raft_spec.specs.Node.{is_leader};
@@ -41,7 +41,7 @@ impl RaftNode {
         }
     }
 
-    /// The entry at an index of the log, if it isn't cut off.
+    /// The entry at an index of the log, if it isn't compacted.
     pub fn entry(&self, index: u64) -> Option<&Entry>
         ensures some { IsSome result ↔ (self.now.base < index) × (index ≤ length (node_of self.now).log) }
         ensures entry { IfSome result (λ e. e.now ≡ slice_index_or self.now.entries (index - self.now.base - 1) e.now) }
@@ -49,7 +49,7 @@ impl RaftNode {
         self.log.entry(index)
     }
 
-    /// The entries of the log from an index on that isn't cut off, lent, as a batch of a step has them; none past the last
+    /// The entries of the log from an index on that isn't compacted, lent, as a batch of a step has them; none past the last
     /// index. Takes constant time.
     pub fn tail(&self, first: u64) -> &[Entry]
         requires { self.now.base < first }
@@ -58,7 +58,7 @@ impl RaftNode {
         self.log.tail(first - 1)
     }
 
-    /// The index up to which the log is cut off; the first entry that is held has the index after it. Constant cost.
+    /// The index up to which the log is compacted; the first entry that is held has the index after it. Constant cost.
     pub fn cut_index(&self) -> u64
         ensures { result ≡ self.now.base }
     {
@@ -88,13 +88,13 @@ impl RaftNode {
         Some(self.match_of(server))
     }
 
-    /// The first index of the log that stays, where its owner keeps a snapshot at an index past the last one's: 16 entries up
+    /// The first index of the log that stays, if its owner keeps a snapshot at an index past the last one's: 16 entries up
     /// to there stay, as far as the log has them.
     pub fn kept_from(&self, index: u64) -> u64
         requires { self.now.snapshot.index < index }
         ensures { result ≡ suc (max self.now.base (index - 16)) }
     {
-        // It tells the prover that the cut isn't past the snapshot.
+        // It shows the prover that the cut isn't past the snapshot.
         self.coherent();
         let first = Compact::new(self.snapshot()).keep_from(index);
         self.cut_index().max(first - 1) + 1
@@ -108,14 +108,14 @@ impl RaftNode {
         Compact::new(last).due(applied)
     }
 
-    /// The term, and to whom the node gave its vote in it; 0 for nobody.
+    /// The term, and to whom the node gave its vote in it; 0 for no node.
     pub fn meta(&self) -> (u64, u64)
         ensures { result ≡ (self.now.term, self.now.vote) }
     {
         (self.term(), self.vote())
     }
 
-    /// The term at an index of the log, where it is known: of an entry that isn't cut off, at the end of the snapshot, and
+    /// The term at an index of the log, if it is known: of an entry that isn't compacted, at the end of the snapshot, and
     /// at 0, which is before the first entry.
     pub fn term_at(&self, index: u64) -> Option<u64>
         ensures { result ≡ known_at self.now index }
@@ -126,7 +126,7 @@ impl RaftNode {
         self.log.term_at(index)
     }
 
-    // Whether the log is cut off at the index, and the term there isn't kept.
+    // Whether the log is compacted at the index, and the term there isn't kept.
     fn forgets(&self, index: u64) -> bool
         ensures { result ≡ forgets_at self.now index }
     {

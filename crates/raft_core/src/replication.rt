@@ -11,7 +11,7 @@ use crate::node::{RaftNode, contains};
 use raft_messages::{Entries, Entry, LogEnd};
 use std::alloc::AllocError;
 
-// The entries of an Append that stand past an index: those up to there go.
+// The entries of an Append that are past an index: those up to there go.
 fn past(entries: Vec<Entry>, prev: LogEnd, index: u64) -> Vec<Entry>
     ensures { result.items ≡ drop (index - prev.index) entries.items }
 {
@@ -51,7 +51,7 @@ impl RaftNode {
         ensures answer { result ≡ agrees (node_of self.now) prev }
         ensures place { result ≡ true → max prev.index self.now.snapshot.index ≤ length (node_of self.now).log }
     {
-        // A look at a part tells the prover what holds of the log.
+        // A look at a part shows the prover what holds of the log.
         let _ = &self.votes;
         let snapshot = self.snapshot();
         if prev.index <= snapshot.index {
@@ -186,7 +186,7 @@ impl RaftNode {
         Effects::says(Say::Nothing)
     }
 
-    /// A leader hands its office over.
+    /// A leader hands its leadership over.
     pub(crate) fn transfer(&self, to: u64) -> Effects
         ensures { Does self.now (on_transfer self.now.id (node_of self.now) to) self.now result }
     {

@@ -26,7 +26,7 @@ fn end_of(snapshot: Option<LogEnd>) -> LogEnd
     }
 }
 
-// The place before the first entry, where the log is cut off. Its term is told by the snapshot alone.
+// The place before the first entry, if the log is compacted. Its term is described by the snapshot alone.
 fn cut_before(first: u64, snapshot: LogEnd) -> LogEnd
     requires { 0 < first }
     ensures { result ≡ record { index = first - 1; term = snapshot.term } }
@@ -37,7 +37,7 @@ fn cut_before(first: u64, snapshot: LogEnd) -> LogEnd
     }
 }
 
-// A log of these entries, cut off at a place.
+// A log of these entries, compacted at a place.
 fn log_of(alloc: Global, cut: LogEnd, entries: Vec<Entry>) -> Result<Log, AllocError>
     ensures { IfOk result (λ log. log ≡ record { first = cut; entries = entries.items }) }
 {
@@ -102,7 +102,7 @@ impl RaftNode {
             progress,
             snapshot,
         };
-        // It tells the prover what holds of the node.
+        // It shows the prover what holds of the node.
         node.coherent();
         Ok(node)
     }

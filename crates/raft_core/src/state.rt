@@ -30,7 +30,7 @@ impl RaftNode {
         self.leader = leader;
     }
 
-    /// A voter stands in the next term, with its own vote.
+    /// A voter stands for election in the next term, with its own vote.
     pub(crate) fn stand(&mut self)
         requires term { self.old.term < 4294967295 }
         requires voter { among (voters self.old.servers) self.old.id ≡ true }
@@ -51,7 +51,7 @@ impl RaftNode {
         self.votes.on_request(from, term, last, own)
     }
 
-    /// A candidate gets a vote; true exactly where a majority of the voters has granted then.
+    /// A candidate gets a vote; true exactly if a majority of the voters has granted then.
     pub(crate) fn count(&mut self, from: u64) -> bool
         requires { self.old.role ≡ Candidate }
         ensures node { self.new ≡ record self.old { grants = grants_with (voters self.old.servers) self.old.grants from } }
@@ -71,7 +71,7 @@ impl RaftNode {
         self.progress = progress;
     }
 
-    /// An entry is added at the log's end. Where memory runs out the node stays.
+    /// An entry is added at the log's end. If memory runs out the node stays.
     pub(crate) fn push(&mut self, entry: Entry) -> Result<(), AllocError>
         ensures { IfOk result (λ done. self.new ≡ record self.old { entries = self.old.entries ++ entry ∷ [] }) }
     {

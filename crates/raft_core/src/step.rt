@@ -83,7 +83,7 @@ impl RaftNode {
         }
     }
 
-    // Term and vote, where one of them isn't these.
+    // Term and vote, if one of them isn't these.
     fn changed_meta(&self, term: u64, vote: u64) -> Option<(u64, u64)>
         ensures { IsMeta term vote self.now result }
     {
@@ -117,7 +117,7 @@ impl RaftNode {
         }
     }
 
-    // The same, where the log has changed so and this snapshot came with the event.
+    // What is to be done after a step, if the log has changed so and this snapshot came with the event.
     fn todo(
         &self,
         was: (u64, u64),
@@ -172,7 +172,7 @@ impl RaftNode {
         ensures sends { IfOk result (λ todo. sents_value self.old.id todo.sends ≡ (compacted_step self.old.id (node_of self.old) (input_of event)).out) }
         ensures commit { IfOk result (λ todo. todo.commit ≡ self.new.commit) }
     {
-        // It tells the prover that the snapshot is applied before the step.
+        // It shows the prover that the snapshot is applied before the step.
         self.coherent();
         let was = self.meta();
         let came = offered(&event)?;
@@ -190,7 +190,7 @@ impl RaftNode {
         Ok(todo)
     }
 
-    // The step in which the node is told its servers.
+    // The step in which the node is given its servers.
     fn step_servers(&mut self, alloc: Global, servers: &Servers) -> Result<Todo, AllocError>
         requires { EventFits self.old (RaftEvent.Servers servers.now) }
         ensures id { IfOk result (λ todo. self.new.id ≡ self.old.id) }
@@ -203,7 +203,7 @@ impl RaftNode {
         ensures commit { IfOk result (λ todo. todo.commit ≡ self.new.commit) }
     {
         let sends = self.use_servers(alloc, servers.as_slice())?;
-        // It tells the prover what holds of the node then.
+        // It shows the prover what holds of the node then.
         self.coherent();
         Ok(Todo {
             meta: None,
@@ -214,7 +214,7 @@ impl RaftNode {
         })
     }
 
-    // The step of an event, by whether it tells the node its servers.
+    // The step of an event, by whether it gives the node its servers.
     fn step_by(&mut self, alloc: Global, event: RaftEvent) -> Result<Todo, AllocError>
         requires { EventFits self.old event }
         ensures id { IfOk result (λ todo. self.new.id ≡ self.old.id) }
@@ -232,17 +232,17 @@ impl RaftNode {
         self.step_rule(alloc, event)
     }
 
-    /// One step of the node: the rules' step of the node that it stands for. Answers what is to be kept, then sent, and
+    /// One step of the node: the rules' step of the node that it represents. Answers what is to be kept, then sent, and
     /// up to which index to apply. It takes the event, and copies no bytes of an entry or a snapshot. `Err` means out of
     /// memory, or an index past 64 bits would be needed; then nothing of the step is to be kept or sent, and the node is
     /// to be made again from what its owner has kept.
     ///
-    /// A condition on `Servers`: they may stand together, and a candidate is told the voters that it has.
+    /// A condition on `Servers`: they may stand together, and a candidate is given the voters that it has.
     pub fn step(&mut self, alloc: Global, event: RaftEvent) -> Result<Todo, AllocError>
         requires { EventFits self.old event }
         ensures id { IfOk result (λ todo. self.new.id ≡ self.old.id) }
         ensures coherent { IfOk result (λ todo. IsCoherent self.new) }
-        // Who leads or stands for election has a term of 32 bits, where it had.
+        // Who leads or stands for election has a term of 32 bits, if it had.
         ensures short { HasShortTerm (node_of self.old) → IfOk result (λ todo. HasShortTerm (node_of self.new)) }
         ensures node { IfOk result (λ todo. node_of self.new ≡ (compacted_step self.old.id (node_of self.old) (input_of event)).node) }
         ensures meta { IfOk result (λ todo. IsMeta self.old.term self.old.vote self.new todo.meta) }

@@ -18,7 +18,7 @@ has_none [] k term le = refl
 has_none (x ∷ xs) zero term le = absurd (omega arith)
 has_none (x ∷ xs) (suc k) term le = has_none xs k term (omega arith)
 
--- behind a place
+-- after a place
 pub has_dropped : (p : ℕ) (es : List Entry) (k term : ℕ) → has_term (drop p es) k term ≡ has_term es (p + k) term
 has_dropped zero es k term = let e : k ≡ 0 + k = omega arith in ap (λ n. has_term es n term) e
 has_dropped (suc p) [] k term = refl
@@ -65,7 +65,7 @@ one_more {m} {r} {e} {rs} {es} q a = record { in_rest = let x = a.in_rest in ome
     terms zero l = q
     terms (suc k) l = a.same k (omega arith)
 
--- so many have the same terms
+-- this many have the same terms
 pub front_alike : (rs es : List Entry) → Alike (agreeing_front rs es) rs es
 front_alike [] es = record { in_rest = omega arith; in_new = omega arith; same = λ k l. absurd (omega arith) }
 front_alike (r ∷ rs) [] = record { in_rest = omega arith; in_new = omega arith; same = λ k l. absurd (omega arith) }
@@ -83,7 +83,7 @@ front_stops (r ∷ rs) (e ∷ es) lt =
     (λ f l. inr (eqb-false _ _ f))
     lt
 
--- where all that come agree, or those that stand end before, none conflicts
+-- if all that come agree, or those that stand end before, none conflicts
 pub front_free : (rs es : List Entry) (n : ℕ) → n ≡ agreeing_front rs es → (n ≡ length es) ⊎ (n ≡ length rs) → conflict_place rs es ≡ 0
 front_free rs es n e x = conflict_none n rs es (subst (λ m. Alike m rs es) (sym e) (front_alike rs es)) x
 

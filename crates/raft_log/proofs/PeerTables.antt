@@ -15,7 +15,7 @@ within_same [] i d e l = absurd (omega arith)
 within_same (r ∷ rs) zero d e l = refl
 within_same (r ∷ rs) (suc i) d e l = within_same rs i d e (omega arith)
 
--- the row that stands there is the first of its id
+-- the row that is there is the first of its id
 pub at_row : (rs : List PeerProgress) (i id : ℕ) (r : PeerProgress) → IsFirstRow rs i id → r ≡ slice_index_or rs i r → At rs i r
 at_row rs i id r f e = record {
   within = f.within;
@@ -95,7 +95,7 @@ passes (x ∷ rs) (suc i) id r l e d h = both (x.id == id) (among (ids_in (take 
     both true b c p f = absurd cc
     both false b c p f = f p
 
--- an Ack of the id of the row that stands there
+-- an Ack of the id of the row that is there
 pub ack_row : (rs : List PeerProgress) (i from : ℕ) (r s : PeerProgress) (good : Bool) (index : ℕ) → IsFirstRow rs i from → r ≡ slice_index_or rs i r → s.id ≡ r.id → s.matched ≡ cond good (max r.matched index) r.matched → s.next ≡ cond good (suc (max r.matched index)) (max (suc r.matched) (min (r.next - 1) (suc index))) → progress_of (slice_set rs i s) ≡ after_ack (progress_of rs) from good index
 ack_row rs i from r s true index f e d m n = good_row rs i r s index (at_row rs i from r f e) d m n ∙ ap (λ p. after_ack (progress_of rs) p true index) (id_of rs i from r f e)
 ack_row rs i from r s false index f e d m n = bad_row rs i r s index (at_row rs i from r f e) d m n ∙ ap (λ p. after_ack (progress_of rs) p false index) (id_of rs i from r f e)

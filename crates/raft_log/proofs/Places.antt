@@ -1,4 +1,4 @@
--- Lengths and terms of the whole log that a log stands for.
+-- Lengths and terms of the whole log that a log represents.
 use Rattle.std.proofs.Common.{◌≡◌, ℕ, zero, suc, ◌+◌, ◌-◌, ◌<◌, ◌≤◌, List, [], ◌∷◌, ◌++◌, length, take, drop, slice_index_or, refl, sym, ap, ◌∙◌, arith, length-append, length-drop}
 use Rattle.std.specs.Prelude.{◌&&◌, ◌==◌, nat_le, true}
 use Rattle.std.proofs.lemmas.Bool.{and_parts, leb-true}
@@ -26,7 +26,7 @@ pub term_none : (l : CutLog) → term_at (whole_log l) 0 ≡ 0
 unfolding term_at
 term_none l = refl
 
--- what is cut off has the term of the cut
+-- what is compacted has the term of the cut
 pub term_cut : (l : CutLog) (k : ℕ) → 0 < k → k ≤ l.first.index → term_at (whole_log l) k ≡ l.first.term
 term_cut l k pos le = whole_term_cut (holder l) k pos le
 

@@ -39,7 +39,7 @@ pub whole_taken : (l : CutLog) (new es : List Entry) (after : ℕ) (from : Optio
 whole_taken l new es after from le t =
     ap (λ x. compacted l.first l.first.index ++ x) (entries_taken l.entries new es (after - l.first.index) from t) ∙ sym (accept_past_cut l.first l.first.index l.entries es after le)
 
--- and it begins to be another one where the answer says
+-- and it begins to be another one if the answer says
 pub whole_starts : (l : CutLog) (new es : List Entry) (after : ℕ) (from : Option ℕ) → l.first.index ≤ after → after ≤ length (whole_log l) → TakesIn l.entries new (after - l.first.index) es from → StartsAt (whole_log l) (whole_log (with_entries l new)) (option_map (λ n. suc (after + n)) from)
 whole_starts l new es after None le within t = ap (λ x. compacted l.first l.first.index ++ x) t.1
 whole_starts l new es after (Some n) le within t =

@@ -15,11 +15,11 @@ agreeing_front [] es = 0
 agreeing_front (r ∷ rs) [] = 0
 agreeing_front (r ∷ rs) (e ∷ es) = cond (r.term == e.term) (suc (agreeing_front rs es)) 0
 
--- entries that come are taken in from a place on: all agree and nothing changes, or so many do, and from there on they stand alone
+-- entries that come are taken in from a place on: all agree and nothing changes, or this many do, and from there on they are alone
 abbrev pub TakesIn : List Entry → List Entry → ℕ → List Entry → Option ℕ → Type 0
 TakesIn old new place coming None = (agreeing_front (drop place old) coming ≡ length coming) × (new ≡ old)
 TakesIn old new place coming (Some n) = (agreeing_front (drop place old) coming ≡ n) × (n < length coming) × (new ≡ take (place + n) old ++ drop n coming)
 
--- a log that is cut off takes the entries that follow an index: the first index that is replaced or added is that of the first entry that doesn't agree
+-- a log that is compacted takes the entries that follow an index: the first index that is replaced or added is that of the first entry that doesn't agree
 abbrev pub TakesAfter : CutLog → CutLog → ℕ → List Entry → Option ℕ → Type 0
 TakesAfter old new after coming from = (agreeing : Option ℕ) × (from ≡ option_map (λ n. suc (after + n)) agreeing) × TakesIn old.entries new.entries (after - old.first.index) coming agreeing

@@ -8,7 +8,7 @@ use Rattle.raft_log.specs.declared.compaction.InstallPlan.TheVariants as plans
 abbrev pub is_due : LogEnd → ℕ → Bool
 is_due last applied = nat_le (last.index + 64) applied
 
--- the first index that stays with a snapshot at the index: what is cut off ends 16 before it
+-- the first index that stays with a snapshot at the index: what is compacted ends 16 before it
 abbrev pub first_kept : ℕ → ℕ
 first_kept index = suc (index - 16)
 

@@ -1,9 +1,9 @@
--- What a log that is cut off knows of its places, and what is left of it when more is cut off.
+-- What a log that is compacted knows of its places, and what is left of it when more is compacted.
 use Rattle.std.specs.Prelude.{ℕ, ◌-◌, ◌&&◌, cond, if◌then◌else◌, nat_le, min, Option, Some, None, length, drop}
 use Rattle.raft_spec.specs.Log.{LogEnd, term_at}
 use Rattle.raft_spec.specs.Compaction.{CutLog, whole_log}
 
--- the place at an index, where the log knows its term: at the cut, or at an entry past it
+-- the place at an index, if the log knows its term: at the cut, or at an entry past it
 abbrev pub known_term : CutLog → ℕ → Option ℕ
 known_term l i = if nat_le l.first.index i && nat_le i (length (whole_log l)) then Some (term_at (whole_log l) i) else None
 

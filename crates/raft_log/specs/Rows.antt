@@ -3,7 +3,7 @@ use Rattle.std.specs.Prelude.{◌≡◌, ℕ, false, cond, ◌<◌, List, length
 use Rattle.raft_spec.specs.Node.{among}
 use Rattle.raft_spec.specs.Progress.{PeerProgress, next_in, match_in, ids_in}
 
--- the first row of an id stands at the place
+-- the first row of an id is at the place
 pub record IsFirstRow (rows : List PeerProgress) (i : ℕ) (id : ℕ) : Type 0 where
   pub within : i < length rows
   pub is : (d : PeerProgress) → (slice_index_or rows i d).id ≡ id

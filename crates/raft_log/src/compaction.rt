@@ -6,16 +6,16 @@ ghost use Rattle.raft_log.specs.Compacting.{is_due, first_kept, needs, plan_for}
 use raft_messages::LogEnd;
 use std::marker::Model;
 
-/// From so many entries past its last snapshot on a node takes another one.
+/// From this many entries past its last snapshot on a node takes another one.
 const SNAPSHOT_DISTANCE: u64 = 64;
 
-/// So many entries up to a snapshot stay in the log, for peers that are a little behind.
+/// This many entries up to a snapshot stay in the log, for peers that lag a little.
 const KEPT_ENTRIES: u64 = 16;
 
 /// What becomes of the log when a snapshot comes.
 #[derive(Clone, Copy, Debug, PartialEq, Eq)]
 pub enum InstallPlan {
-    /// The snapshot tells nothing new.
+    /// The snapshot says nothing new.
     Old,
     /// The log has the snapshot's end: the entries after it stay.
     KeepRest,
@@ -63,7 +63,7 @@ impl Compact {
     }
 
     /// Whether a peer whose next entry has the index `next` needs the snapshot, with a log that begins at the index
-    /// `first`, at least 1: its next entry is cut off, or it is the first one, and the term before it isn't known.
+    /// `first`, at least 1: its next entry is compacted, or it is the first one, and the term before it isn't known.
     pub fn needs_snapshot(&self, next: u64, first: u64) -> bool
         requires { 0 < first }
         ensures { result ≡ needs self.now next first }
@@ -71,7 +71,7 @@ impl Compact {
         next < first || next == first && first != 1 && first - 1 != self.last.index
     }
 
-    /// What becomes of the log when a snapshot comes that ends at a place: nothing where its index is applied; where the
+    /// What becomes of the log when a snapshot comes that ends at a place: nothing if its index is applied; if the
     /// log's own term there is the snapshot's, the entries after it stay; else none. `own` is that term, if it is known.
     pub fn plan(&self, offered: LogEnd, applied: u64, own: Option<u64>) -> InstallPlan
         ensures { result ≡ plan_for offered applied own }

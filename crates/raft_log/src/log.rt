@@ -1,4 +1,4 @@
-//! The log of one node, cut off at its front.
+//! The log of one node, compacted at its front.
 ghost use Rattle.std.specs.Prelude.{◌≡◌, ◌<◌, ◌≤◌, ◌+◌, ◌-◌, ◌++◌, suc, true, MatchOption, option_map, [], ◌∷◌, OnErr, IfOk, IfSome, IsSome, ◌↔◌, if◌then◌else◌, is_ok, length, take, drop, slice_index_or, ◌&&◌, nat_lt, nat_le};
 ghost use Rattle.raft_spec.specs.Log.{nth_term, log_end, term_at, first_replaced};
 ghost use Rattle.raft_spec.specs.Compaction.{whole_log, meets};
@@ -16,7 +16,7 @@ use std::marker::Model;
 pub enum Accepted {
     /// The log doesn't have the place that the entries follow. With its last index.
     Differs(u64),
-    /// The entries stand in the log.
+    /// The entries are in the log.
     Match {
         /// The last index that is known to agree with the sender's log: that of the last entry that came.
         index: u64,
@@ -25,11 +25,11 @@ pub enum Accepted {
     },
 }
 
-/// The log of one node, cut off at its front: of the entries up to `first` it knows the place alone. Clauses see it as
-/// the rules' log that is cut off. Indexes are counted from 1.
+/// The log of one node, compacted at its front: of the entries up to `first` it knows the place alone. Clauses see it as
+/// the rules' log that is compacted. Indexes are counted from 1.
 ///
-/// The entries stand in one piece, so that all from an index on can be lent. Cutting off the front moves the heads of those
-/// that stay, and none of their bytes: where a log is cut only behind a snapshot, and no more entries stay than go, that
+/// The entries are in one piece, so that all from an index on can be lent. Cutting off the front moves the heads of those
+/// that stay, and none of their bytes: if a log is compacted only after a snapshot, and no more entries stay than go, that
 /// is constant for an entry's whole stay on average. Adding an entry is constant on average.
 #[derive(Drop)]
 pub struct Log {
@@ -48,7 +48,7 @@ impl Model for Log {
     ghost invariant = { λ l. l.first.index + length l.entries.items ≤ 18446744073709551615 };
 }
 
-/// The index of the entry that stands so many behind another, if any.
+/// The index of the entry that is this many after another, if any.
 fn first_index(after: u64, from: Option<usize>) -> Option<u64>
     requires { MatchOption from (Unit {0}) (λ n. after + n < 18446744073709551615) }
     ensures { result ≡ option_map (λ n. suc (after + n)) from }
@@ -108,7 +108,7 @@ impl Log {
         term_of(&self.entries, place)
     }
 
-    /// The term at an index of the whole log; what is cut off has the term of the cut.
+    /// The term at an index of the whole log; what is compacted has the term of the cut.
     pub(crate) fn whole_term(&self, index: u64) -> u64
         requires { index ≤ length (whole_log self.now) }
         ensures { result ≡ term_at (whole_log self.now) index }
@@ -135,7 +135,7 @@ impl Log {
         }
     }
 
-    /// The term at an index, where it is known: at the cut, and at each entry past it. Allocates nothing and constant
+    /// The term at an index, if it is known: at the cut, and at each entry past it. Allocates nothing and constant
     /// time.
     pub fn term_at(&self, index: u64) -> Option<u64>
         ensures { result ≡ known_term self.now index }
@@ -155,7 +155,7 @@ impl Log {
         self.term_at(index) == Some(term)
     }
 
-    /// The entry at an index, if it stands past the cut. Allocates nothing and constant
+    /// The entry at an index, if it is past the cut. Allocates nothing and constant
     /// time.
     pub fn entry(&self, index: u64) -> Option<&Entry>
         ensures some { IsSome result ↔ (self.now.first.index < index) × (index ≤ length (whole_log self.now)) }
@@ -168,7 +168,7 @@ impl Log {
         self.entries.get(place as usize)
     }
 
-    /// Adds an entry at the end, in constant time on average. Where memory runs out, or the last index is the greatest
+    /// Adds an entry at the end, in constant time on average. If memory runs out, or the last index is the greatest
     /// number of 64 bits, the log stays.
     pub fn push(&mut self, entry: Entry) -> Result<(), AllocError>
         ensures { self.new ≡ (if is_ok result then record self.old { entries = self.old.entries ++ entry ∷ [] } else self.old) }
@@ -178,9 +178,9 @@ impl Log {
         Ok(())
     }
 
-    /// Takes the entries of an Append, which follow the place `prev`. Where the log doesn't have that place, it stays.
+    /// Takes the entries of an Append, which follow the place `prev`. If the log doesn't have that place, it stays.
     /// Else an entry that has the same term as the log's own at its index stays there, and whatever follows it; at the
-    /// first that differs the own one and all after it go, and the ones that came stand. Where memory runs out, the log
+    /// first that differs the own one and all after it go, and the ones that came stand. If memory runs out, the log
     /// stays. The cost is in the order of the entries that come and those that go; none is copied.
     pub fn accept(&mut self, prev: LogEnd, entries: Vec<Entry>) -> Result<Accepted, AllocError>
         ensures answer { IfOk result (λ answer. Answers answer self.old self.new prev entries.items) }
@@ -205,8 +205,8 @@ impl Log {
         Ok(Accepted::Match { index, from })
     }
 
-    /// Takes the entries of an Append as `accept` does, where the log is known to agree with the sender's up to the index
-    /// `after`. Answers the first index that was replaced or added, if any. Where memory runs out, the log stays.
+    /// Takes the entries of an Append as `accept` does, if the log is known to agree with the sender's up to the index
+    /// `after`. Answers the first index that was replaced or added, if any. If memory runs out, the log stays.
     pub fn take_after(&mut self, after: u64, entries: Vec<Entry>) -> Result<Option<u64>, AllocError>
         requires low { self.old.first.index ≤ after }
         requires high { after ≤ length (whole_log self.old) }
@@ -234,7 +234,7 @@ impl Log {
         }
     }
 
-    /// Adds entries at the end, which are moved: the cost is in their order, on average. Where memory runs out, or the
+    /// Adds entries at the end, which are moved: the cost is in their order, on average. If memory runs out, or the
     /// last index would be past 64 bits, the log stays.
     pub fn append(&mut self, entries: Vec<Entry>) -> Result<(), AllocError>
         ensures { self.new ≡ (if is_ok result then record self.old { entries = self.old.entries ++ entries.items } else self.old) }
@@ -245,7 +245,7 @@ impl Log {
         Ok(())
     }
 
-    /// The entries that stand past an index, the cut or a later one, lent; none past the last index. Allocates nothing
+    /// The entries that are past an index, the cut or a later one, lent; none past the last index. Allocates nothing
     /// and constant time.
     pub fn tail(&self, after: u64) -> &[Entry]
         ensures { result.now ≡ drop (after - self.now.first.index) self.now.entries }
@@ -255,7 +255,7 @@ impl Log {
         &self.entries[from as usize..]
     }
 
-    /// The entries that stand past an index, the cut or a later one, and no more than so many of them, for one more
+    /// The entries that are past an index, the cut or a later one, and no more than this many of them, for one more
     /// owner. The cost is in the order of how many they are; none of their bytes is copied.
     pub fn copied(&self, alloc: Global, after: u64, most: usize) -> Result<Entries, AllocError>
         ensures { IfOk result (λ copy. copy ≡ take most (drop (after - self.now.first.index) self.now.entries)) }
@@ -265,8 +265,8 @@ impl Log {
         copied(alloc, &self.entries, from, from + most.min(count - from))
     }
 
-    /// Cuts off the entries up to an index. At or below the cut nothing changes; past the last index all go, and the log is
-    /// cut off there. The cost is in the order of the entries, those that stay too.
+    /// Compacts the entries up to an index. At or below the cut nothing changes; past the last index all go, and the log is
+    /// compacted there. The cost is in the order of the entries, those that stay too.
     pub fn cut_to(&mut self, index: u64)
         ensures { self.new ≡ cut_at self.old index }
     {

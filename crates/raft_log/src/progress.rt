@@ -16,7 +16,7 @@ pub const MAX_VOTERS: usize = 7;
 
 /// What a leader knows of all nodes: its own id, the voters, and of each peer the index of the next entry to send to it
 /// and up to where its log is known to agree (its match). Clauses see the rules' record of these. No call takes memory:
-/// 7 voters and 9 peers stand in tables. A node that is no peer has next 1 and match 0.
+/// 7 voters and 9 peers are in tables. A node that is no peer has next 1 and match 0.
 #[derive(Drop)]
 pub struct Progress {
     own: u64,
@@ -71,7 +71,7 @@ impl Progress {
         self.set_rows(voters, rows);
     }
 
-    /// The same, where the other voters and the standbys stand in one list, in the order of a configuration.
+    /// Sets the other voters and the standbys from one list, in the order of a configuration.
     pub fn set_peers(&mut self, voters: &[u64], peers: &[u64], next: u64)
         requires few { length voters.now ≤ 7 }
         requires peers { length peers.now ≤ 9 }

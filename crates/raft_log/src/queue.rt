@@ -6,7 +6,7 @@ ghost use Rattle.raft_log.specs.Agreeing.{has_term, agreeing_front, TakesIn};
 use raft_messages::{Entries, Entry};
 use std::alloc::{AllocError, Global};
 
-/// The index that so many entries after an index have the last of. An index that is too great means out of
+/// The index that this many entries after an index have the last of. An index that is too great means out of
 /// memory.
 pub fn index_after(index: u64, count: usize) -> Result<u64, AllocError>
     ensures sum { IfOk result (λ last. last ≡ index + count) }
@@ -18,7 +18,7 @@ pub fn index_after(index: u64, count: usize) -> Result<u64, AllocError>
     }
 }
 
-/// The first entries go, so many. The cost is in the order of the entries; none of their bytes is moved.
+/// The first entries go, this many. The cost is in the order of the entries; none of their bytes is moved.
 pub fn drop_front(queue: &mut Vec<Entry>, count: usize)
     requires { count ≤ length queue.old.items }
     ensures { queue.new.items ≡ drop count queue.old.items }
@@ -35,7 +35,7 @@ pub fn term_of(queue: &[Entry], place: usize) -> u64
     entry.term
 }
 
-/// Whether there is an entry of this term so many behind a place.
+/// Whether there is an entry of this term this many after a place.
 fn is_of_term(queue: &[Entry], place: usize, n: usize, term: u64) -> bool
     requires { place ≤ length queue.now }
     ensures { result ≡ has_term (drop place queue.now) n term }
@@ -62,7 +62,7 @@ fn agreeing(queue: &[Entry], place: usize, coming: &[Entry]) -> usize
     coming.len()
 }
 
-/// So many first entries stay, and the ones that come, without so many first ones, take the place of the others. Where
+/// This many first entries stay, and the ones that come, without this many first ones, take the place of the others. Where
 /// memory runs out all stays.
 fn replace_rest(
     queue: &mut Vec<Entry>,
@@ -83,7 +83,7 @@ fn replace_rest(
 }
 
 /// Takes entries that come into the ones from a place on: up to the first that differs what stands stays, and from there
-/// on the ones that come stand alone. Answers how many agree, or nothing where all do. Where memory runs out all stays.
+/// on the ones that come are alone. Answers how many agree, or nothing if all do. If memory runs out all stays.
 pub fn take_in(
     queue: &mut Vec<Entry>,
     place: usize,
@@ -102,7 +102,7 @@ pub fn take_in(
 }
 
 /// How many of the entries that come agree with those that stand from a place on, before the first that one of these
-/// conflicts with; nothing where none does.
+/// conflicts with; nothing if none does.
 pub fn conflict(queue: &[Entry], place: usize, coming: &[Entry]) -> Option<usize>
     requires { place ≤ length queue.now }
     ensures place { MatchOption result (conflict_place (drop place queue.now) coming.now ≡ 0) (λ n. conflict_place (drop place queue.now) coming.now ≡ suc n) }

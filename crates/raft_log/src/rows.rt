@@ -217,7 +217,7 @@ pub fn rows_of(peers: &[u64], own: u64, next: u64, old: &PeerRows) -> PeerRows
     rows
 }
 
-/// The same of voters and standbys.
+/// The rows of a leader's peers, from its voters and its standbys.
 pub fn rows_of_both(
     voters: &[u64],
     standbys: &[u64],

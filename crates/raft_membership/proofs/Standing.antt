@@ -1,4 +1,4 @@
--- Configurations of which each may stand, as changes join, are cut off and are applied.
+-- Configurations of which each may stand, as changes join, are truncated and are applied.
 use Rattle.std.proofs.Common.{ℕ, Bool, true, false, cond, nat_lt, nat_le, List, [], ◌∷◌, ◌++◌}
 use Rattle.raft_spec.specs.Node.{Server}
 use Rattle.raft_messages.specs.Servers.{IsConfiguration}

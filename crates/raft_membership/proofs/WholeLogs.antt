@@ -1,4 +1,4 @@
--- The configurations of a whole log, as it grows, is cut and is applied.
+-- The configurations of a whole log, as it grows, is compacted and is applied.
 use Rattle.std.proofs.Common.{◌≡◌, ℕ, zero, suc, ◌+◌, ◌-◌, ◌<◌, ◌≤◌, Bool, true, false, cond, nat_lt, nat_le, List, [], ◌∷◌, ◌++◌, length, take, drop, get_or, refl, sym, ap, ◌∙◌, append-nil, arith, length-append, length-take, length-drop, append_assoc}
 use Rattle.std.proofs.lemmas.Bool.{cond-true, cond-false, lt-ltb}
 use Rattle.std.proofs.lemmas.List.{take-append-drop, take-append-le, drop-append-le, take-take, drop-take, drop-drop, drop_more, take_more, drop_all}
@@ -113,7 +113,7 @@ changes_are_within vs log m h =
     let same : last_from m.at m.later ≡ last_from m.at (changes_from vs (suc m.at) (drop m.at log)) = ap (last_from m.at) h.later in
     omega arith
 
--- ---- a log that is cut
+-- ---- a log that is compacted
 
 below_head : (i : ℕ) (c : Change) (rest : List Change) → i ≤ c.index → below i (c ∷ rest) ≡ []
 below_head i c rest h = cond-false _ _ _ (not_lt c.index i h)

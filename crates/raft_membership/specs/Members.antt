@@ -18,7 +18,7 @@ pub record Configurations : Type 0 where
 abbrev pub first_of : List Server → ℕ → Configurations
 first_of servers at = record { at = at; servers = servers; later = [] }
 
--- the index of the last change, or this one where there is none
+-- the index of the last change, or this one without a change
 abbrev pub last_from : ℕ → List Change → ℕ
 last_from at [] = at
 last_from at (c ∷ cs) = last_from c.index cs
@@ -26,7 +26,7 @@ last_from at (c ∷ cs) = last_from c.index cs
 abbrev pub last_index : Configurations → ℕ
 last_index m = last_from m.at m.later
 
--- the servers of the last change, or these where there is none
+-- the servers of the last change, or these without a change
 abbrev pub servers_from : List Server → List Change → List Server
 servers_from servers [] = servers
 servers_from servers (c ∷ cs) = servers_from c.servers cs
@@ -64,7 +64,7 @@ below index (c ∷ cs) = cond (nat_lt c.index index) (c ∷ below index cs) []
 abbrev pub cut_at : Configurations → ℕ → Configurations
 cut_at m index = record m { later = below index m.later }
 
--- the servers of the last change at or below an index, or these where there is none
+-- the servers of the last change at or below an index, or these without a change
 abbrev pub settled_servers : ℕ → List Server → List Change → List Server
 settled_servers applied servers [] = servers
 settled_servers applied servers (c ∷ cs) = cond (nat_le c.index applied) (settled_servers applied c.servers cs) servers
@@ -113,7 +113,7 @@ pub record IsOf (setup : Setup) (log : List Entry) (m : Configurations) : Type 0
   pub later : m.later ≡ changes_from setup (suc m.at) (drop m.at log)
 
 -- These entries, of which the first has this index, have joined the log: the configurations are those of the log with them, and are
--- told as others exactly where one of the entries is a change that reads. Each may stand, where each did.
+-- told as others exactly if one of the entries is a change that reads. Each may stand, if each did.
 pub record Joined (old new : Configurations) (first : ℕ) (entries : List Entry) (told : Bool) : Type 0 where
   pub is : (opening : List Server) (log : List Entry) → IsOf (read_setup opening) log old → first ≡ suc (length log) → IsOf (read_setup opening) (log ++ entries) new
   pub exact : new ≡ all_changed old first entries
@@ -127,6 +127,6 @@ pub record Joined (old new : Configurations) (first : ℕ) (entries : List Entry
 abbrev pub OthersStay : Type 0
 OthersStay = (setup : Setup) (log : List Entry) (m : Configurations) (e : Entry) → IsOf setup log m → changes setup e ≡ false → IsOf setup (log ++ e ∷ []) m
 
--- no change stands past the log's end
+-- no change is past the log's end
 abbrev pub ChangesAreWithin : Type 0
 ChangesAreWithin = (setup : Setup) (log : List Entry) (m : Configurations) → IsOf setup log m → last_index m ≤ length log

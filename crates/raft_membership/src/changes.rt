@@ -18,7 +18,7 @@ fn give_up_for_memory(fault: ServersFault) -> Result<(), AllocError>
     }
 }
 
-/// These servers, where the bytes end with the last of them.
+/// These servers, if the bytes end with the last of them.
 fn ended(servers: Servers, end: u64, size: usize) -> Option<Servers>
     ensures is { result ≡ (if end == size then Some servers else None) }
     ensures those { MatchOption result (Unit {0}) (λ read. read ≡ servers) }

@@ -1,4 +1,4 @@
-//! The configurations that a node keeps of its whole log, as it grows, is cut and is applied.
+//! The configurations that a node keeps of its whole log, as it grows, is compacted and is applied.
 ghost use Rattle.std.specs.Prelude.{◌≡◌, ◌<◌, ◌≤◌, ◌-◌, ◌++◌, [], ◌∷◌, suc, true, false, List, IfOk, OnOk, OnErr, nat_lt, length, take};
 ghost use Rattle.raft_spec.specs.Log.{Entry as EntryValue};
 ghost use Rattle.raft_spec.specs.Node.{Server as ServerValue, voters};
@@ -35,7 +35,7 @@ impl Model for Members {
     ghost view = { λ m. record { at = m.at; servers = m.servers; later = m.changes.items } };
 }
 
-/// How many changes from the first on stand below an index, before one that doesn't.
+/// How many changes from the first on are below an index, before one that doesn't.
 fn below_count(changes: &[Change], index: u64) -> usize
     ensures front { take result changes.now ≡ below index changes.now }
     ensures within { result ≤ length changes.now }
@@ -77,7 +77,7 @@ impl Members {
         Ok(())
     }
 
-    /// An entry joins the log at an index past the last one; true where it is a change that reads, which is pushed. `Err`
+    /// An entry joins the log at an index past the last one; true if it is a change that reads, which is pushed. `Err`
     /// means out of memory; all stays then. Reads the entry once.
     pub fn take_in(&mut self, alloc: Global, index: u64, entry: &Entry) -> Result<bool, AllocError>
         requires { last_index self.old < index }
@@ -95,7 +95,7 @@ impl Members {
         Ok(true)
     }
 
-    /// The log is cut: entries at an index or past it are gone, and with them their changes. True where there were any.
+    /// The log is compacted: entries at an index or past it are gone, and with them their changes. True where there were any.
     /// The index is past the one that the log is applied up to. Looks at each change once.
     pub fn cut_from(&mut self, index: u64) -> bool
         requires { self.old.at < index }
@@ -112,7 +112,7 @@ impl Members {
         told
     }
 
-    /// The first change is the applied configuration from now on, where it stands at or below the applied index.
+    /// The first change is the applied configuration from now on, if it is at or below the applied index.
     fn settle_one(&mut self, applied: u64) -> bool
         ensures { SettlesOne applied self.old self.new result }
     {
@@ -137,7 +137,7 @@ impl Members {
     }
 
     /// The configuration that counts for votes and commits: that of the last change that reads in the whole log, else the
-    /// opening one. A node that is told it was told the voters that its log gives. Constant cost.
+    /// opening one. A node that is told it was given the voters that its log gives. Constant cost.
     pub fn current(&self) -> &[Server]
         ensures value { result.now ≡ last_servers self.now }
         ensures stands { AllStand self.now → IsConfiguration result.now }
@@ -157,7 +157,7 @@ impl Members {
         self.at
     }
 
-    /// The index of the last change; the one up to which the log is applied, where no change stands after it. Constant cost.
+    /// The index of the last change; the one up to which the log is applied, if no change is after it. Constant cost.
     pub fn last_index(&self) -> u64
         ensures { result ≡ last_index self.now }
     {

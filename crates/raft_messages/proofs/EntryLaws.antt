@@ -1,4 +1,4 @@
--- Heads and entries are read exactly where their spelling stands.
+-- Heads and entries are read exactly if the bytes are their encoding.
 use Rattle.std.proofs.Common.{◌≡◌, ℕ, zero, suc, ◌<◌, ◌^◌, ◌%◌, inl, inr, true, cond, eqb, ltb, List, [], ◌∷◌, ◌++◌, length, Option, Some, None, Ok, refl, sym, ap, subst, ◌∙◌, arith}
 use Rattle.std.proofs.lemmas.Bool.{eqb-true, ltb-true}
 use Rattle.raft_spec.specs.Log.{Entry, EntryKind as EntryKindValue}
@@ -93,7 +93,7 @@ head_stood h old new fits p =
     let second = pair_stood mid new (kind_code h.kind) h.size (kind_small h.kind) fits.1 (passed_second old new (word h.term) (pair (kind_code h.kind) h.size) p) in
     rw (first, second, kind_again mid.at h.kind) refl
 
--- so many heads stood between two states of a reader
+-- this many heads were between two states of a reader
 pub record PassedHeads (count : ℕ) (hs : List EntryHead) (old new : Unread) : Type 0 where
   pub many : length hs ≡ count
   pub fit : HeadsFit hs
@@ -131,7 +131,7 @@ entry_passed h old new x e =
     let r = raw_passed h.size old a.0.1 a.0.0 a.1 in
     subst (λ (y : Entry × Unread). (y.0.term ≡ h.term) × (y.0.kind ≡ kind_value h.kind) × (length y.0.bytes ≡ h.size) × Passed (raw y.0.bytes) old y.1) (ok_is made (x, new) a.2) (refl, refl, r.0, r.1)
 
--- entries of these heads stood between two states of a reader
+-- entries of these heads were between two states of a reader
 pub record PassedContents (hs : List EntryHead) (es : List Entry) (old new : Unread) : Type 0 where
   pub many : length es ≡ length hs
   pub heads : read_heads hs ≡ heads_bytes es
@@ -165,7 +165,7 @@ contents_passed (h ∷ hs) old new es e =
       passed = passed_both old a.0.1 b.0.1 (raw a.0.0.bytes) (contents_bytes b.0.0) first.3 others.passed;
     })
 
--- ---- spelled entries are read
+-- ---- encoded entries are read
 
 -- the code's kind for one of the rules
 abbrev pub kind_from : EntryKindValue → EntryKind

@@ -56,7 +56,7 @@ no_more (x ∷ xs) ids d a =
     let one : suc (length (without x ids)) ≤ length ids = shorter x ids first in
     omega (arith, less, one)
 
--- where one more can come, there is room for it
+-- if one more can come, there is room for it
 pub room : (xs ids : List ℕ) (x : ℕ) → AreDistinct xs → AreAmong xs ids → among ids x ≡ true → among xs x ≡ false → length xs < length ids
 room xs ids x d a e f =
     let all : AreAmong (x ∷ xs) ids = λ z g. ⊎_elim (λ (same : (x == z) ≡ true). ap (among ids) (sym (eqb-true x z same)) ∙ e) (λ (h : among xs z ≡ true). a z h) (or_cases (x == z) (among xs z) g) in

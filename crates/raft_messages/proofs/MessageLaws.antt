@@ -1,4 +1,4 @@
--- A message of a peer is read exactly where its spelling stands.
+-- A message of a peer is read exactly if the bytes are its encoding.
 use Rattle.std.proofs.Common.{◌≡◌, ℕ, zero, suc, ◌+◌, ◌<◌, ◌≤◌, ◌^◌, ◌⊎◌, Bool, true, false, cond, ◌&&◌, eqb, inl, inr, List, [], ◌∷◌, ◌++◌, length}
 use Rattle.std.proofs.Common.{Option, Some, None, Result, Ok, Err, refl, sym, ap, subst, ◌∙◌, arith}
 use Rattle.std.specs.Prelude.{◌≢◌, IfOk, ◌==◌, nat_le}
@@ -191,7 +191,7 @@ flag_is zero e = refl
 flag_is (suc zero) e = refl
 flag_is (suc (suc n)) e = let le : suc (suc n) ≤ 1 = leb-true (suc (suc n)) 1 e in absurd (omega (arith, le))
 
--- what a message of this type says stood between two states of a reader
+-- what a message of this type says was between two states of a reader
 record PassedSaid (kind : MessageKind) (mark : Bool) (what : MessageBody) (old new : Unread) : Type 0 where
   pub number : kind_number kind ≡ what_number what
   pub marked : what_mark what ≡ mark_number kind mark
@@ -306,7 +306,7 @@ said_stood TimeoutNow old new p = ap (λ (left : Unread). Ok (said_of TimeoutNow
 abbrev items_of : ℕ → ℕ → ℕ → UncheckedBody → RaftMessage × Bool
 items_of from to term said = (record { from = from; to = to; term = term; what = said.what }, said.flag_fits)
 
--- a message of this type to a node stood between two states of a reader
+-- a message of this type to a node was between two states of a reader
 record PassedItems (to : ℕ) (kind : MessageKind) (mark : Bool) (m : RaftMessage) (old new : Unread) : Type 0 where
   pub number : kind_number kind ≡ what_number m.what
   pub marked : what_mark m.what ≡ mark_number kind mark

@@ -1,4 +1,4 @@
--- A configuration is read exactly where its spelling stands.
+-- A configuration is read exactly if the bytes are its encoding.
 use Rattle.std.proofs.Common.{◌≡◌, ℕ, zero, suc, ◌+◌, ◌<◌, ◌≤◌, ◌^◌, Bool, true, false, cond, ◌&&◌, ◌||◌, not, List, [], ◌∷◌, ◌++◌, length, take, map, Result, Ok, Err, refl, sym, ap, subst, ◌∙◌, append_assoc, arith}
 use Rattle.std.specs.Prelude.{◌==◌, nat_lt, nat_le, IfOk}
 use Rattle.std.specs.List.{AllByRecursion, filter}
@@ -31,7 +31,7 @@ both_true : (a b : Bool) → (a && b) ≡ true → (a ≡ true) × (b ≡ true)
 both_true true b e = (refl, e)
 both_true false b e = absurd cc
 
--- ---- servers behind others
+-- ---- servers after others
 
 pub last_from-push : (k : ℕ) (front : List Server) (s : Server) → last_from k (front ++ s ∷ []) ≡ s.id
 last_from-push k [] s = refl
@@ -70,7 +70,7 @@ each_at : (P : Server → Type 0) (before : List Server) (s : Server) (ss : List
 each_at P [] s ss a = a.0
 each_at P (x ∷ xs) s ss a = each_at P xs s ss a.1
 
--- what is asked of a server behind these
+-- what is asked of a server after these
 record Joins (before : List Server) (s : Server) : Type 0 where
   pub above : last_from 0 before < s.id
   pub role : s.role ≤ 2
@@ -186,7 +186,7 @@ server_stood before s old new j is holds role p =
       joined_ok before old.at m2.at s j,
     ) refl
 
--- ---- so many servers behind others
+-- ---- this many servers after others
 
 record PassedMore (before after : List Server) (count : ℕ) (old new : Unread) : Type 0 where
   pub behind : List Server

@@ -70,6 +70,6 @@ each_written ss i s out next whole lt is one so_far =
 pub each_held : (P : Server → Type 0) (ss : List Server) (i : ℕ) (s : Server) → i < length ss → s ≡ get_or ss i s → P s → (AllByRecursion P (drop i ss) → AllByRecursion P ss) → AllByRecursion P (drop (i + 1) ss) → AllByRecursion P ss
 each_held P ss i s lt is has so_far rest = so_far (subst (AllByRecursion P) (sym (at_server ss i s lt is)) (has, rest))
 
--- each from an item on, where all are
+-- each from an item on, if all are
 pub each_from : (P : Server → Type 0) (ss : List Server) (i : ℕ) (s : Server) → i < length ss → s ≡ get_or ss i s → AllByRecursion P (drop i ss) → P s × AllByRecursion P (drop (i + 1) ss)
 each_from P ss i s lt is all = subst (AllByRecursion P) (at_server ss i s lt is) all

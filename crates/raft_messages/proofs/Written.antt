@@ -1,4 +1,4 @@
--- What is written of a message spells it, and spellings stand apart.
+-- What is written of a message encodes it, and encodings are prefix-free.
 use Rattle.std.proofs.Common.{◌≡◌, ℕ, ◌+◌, ◌/◌, ◌%◌, ◌<◌, ◌≤◌, true, false, List, [], ◌++◌, length, Result, Ok, Err, refl, sym, ap, ◌∙◌, inl, inr, arith}
 use Rattle.std.specs.Prelude.{nat_le, IfOk, OnOk, IsErr}
 use Rattle.std.specs.declared.alloc.AllocError.{AllocError}

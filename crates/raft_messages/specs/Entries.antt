@@ -1,4 +1,4 @@
--- Entries as bytes, where they stand in messages and in files: a head for each, and then what each says.
+-- Entries as bytes, as they are in messages and in files: a head for each, and then what each says.
 use Rattle.std.specs.Prelude.{◌≡◌, ℕ, zero, suc, ◌<◌, ◌^◌, ◌%◌, nat_lt, if◌then◌else◌, List, [], ◌∷◌, ◌++◌, length, Option, Some, None, Result, Ok, Err, MatchResult}
 use Rattle.std.specs.List.{AllByRecursion}
 use Rattle.raft_spec.specs.Log.{Entry}
@@ -10,7 +10,7 @@ use Rattle.raft_messages.specs.declared.entry.EntryKind.{EntryKind}
 use Rattle.raft_messages.specs.declared.entries.EntryHead.{EntryHead}
 use Rattle.raft_messages.specs.Kinds.{kind_number, kind_value, kind_with}
 
--- ---- the one spelling
+-- ---- the one encoding
 
 -- a head: the term in a word, and in the next word the kind, three zeros, and the number of bytes in 32 bits
 abbrev pub head_bytes : Entry → List ℕ
@@ -48,7 +48,7 @@ head_at left = do
   kind ← known_kind term.1.at halves.0.0 (kind_with (halves.0.0 % 256))
   Ok (record { term = term.0; kind = kind; size = halves.0.1 }, halves.1)
 
--- so many heads
+-- this many heads
 unfoldable pub heads_at : ℕ → Unread → Result (List EntryHead × Unread) WordFault
 heads_at zero left = Ok ([], left)
 heads_at (suc count) left = do

@@ -2,7 +2,7 @@
 use Rattle.std.specs.Prelude.{◌≡◌, ℕ, true, false, List, [], ◌∷◌}
 use Rattle.raft_spec.specs.Node.{among}
 
--- No id stands twice.
+-- No id occurs twice.
 abbrev pub AreDistinct : List ℕ → Type 0
 AreDistinct [] = Unit {0}
 AreDistinct (x ∷ xs) = (among xs x ≡ false) × AreDistinct xs

@@ -22,7 +22,7 @@ kind_number Change = 3
 abbrev pub kind_code : EntryKind → ℕ
 kind_code kind = kind_number (kind_value kind)
 
--- the kind of entry that a number stands for
+-- the kind of entry that a number represents
 abbrev pub kind_with : ℕ → Option EntryKind
 kind_with code = if code == 1 then Some kinds.Command else if code == 2 then Some kinds.Barrier else if code == 3 then Some kinds.Change else None
 
@@ -32,6 +32,6 @@ role_number roles.Voter = 0
 role_number roles.Standby = 1
 role_number roles.Spare = 2
 
--- the role that a number stands for
+-- the role that a number represents
 abbrev pub role_with : ℕ → Option ServerRole
 role_with number = if number == 0 then Some roles.Voter else if number == 1 then Some roles.Standby else if number == 2 then Some roles.Spare else None

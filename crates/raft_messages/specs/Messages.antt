@@ -15,11 +15,11 @@ use Rattle.raft_messages.specs.Entries.{heads_bytes, contents_bytes, HaveHeads}
 
 -- ---- the rules' message
 
--- the place that a snapshot stands for
+-- the place that a snapshot represents
 abbrev pub snapshot_end : Snapshot → LogEnd
 snapshot_end s = record { index = s.index; term = s.term }
 
--- what the message says in the rules: a snapshot stands for a front of a log, of which its end alone is known
+-- what the message says in the rules: a snapshot represents a front of a log, of which its end alone is known
 abbrev pub what_value : MessageBody → rules.What
 what_value (AskVote last transfer) = rules.AskVote last transfer
 what_value (Vote granted) = rules.Vote granted
@@ -37,7 +37,7 @@ numbers_fit m = fits_the_wire m.term && what_in_range (what_value m.what)
 
 -- ---- the table
 
--- a field of a body: a number, entries behind their number, or bytes behind their number
+-- a field of a body: a number, entries after their number, or bytes after their number
 pub data Field : Type 0 where
   Word : ℕ → Field
   Entries : List Entry → Field
@@ -109,7 +109,7 @@ what_mark TimeoutNow = 0
 abbrev pub message_schema : RaftMessage → ℕ
 message_schema m = cond (nat_le m.to 127) (m.to + what_mark m.what) 0
 
--- the one spelling of a message
+-- the one encoding of a message
 abbrev pub message_bytes : RaftMessage → List ℕ
 message_bytes m = message (what_number m.what) (message_schema m) (body_bytes m)
 
@@ -122,7 +122,7 @@ pub record Reads (m : Message) (peer : RaftMessage) : Type 0 where
   pub body : m.body ≡ body_bytes peer
   pub in_range : numbers_fit peer ≡ true
 
--- The bytes spell the message: it is spelled so, and no number is out of range.
+-- The bytes encode the message: it is encoded so, and no number is out of range.
 pub record Writes (peer : RaftMessage) (bytes : List ℕ) : Type 0 where
   pub receiver : peer.to ≤ 127
   pub holds : AllHold (message_fields peer)

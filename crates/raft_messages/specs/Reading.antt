@@ -16,7 +16,7 @@ use Rattle.raft_messages.specs.declared.items.UncheckedBody.{UncheckedBody}
 use Rattle.raft_messages.specs.Entries.{heads_at, contents_at}
 use Rattle.raft_messages.specs.Messages.{numbers_fit}
 
--- the fault of a message, where an item has this one
+-- the fault of a message, if an item has this one
 abbrev pub of_word : WordFault → PeerFault
 of_word word_faults.NoMemory = NoMemory
 of_word fault = Word fault
@@ -25,7 +25,7 @@ abbrev pub in_message : {X : Type 0} → Result X WordFault → Result X PeerFau
 in_message (Ok x) = Ok x
 in_message (Err fault) = Err (of_word fault)
 
--- the type of message that a number stands for
+-- the type of message that a number represents
 abbrev pub message_kind : ℕ → Option MessageKind
 message_kind n =
     if n == 1 then Some kinds.AskVote else if n == 2 then Some kinds.Vote else if n == 3 then Some kinds.Append
@@ -95,7 +95,7 @@ items_at to kind mark left = do
 
 -- ---- the whole
 
--- what was read, where its numbers are in range and nothing is left
+-- what was read, if its numbers are in range and nothing is left
 abbrev pub ended : (RaftMessage × Bool) × Unread → Result RaftMessage PeerFault
 ended x =
     if x.0.1 && numbers_fit x.0.0 then (if length x.1.bytes == 0 then Ok x.0.0 else Err Tail)

@@ -1,4 +1,4 @@
--- Configurations: the servers of a cluster, which of them may stand together, their one spelling, and reading them with the first fault.
+-- Configurations: the servers of a cluster, which of them may stand together, their one encoding, and reading them with the first fault.
 use Rattle.std.specs.Prelude.{◌≡◌, ℕ, zero, suc, ◌<◌, ◌≤◌, ◌^◌, nat_lt, nat_le, ◌==◌, Bool, true, false, not, ◌&&◌, ◌||◌, if◌then◌else◌, List, [], ◌∷◌, ◌++◌, length, Option, Some, None, Result, Ok, Err, MatchResult, IsUtf8}
 use Rattle.std.specs.List.{AllByRecursion}
 use Rattle.raft_spec.specs.Node.{Server, voters}
@@ -27,7 +27,7 @@ pub record IsConfiguration (servers : List Server) : Type 0 where
   pub few : length servers ≤ 9
   pub few_voters : length (voters servers) ≤ 7
 
--- ---- the one spelling
+-- ---- the one encoding
 
 -- a server: its id, its address, its role
 abbrev pub server_bytes : Server → List ℕ
@@ -46,7 +46,7 @@ servers_bytes servers = word (length servers) ++ each_bytes servers
 abbrev pub HoldsServer : Server → Type 0
 HoldsServer s = (s.id < 2 ^ 64) × IsUtf8 s.address
 
--- The bytes spell the configuration.
+-- The bytes encode the configuration.
 pub record WritesServers (servers : List Server) (bytes : List ℕ) : Type 0 where
   pub is : IsConfiguration servers
   pub holds : AllByRecursion HoldsServer servers
@@ -54,7 +54,7 @@ pub record WritesServers (servers : List Server) (bytes : List ℕ) : Type 0 whe
 
 -- ---- reading
 
--- the fault of a configuration, where an item has this one
+-- the fault of a configuration, if an item has this one
 abbrev pub servers_fault : WordFault → ServersFault
 servers_fault word_faults.NoMemory = NoMemory
 servers_fault fault = Word fault
@@ -63,7 +63,7 @@ abbrev pub in_servers : {X : Type 0} → Result X WordFault → Result X Servers
 in_servers (Ok x) = Ok x
 in_servers (Err fault) = Err (servers_fault fault)
 
--- the id of the last of these servers, or this one where there is none
+-- the id of the last of these servers, or this one without servers
 abbrev pub last_from : ℕ → List Server → ℕ
 last_from last [] = last
 last_from last (s ∷ ss) = last_from s.id ss
@@ -73,11 +73,11 @@ abbrev pub votes_as : Bool → ℕ
 votes_as true = 1
 votes_as false = 0
 
--- behind these servers one of this role may stand: they are fewer than 9, and fewer than 7 vote where it does
+-- after these servers one of this role may stand: they are fewer than 9, and fewer than 7 vote where it does
 abbrev pub has_room : List Server → ℕ → Bool
 has_room before role = nat_lt (length before) 9 && (not (role == 0) || nat_lt (length (voters before)) 7)
 
--- a server that was read behind these, or what is wrong with it; it begins at this place, and its role stands at that one
+-- a server that was read after these, or what is wrong with it; it begins at this place, and its role is at that one
 abbrev pub joined : List Server → ℕ → ℕ → Server → Result Server ServersFault
 joined before at role_at s =
     if nat_lt (last_from 0 before) s.id then
@@ -86,7 +86,7 @@ joined before at role_at s =
     else Err (Role role_at))
     else Err (Order at)
 
--- the next server behind these
+-- the next server after these
 unfoldable pub server_at : List Server → Unread → Result (Server × Unread) ServersFault
 server_at before left = do
   id ← in_servers (word_at left)
@@ -95,7 +95,7 @@ server_at before left = do
   server ← joined before left.at address.1.at (record { id = id.0; address = address.0; role = role.0 })
   Ok (server, role.1)
 
--- these servers, and so many more behind them
+-- these servers, and this many more after them
 unfoldable pub more_servers_at : List Server → ℕ → Unread → Result (List Server × Unread) ServersFault
 more_servers_at before zero left = Ok (before, left)
 more_servers_at before (suc count) left = do
@@ -132,6 +132,6 @@ ServersFail fault reading = reading ≡ Err fault
 abbrev pub GivesServers : {X Y : Type 0} → (X → Y) → Result Y ServersFault → Result X ServersFault → Type 0
 GivesServers view reading result = MatchResult result (λ x. reading ≡ Ok (view x)) (λ fault. ServersFail fault reading)
 
--- The same of a part that a reader takes, where nothing is said of where a fault leaves it.
+-- What a reader of a part gave is what reading gives; nothing is said of where a fault leaves the reader.
 abbrev pub FindsServers : {X Y : Type 0} → (X → Y) → (Unread → Result (Y × Unread) ServersFault) → Unread → Unread → Result X ServersFault → Type 0
 FindsServers view read old new result = MatchResult result (λ x. read old ≡ Ok (view x, new)) (λ fault. ServersFail fault (read old))

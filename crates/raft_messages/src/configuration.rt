@@ -17,7 +17,7 @@ pub const MAX_SERVERS: usize = 9;
 /// The most bytes of a server's address.
 pub const MAX_ADDRESS_LENGTH: usize = 255;
 
-/// The id of the last server; 0 where there is none.
+/// The id of the last server; 0 without one.
 fn last_id(servers: &[Server]) -> u64
     ensures { result ≡ last_from 0 servers.now }
 {
@@ -46,14 +46,14 @@ pub fn voter_count(servers: &[Server]) -> usize
     count
 }
 
-/// Whether one more server of this role may stand behind these.
+/// Whether one more server of this role may follow these.
 fn has_room(servers: &[Server], role: ServerRole) -> bool
     ensures { result ≡ has_room servers.now (role_number role) }
 {
     servers.len() < MAX_SERVERS && (!role.votes() || voter_count(servers) < MAX_VOTERS)
 }
 
-/// The server of these items, which begins at `at` and has its role at `role_at`, behind these servers. The first fault
+/// The server of these items, which begins at `at` and has its role at `role_at`, after these servers. The first fault
 /// comes: `Order`, `Role`, `Limit`.
 fn joined(
     before: &[Server],
@@ -83,7 +83,7 @@ fn is_long(address: &WireText) -> bool
     address.as_str().len() > MAX_ADDRESS_LENGTH
 }
 
-/// The next server behind these.
+/// The next server after these.
 #[tactic(auto, unfolding(crate::specs::Servers::server_at))]
 fn server(alloc: Global, words: &mut Words<'_>, before: &[Server]) -> Result<Server, ServersFault>
     ensures { FindsServers (λ server. server) (server_at before.now) words.old words.new result }
@@ -96,7 +96,7 @@ fn server(alloc: Global, words: &mut Words<'_>, before: &[Server]) -> Result<Ser
     joined(before, at, role_at, id, address, role)
 }
 
-/// So many servers. There are at most ten looks at a server, whatever the count, since the tenth is a fault.
+/// This many servers. There are at most ten looks at a server, whatever the count, since the tenth is a fault.
 fn servers(alloc: Global, words: &mut Words<'_>, count: u64) -> Result<Vec<Server>, ServersFault>
     ensures { FindsServers (λ servers. servers.items) (more_servers_at [] count) words.old words.new result }
 {
@@ -131,7 +131,7 @@ fn begun_servers(alloc: Global, bytes: &[u8]) -> Result<(Servers, u64), ServersF
 /// eighth voter, or an address of more than 255 bytes. Bytes follow wherever the place isn't their end. `NoMemory` means
 /// out of memory.
 pub fn read_servers(alloc: Global, bytes: &[u8]) -> Result<(Servers, u64), ServersFault>
-    // What is read is what the bytes up to the place spell.
+    // What is read is what the bytes up to the place encode.
     ensures found { IfOk result (λ read. WritesServers read.0 (take read.1 bytes.now)) }
     // What the bytes begin with is read, unless memory runs out.
     ensures only { (servers : List ServerValue) (spelled rest : List ℕ) → WritesServers servers spelled → bytes.now ≡ spelled ++ rest →
@@ -177,7 +177,7 @@ fn put_configuration(out: &mut Writer, servers: &[Server]) -> Result<(), AllocEr
 /// are at most 9 servers with at most 7 voters.
 pub fn write_servers(alloc: Global, servers: &[Server]) -> Result<WireBytes, AllocError>
     requires { IsConfiguration servers.now }
-    // What is written spells the configuration.
+    // What is written encodes the configuration.
     ensures writes { IfOk result (WritesServers servers.now) }
     // Which bytes they are.
     ensures bytes { IfOk result (λ bytes. bytes ≡ servers_bytes servers.now) }

@@ -10,7 +10,7 @@ use crate::shared::SharedBytes;
 use std::alloc::{AllocError, Global};
 use wire_words::{WordFault, Words, Writer};
 
-/// What stands of an entry before the bytes of all entries.
+/// What is written of an entry before the bytes of all entries.
 #[derive(Clone, Copy, Debug, PartialEq, Eq)]
 pub struct EntryHead {
     /// The term of the leader that appended it.
@@ -46,9 +46,9 @@ fn head(words: &mut Words<'_>) -> Result<EntryHead, WordFault>
     Ok(EntryHead { term, kind, size })
 }
 
-/// Reads so many heads of entries: for each the term in a word, and in the next word the kind's number in one byte,
+/// Reads this many heads of entries: for each the term in a word, and in the next word the kind's number in one byte,
 /// three zeros, and the number of bytes. The first fault comes: `Short`; in a head's second word `BadCode` where the
-/// number stands for no kind, then `Pad` where one of the three isn't zero. `NoMemory` means out of memory for the
+/// number represents no kind, then `Pad` where one of the three isn't zero. `NoMemory` means out of memory for the
 /// heads that are there.
 pub fn read_entry_heads(
     alloc: Global,

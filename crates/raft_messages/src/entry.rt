@@ -19,7 +19,7 @@ pub enum EntryKind {
 }
 
 impl EntryKind {
-    /// The number that stands for the kind.
+    /// The number that represents the kind.
     pub fn code(self) -> u8
         ensures { result ≡ kind_code self }
     {
@@ -30,7 +30,7 @@ impl EntryKind {
         }
     }
 
-    /// The kind that a number stands for, if any.
+    /// The kind that a number represents, if any.
     pub fn with_code(code: u8) -> Option<EntryKind>
         ensures { result ≡ kind_with code }
     {

@@ -14,7 +14,7 @@ pub(crate) enum MessageKind {
 }
 
 impl MessageKind {
-    /// The type that a message's number stands for.
+    /// The type that a message's number represents.
     pub(crate) fn of(number: u8) -> Option<MessageKind>
         ensures { result ≡ message_kind number }
     {

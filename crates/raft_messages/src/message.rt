@@ -8,7 +8,7 @@ use std::alloc::AllocError;
 /// A snapshot: the state that the entries up to its end make, as bytes.
 #[derive(Debug, Drop)]
 pub struct Snapshot {
-    /// The index of the last entry that it stands for.
+    /// The index of the last entry that it represents.
     pub index: u64,
     /// The term of that entry.
     pub term: u64,
@@ -66,7 +66,7 @@ pub enum MessageBody {
         /// The snapshot.
         snapshot: Snapshot,
     },
-    /// A leader hands its office over: the receiver is to stand for election at once.
+    /// A leader hands its leadership over: the receiver is to stand for election at once.
     TimeoutNow,
 }
 

@@ -62,9 +62,9 @@ fn whole_message(
 /// term or an index is above 4,294,967,295, a flag above 1, or there are more than 16 entries; `Tail` where bytes follow.
 /// `NoMemory` means out of memory. The bytes of entries and of a snapshot are copied once, into the message.
 pub fn read_message(alloc: Global, message: &Message, to: u64) -> Result<RaftMessage, PeerFault>
-    // What is read is what the message stands for, to this node.
+    // What is read is what the message represents, to this node.
     ensures found { IfOk result (λ peer. Reads message.now peer × (peer.to ≡ to)) }
-    // What the message stands for is read, unless memory runs out.
+    // What the message represents is read, unless memory runs out.
     ensures only { (peer : RaftMessage) → Reads message.now peer → peer.to ≡ to → Gives (Ok peer) result }
     // Which fault it is.
     ensures exact { Gives (peer_message_of to message.now) result }

@@ -19,7 +19,7 @@ pub enum ServerRole {
 }
 
 impl ServerRole {
-    /// The number that stands for the role.
+    /// The number that represents the role.
     pub fn number(self) -> u64
         ensures { result ≡ role_number self }
     {
@@ -40,7 +40,7 @@ impl ServerRole {
         }
     }
 
-    /// The role that a number stands for, if any.
+    /// The role that a number represents, if any.
     pub fn with_number(number: u64) -> Option<ServerRole>
         ensures role { result ≡ role_with number }
         ensures number { MatchOption result (nat_le number 2 ≡ false) (λ role. (role_number role ≡ number) × (nat_le number 2 ≡ true)) }

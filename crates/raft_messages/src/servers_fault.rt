@@ -16,7 +16,7 @@ pub enum ServersFault {
     /// The id at this place is 0, or isn't above the one before.
     #[error("the server at byte {0} is out of order")]
     Order(u64),
-    /// The number at this place stands for no role.
+    /// The number at this place represents no role.
     #[error("no role has the number at byte {0}")]
     Role(u64),
     /// The server at this place is the tenth, or the eighth voter, or its address has more than 255 bytes.

@@ -32,7 +32,7 @@ impl SharedBytes {
         })
     }
 
-    /// The same bytes for one more owner: the count goes up by one, and nothing is copied. `Err` where the count is full.
+    /// These bytes for one more owner: the count goes up by one, and nothing is copied. `Err` where the count is full.
     pub fn share(&self) -> Result<SharedBytes, AllocError>
         ensures { IfOk result (λ shared. shared ≡ self.now) }
     {
@@ -57,7 +57,7 @@ impl SharedBytes {
         bytes.len()
     }
 
-    /// Whether there are none.
+    /// Whether it is empty.
     pub fn is_empty(&self) -> bool
         ensures { result ≡ (length self.now == 0) }
     {

@@ -15,7 +15,7 @@ pub const MAX_TERM: u64 = 4_294_967_295;
 pub const MAX_VOTERS: usize = 7;
 
 /// The votes of one node: its term, to whom it gave its vote in that term, and whose votes it got. Ids are at least 1,
-/// and a vote of 0 is for nobody. Clauses see the rules' record of these. No call takes memory: the grants stand in a
+/// and a vote of 0 is for no node. Clauses see the rules' record of these. No call takes memory: the grants are in a
 /// table of seven.
 #[derive(Drop)]
 pub struct VoteCore {
@@ -86,7 +86,7 @@ impl VoteCore {
         self.term
     }
 
-    /// To whom the node gave its vote in its term; 0 for nobody.
+    /// To whom the node gave its vote in its term; 0 for no node.
     pub fn vote(&self) -> u64
         ensures { result ≡ self.now.vote }
     {
@@ -125,7 +125,7 @@ impl VoteCore {
     }
 
     /// A node asks for the vote in its term, with the ends of its log and of the own one. A greater term is taken first.
-    /// The vote is granted exactly where the term isn't below the own one, no other node has the vote of that term, and
+    /// The vote is granted exactly if the term isn't below the own one, no other node has the vote of that term, and
     /// the asker's log is at least as up to date: its last term is greater, or the same and its last index isn't smaller.
     /// A granted vote is noted.
     #[tactic(auto, unfolding(raft_spec::specs::Elections::may_grant, raft_spec::specs::Log::is_up_to_date))]
@@ -147,7 +147,7 @@ impl VoteCore {
         true
     }
 
-    /// A node grants its vote in the own term. It is counted once, and only of a voter. True exactly where a majority of
+    /// A node grants its vote in the own term. It is counted once, and only of a voter. True exactly if a majority of
     /// the voters has granted then. Within one term the voters are to be the same at each call, the own id among them
     /// after a timeout: so each grant so far is one of theirs.
     #[tactic(auto, unfolding(raft_spec::specs::Elections::grants_with), using(crate::proofs::Grants::room, crate::proofs::Grants::among_more))]
@@ -180,7 +180,7 @@ impl VoteCore {
         is_majority(voters, self.grants.as_slice())
     }
 
-    /// Puts one grant more behind the others.
+    /// Puts one grant more after the others.
     #[tactic(auto, using(crate::proofs::Grants::distinct_more))]
     fn add_grant(&mut self, from: u64)
         requires other { among self.old.grants from ≡ false }

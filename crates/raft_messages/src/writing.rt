@@ -179,10 +179,10 @@ fn whole_message(alloc: Global, message: &RaftMessage) -> Result<WireBytes, Allo
 
 /// Writes a whole message of a peer, its header and its body. An entry of more than 4,294,967,295 bytes, and a body of
 /// more than 4,294,967,295 words, are answered as if memory had run out; any other `Err` means out of memory. A message
-/// with a number out of range (`RaftMessage::numbers_fit`), or to a node whose id is above 127, has no spelling, and
+/// with a number out of range (`RaftMessage::numbers_fit`), or to a node whose id is above 127, has no encoding, and
 /// `read_message` refuses what is written of it.
 pub fn write_message(alloc: Global, message: &RaftMessage) -> Result<WireBytes, AllocError>
-    // Where no number is out of range, what is written spells the message.
+    // If no number is out of range, what is written encodes the message.
     ensures writes { numbers_fit message.now ≡ true → message.now.to ≤ 127 → IfOk result (Writes message.now) }
     // Which bytes they are.
     ensures bytes { IfOk result (λ bytes. bytes ≡ message_bytes message.now) }

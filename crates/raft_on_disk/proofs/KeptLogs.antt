@@ -54,7 +54,7 @@ rest_joined (suc b) (suc n) xs [] l w e = absurd (omega arith)
 rest_joined (suc b) (suc n) [] (y ∷ ys) l w e = absurd cc
 rest_joined (suc b) (suc n) (x ∷ xs) (y ∷ ys) l w e = let z : suc n - suc b ≡ n - b = omega arith in ap (λ k. take k (drop b xs) ++ drop n ys) z ∙ rest_joined b n xs ys (omega arith) (omega arith) (ap (drop 1) e)
 
--- the entries of a node that has cut its log
+-- the entries of a node that has compacted its log
 pub own_entries : (h : NodeValue) → drop h.base (node_of h).log ≡ h.entries
 own_entries h = drop_at (compacted h.snapshot h.base) h.entries h.base (compacted_length h.snapshot h.base)
 
@@ -83,7 +83,7 @@ stepped_of h i t ok x has is =
 snaps_differ : (a b : LogEnd) (commit : ℕ) {A : Type 0} → a ≡ b → b.index ≤ commit → commit < a.index → A
 snaps_differ a b commit e l p = let i : a.index ≡ b.index = ap (λ (x : LogEnd). x.index) e in absurd (omega arith)
 
--- where the snapshot is the same, so is the cut
+-- if the snapshot is the same, the same holds for the cut
 same_base : (s t : Node) → Stepped s t → t.snapshot ≡ s.snapshot → t.base ≡ s.base
 same_base s t x e = ap (λ (n : Node). n.base) x.is ∙ by x.moves
   where
@@ -159,7 +159,7 @@ term_past base i log lt =
     let at : suc (base + (i - suc base)) ≡ i = omega arith in
     same_nth (drop base log) (i - suc base) ∙ nth_at base (i - suc base) log ∙ ap (term_at log) at
 
--- the log is kept behind a snapshot whose end it has
+-- the log is kept after a snapshot whose end it has
 pub kept_behind : (base : ℕ) (log : List Entry) (snap : Snap) → base < snap.index → snap.index ≤ length log → term_at log snap.index ≡ snap.term → behind snap (log_from base log) ≡ log_from base log
 unfolding behind
 kept_behind base log snap lt le e =
@@ -174,7 +174,7 @@ kept_behind base log snap lt le e =
     bad true false p q r = absurd cc
     bad false b p q r = absurd cc
 
--- and none of it behind one whose end it hasn't
+-- and none of it after one whose end it hasn't
 dropped_behind : (base : ℕ) (log : List Entry) (snap : Snap) → base < snap.index → matches log (record { index = snap.index; term = snap.term }) ≡ false → behind snap (log_from base log) ≡ record { first = suc snap.index; entries = [] }
 unfolding behind matches
 dropped_behind base log snap lt e =

@@ -1,4 +1,4 @@
--- The whole log of a node follows what its twin tells of its own.
+-- The whole log of a node follows what its twin says of its own.
 use Rattle.std.proofs.Common.{◌≡◌, ℕ, ◌+◌, ◌-◌, ◌≤◌, List, ◌++◌, length, take, drop, sym, ap, subst, ◌∙◌, arith, take-append-drop, Some, None}
 use Rattle.std.proofs.lemmas.List.{take-take, drop-take}
 use Rattle.raft_spec.specs.Log.{Entry}

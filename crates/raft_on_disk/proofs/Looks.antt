@@ -87,7 +87,7 @@ module _ (me : ℕ) (s : Node) (from term : ℕ) (last : LogEnd) (front : List E
 
 -- ---- all messages
 
--- the step of an Install puts its snapshot in place exactly where the test says so
+-- the step of an Install puts its snapshot in place exactly if the test says so
 pub install_puts : (me : ℕ) (s : Node) (from to term : ℕ) (last : LogEnd) (front : List Entry) → s.snapshot.index ≤ s.commit → nat_lt s.commit (compacted_step me s (Receive (record { from = from; to = to; term = term; what = Install last front }))).node.snapshot.index ≡ takes_install s from term last
 unfolding compacted_step raft_step
 install_puts me s from to term last front low =

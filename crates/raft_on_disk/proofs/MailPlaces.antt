@@ -19,7 +19,7 @@ put_in_place new (m ∷ ms) = elim (nat_le new.to m.to) as (λ (b : Bool). inser
   | false ↦ ap (λ l. m ∷ l) (put_in_place new ms)
 ]
 
--- one message more behind several
+-- one message more after several
 pub one_more : (mail : MailValue) (ms : List RaftMessage) (m : RaftMessage) → all_posted mail (ms ++ m ∷ []) ≡ posted (all_posted mail ms) m
 one_more mail [] m = refl
 one_more mail (x ∷ ms) m = one_more (posted mail x) ms m

@@ -18,8 +18,8 @@ use Rattle.raft_on_disk.specs.Terms.{HasTerm}
 
 -- ---- what is shown of a rule
 
--- where a log, a snapshot's end, a cut and a commit index go: they stay; the log is another one, in a term; or a snapshot past the commit
--- index comes, of which the log has the end, or behind which it is empty
+-- if a log, a snapshot's end, a cut and a commit index go: they stay; the log is another one, in a term; or a snapshot past the commit
+-- index comes, of which the log has the end, or after which it is empty
 pub data Moves (log : List Entry) (snapshot : LogEnd) (base commit : ℕ) (t : Node) : Type 0 where
   stays : t.log ≡ log → t.snapshot ≡ snapshot → t.base ≡ base → Moves log snapshot base commit t
   writes : t.term ≢ 0 → t.snapshot ≡ snapshot → t.base ≡ base → Moves log snapshot base commit t
@@ -259,7 +259,7 @@ whole voters_of me s (Local (Transfer to)) x h = ends voters_of me s _ (hands me
 whole voters_of me s (Local (Snapped i)) x h = absurd x
 whole voters_of me s (Local (UseServers servers)) x h = serves me s _ (hears me s servers h)
 
--- ---- steps of a node that has cut its log
+-- ---- steps of a node that has compacted its log
 
 compact_speaks : (end : LogEnd) (w : What) → SpeaksOf end w → SpeaksOf end (compact_what w)
 compact_speaks end (Install last front) s = s
@@ -283,7 +283,7 @@ pub step_speaks : (me : ℕ) (s : Node) (i : Input) → IsIntake i → HasTerm s
 unfolding compacted_step
 step_speaks me s i x h = all_compact _ (raft_step (λ log. voters s.servers) me s i).out (whole (λ log. voters s.servers) me s i x h).2
 
--- where the log goes: the node before what is cut off is put away
+-- where the log goes: the node before what is compacted is put away
 pub step_moves : (me : ℕ) (s : Node) (i : Input) → IsIntake i → HasTerm s → (u : Node) × ((compacted_step me s i).node ≡ compact u) × Moves s.log s.snapshot s.base s.commit u
 unfolding compacted_step
 step_moves me s i x h = ((raft_step (λ log. voters s.servers) me s i).node, refl, (whole (λ log. voters s.servers) me s i x h).1)

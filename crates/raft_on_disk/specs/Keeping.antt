@@ -29,11 +29,11 @@ kept_at s bytes = record {
 abbrev pub batch_from : ℕ → List Entry → Log
 batch_from first log = record { first = first; entries = drop (first - 1) log }
 
--- what stays of a log behind a place
+-- what stays of a log after a place
 abbrev pub log_from : ℕ → List Entry → Log
 log_from base log = record { first = suc base; entries = drop base log }
 
--- with term and vote, where one of them is new
+-- with term and vote, if one of them is new
 abbrev pub voted : Option (ℕ × ℕ) → Kept → Kept
 voted None k = k
 voted (Some meta) k = with_vote meta.0 meta.1 k
@@ -48,11 +48,11 @@ Has tells states store k = Known tells states (λ d. HasNew store k (folder d))
 abbrev pub Stores : {E : Type 0} → Bool → (Disk Text → Type 0) → (Disk Text → Type 0) → Open → Open → Kept → Kept → Result Unit E → Type 0
 Stores tells before after was now old new result = Has tells before was old → OnOk result (Has tells after now new) × OnErr result (Known tells after (λ d. OldOrNew old new (folder d)))
 
--- the same of a snapshot, where the new state may have a longer old part of the log after an Err
+-- the same for a snapshot, if the new state may have a longer old part of the log after an Err
 abbrev pub StoresSnapshot : {E : Type 0} → Bool → (Disk Text → Type 0) → (Disk Text → Type 0) → Open → Open → Kept → Snap → Log → Result Unit E → Type 0
 StoresSnapshot tells before after was now old s new result = Has tells before was old → OnOk result (Has tells after now (with_snapshot s new old)) × OnErr result (Known tells after (λ d. OldOrKept old s new (folder d)))
 
--- What a step writes of the log is kept: a snapshot that came, with what stays of the log behind it, or a batch, or nothing.
+-- What a step writes of the log is kept: a snapshot that came, with what stays of the log after it, or a batch, or nothing.
 abbrev pub KeepsLog : {E : Type 0} → Bool → (Disk Text → Type 0) → (Disk Text → Type 0) → Open → Open → Kept → List Entry → Option Snapshot → Option ℕ → Result Unit E → Type 0
 KeepsLog tells before after was now k log None None result = Stores tells before after was now k k result
 KeepsLog tells before after was now k log None (Some first) result = CanAppend k (batch_from first log) → Stores tells before after was now k (with_batch (batch_from first log) k) result
@@ -63,7 +63,7 @@ abbrev pub kept_snapshot : Snapshot → Option Snapshot → Snapshot
 kept_snapshot s None = s
 kept_snapshot s (Some came) = came
 
--- ---- how often
+-- ---- how many times
 
 -- 1 where something is to be kept
 abbrev pub one_of : {T : Type 0} → Option T → ℕ
@@ -81,7 +81,7 @@ Counts more before now result = OnOk result (now ≡ before + more) × OnErr res
 
 -- ---- where nothing was kept
 
--- Where the count of keeps is the one that it was, the disk is as it was after Ok; after an Err it has failed, or has wanted memory, or is as it was. Its
+-- If the count of keeps is the one that it was, the disk is as it was after Ok; after an Err it has failed, or has wanted memory, or is as it was. Its
 -- faults are counted before and after, and its wants.
 abbrev pub StaysUnlessKept : {D T E : Type 0} → ℕ → ℕ → D → D → ℕ → ℕ → ℕ → ℕ → Result T E → Type 0
 StaysUnlessKept count now_count was now faults faults_after wants wants_after result =

@@ -19,7 +19,7 @@ end_fits last = fits_the_wire last.index && fits_the_wire last.term
 abbrev pub is_looked_at : ℕ → ℕ → ℕ → LogEnd → Bool
 is_looked_at own from term last = nat_le (term - own) 1000000 && nat_lt 0 term && nat_lt 0 from && fits_the_wire term && end_fits last
 
--- an Install comes to a node that isn't past its term, doesn't lead it, and has committed less
+-- an Install reaches a node that isn't past its term, doesn't lead it, and has committed less
 abbrev pub takes_install : Node → ℕ → ℕ → LogEnd → Bool
 takes_install s from term last =
     is_looked_at s.term from term last && nat_le s.term term && (nat_lt s.term term || not (is_leader s.role)) && nat_lt s.commit last.index

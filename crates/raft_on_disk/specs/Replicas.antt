@@ -18,8 +18,8 @@ use Rattle.segment_store.specs.Open.{Open}
 use Rattle.raft_on_disk.specs.Terms.{HasTerm}
 use Rattle.raft_on_disk.specs.Keeping.{kept_at, Has}
 
--- One node's Raft with its store: the id, Raft's part, the kept snapshot (index 0 where there is none), the store over the disk, and
--- how often something was kept since the count began.
+-- One node's Raft with its store: the id, Raft's part, the kept snapshot (index 0 without one), the store over the disk, and
+-- how many times something was kept since the count began.
 pub record ReplicaValue : Type 0 where
   pub id : ℕ
   pub raft : NodeValue
@@ -31,12 +31,12 @@ pub record ReplicaValue : Type 0 where
 abbrev pub end_of : Snap → LogEnd
 end_of s = record { index = s.index; term = s.term }
 
--- a snapshot of index 0 is none: it has no term and no bytes
+-- a snapshot of index 0 is no snapshot: it has no term and no bytes
 abbrev pub IsNoneAtZero : Snap → Type 0
 IsNoneAtZero s = s.index ≡ 0 → s ≡ no_snap
 
 -- What holds of a replica between two calls: Raft's part is of its id and coherent, its snapshot is the kept one, and who leads, stands or has committed past the
--- snapshot has a term. The kept snapshot of index 0 is none.
+-- snapshot has a term. The kept snapshot of index 0 is no snapshot.
 pub record IsWhole (r : ReplicaValue) : Type 0 where
   pub id : r.raft.id ≡ r.id
   pub coherent : IsCoherent r.raft
@@ -73,7 +73,7 @@ bytes_in (Some s) = s.bytes
 abbrev pub bytes_after : ReplicaValue → RaftEvent → List ℕ
 bytes_after r event = cond (nat_lt r.raft.commit (stepped r event).snapshot.index) (bytes_in (offered event)) r.snap.bytes
 
--- the snapshot that is kept after a step: the very one that came, where it is past the commit index, else the old one
+-- the snapshot that is kept after a step: the very one that came, if it is past the commit index, else the old one
 abbrev pub snap_after : ReplicaValue → RaftEvent → Snap
 snap_after r event = cond (nat_lt r.raft.commit (stepped r event).snapshot.index) (snap_kept (offered event)) r.snap
 
@@ -82,13 +82,13 @@ abbrev pub HasMoved : Node → Node → Option ℕ → Bool → Type 0
 HasMoved s t batch true = (s.commit < t.snapshot.index) × (batch ≡ None)
 HasMoved s t batch false = (t.snapshot ≡ s.snapshot) × IsBatch s.commit s.log t.log batch
 
--- how often a step keeps something of the log
+-- how many times a step keeps something of the log
 abbrev pub log_count : Option ℕ → Bool → ℕ
 log_count batch true = 1
 log_count None false = 0
 log_count (Some first) false = 1
 
--- what the rules' node has stored then: of what is cut off only the number is known, and the term of the last one
+-- what the rules' node has stored then: of what is compacted only the number is known, and the term of the last one
 abbrev pub stored_at : Kept → Stored
 stored_at k = record {
   term = k.term;

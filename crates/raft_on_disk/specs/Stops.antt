@@ -13,19 +13,19 @@ use Rattle.segment_store.specs.Keeps.{folder}
 use Rattle.segment_store.specs.Loading.{kept_in, IsSeen}
 use Rattle.raft_on_disk.specs.Keeping.{kept_at}
 
--- how often a step from this node to that one keeps a term and a vote
+-- how many times a step from this node to that one keeps a term and a vote
 abbrev pub votes_between : Node → Node → ℕ
 votes_between s t = cond ((t.term == s.term) && (t.vote == s.vote)) 0 1
 
--- What a load answers after a step from the node s to t that failed, where the count of what was kept whole went from `count` to `now_count`: the state before, where
--- nothing was; with the new term and vote, where no more than they were; or the new state, where they were, maybe with a longer part of the log before. The bytes of the
+-- What a load answers after a step from the node s to t that failed, if the count of what was kept whole went from `count` to `now_count`: the state before, where
+-- nothing was; with the new term and vote, if no more than they were; or the new state, if they were, maybe with a longer part of the log before. The bytes of the
 -- snapshot are those before the step and after it.
 pub data MayLoad (s t : Node) (was now : List ℕ) (count now_count : ℕ) (g : NodeFiles) : Type 0 where
   before : now_count ≡ count → kept_in g ≡ Loaded (kept_at s was) → MayLoad s t was now count now_count g
   between : now_count ≤ count + votes_between s t → kept_in g ≡ Loaded (with_vote t.term t.vote (kept_at s was)) → MayLoad s t was now count now_count g
   after : count + votes_between s t ≤ now_count → IsLonger node_format 10000000000000000 g t.term t.vote (kept_at t now).snap (kept_at s was).log (kept_at t now).log → MayLoad s t was now count now_count g
 
--- So it is after each crash, and without one.
+-- This holds after each crash, and without one.
 pub record StopsIn (s t : Node) (was now : List ℕ) (count now_count : ℕ) (d : NodeDisk) : Type 0 where
   pub crash : (g : NodeFiles) → DiskLeaves d g → NoChance node_format d g → MayLoad s t was now count now_count g
   pub seen : IsSeen d

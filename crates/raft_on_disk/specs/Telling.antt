@@ -1,4 +1,4 @@
--- A node that doesn't lead is told other servers.
+-- A node that doesn't lead is given other servers.
 use Rattle.std.specs.Prelude.{◌≡◌, ℕ, Bool, false, List, [], Option, None}
 use Rattle.raft_spec.specs.Node.{Server, is_leader}
 use Rattle.raft_spec.specs.NodeValues.{node_of}

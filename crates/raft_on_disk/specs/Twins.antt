@@ -1,4 +1,4 @@
--- A node of Raft's world, which has its whole log, and the node that makes its steps without what is cut off: what they keep.
+-- A node of Raft's world, which has its whole log, and the node that makes its steps without what is compacted: what they keep.
 use Rattle.std.specs.Prelude.{◌≡◌, ℕ, suc, ◌-◌, ◌≤◌, false, List, ◌++◌, length, take, drop, Option, Some, None}
 use Rattle.raft_spec.specs.Log.{Entry}
 use Rattle.raft_spec.specs.Node.{Node}
@@ -25,7 +25,7 @@ abbrev pub IsFollowed : List Entry → List Entry → List Entry → Option ℕ 
 IsFollowed old new held None = new ≡ old
 IsFollowed old new held (Some first) = (first ≤ suc (length old)) × (new ≡ take (first - 1) old ++ drop (first - 1) held)
 
--- Where no snapshot came, the whole log of the node follows what its twin tells of its own; what was applied stays, which the law of
+-- If no snapshot came, the whole log of the node follows what its twin says of its own; what was applied stays, which the law of
 -- applied entries gives of each step.
 abbrev pub TwinsFollow : Type 0
 TwinsFollow =

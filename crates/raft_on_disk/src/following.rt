@@ -22,8 +22,8 @@ fn either(one: bool, other: bool) -> bool
 
 impl Replica {
     /// The configurations follow a step after which the log is another one from this index on: changes from there on are
-    /// gone, and those that stand there now join. Where the answer is false the configurations are those that they were;
-    /// where it is true, a node that doesn't lead tells its Raft the current one.
+    /// gone, and those that are there now join. If the answer is false the configurations are those that they were;
+    /// if it is true, a node that doesn't lead gives its Raft the current one.
     ///
     /// Reads each entry from there on once. `Err` means out of memory; the configurations are to be dropped then, with
     /// the replica.

@@ -21,7 +21,7 @@ fn copied(alloc: Global, entries: &[Entry]) -> Result<Entries, AllocError>
     Ok(Entries::new(copies))
 }
 
-// A snapshot for one more owner; none where its index is 0.
+// A snapshot for one more owner; none if its index is 0.
 fn shared(snapshot: &Snapshot) -> Result<Option<Snapshot>, AllocError>
     requires { IsNoneAtZero (snap_value snapshot.now) }
     ensures same { IfOk result (λ held. snap_kept held ≡ snap_value snapshot.now) }
@@ -34,7 +34,7 @@ fn shared(snapshot: &Snapshot) -> Result<Option<Snapshot>, AllocError>
 }
 
 impl Replica {
-    /// What it keeps, as a load of the disk would answer it; right behind a start, what that load has answered. Entries and
+    /// What it keeps, as a load of the disk would answer it; right after a start, what that load has answered. Entries and
     /// snapshot share their bytes with the replica's, so that none is copied.
     pub fn kept(&self) -> Result<Kept, AllocError>
         requires { IsWhole self.now }

@@ -50,7 +50,7 @@ fn brought(what: &MessageBody) -> Option<&Snapshot>
 }
 
 impl Replica {
-    // Whether an Install comes to a node that isn't past its term, doesn't lead it, and has committed less.
+    // Whether an Install reaches a node that isn't past its term, doesn't lead it, and has committed less.
     fn takes_install(&self, from: u64, term: u64, snapshot: &Snapshot) -> bool
         ensures { result ≡ takes_install (node_of self.now.raft) from term (snapshot_end snapshot.now) }
     {

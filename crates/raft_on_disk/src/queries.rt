@@ -1,4 +1,4 @@
-//! What a replica tells of itself.
+//! What a replica says of itself.
 ghost use Rattle.std.specs.Prelude.{◌≡◌, ◌<◌, ◌≤◌, ◌-◌, ◌==◌, ◌&&◌, ◌↔◌, drop, IsSome, IfSome, length, slice_index_or};
 ghost use Rattle.raft_spec.specs.Log.{log_end};
 ghost use Rattle.raft_spec.specs.Node.{is_leader};
@@ -24,7 +24,7 @@ impl Replica {
         self.raft.view()
     }
 
-    /// The entry at an index of the log, lent, if it isn't cut off.
+    /// The entry at an index of the log, lent, if it isn't compacted.
     pub fn entry(&self, index: u64) -> Option<&Entry>
         ensures some { IsSome result ↔ (self.now.raft.base < index) × (index ≤ length (node_of self.now.raft).log) }
         ensures entry { IfSome result (λ e. e.now ≡ slice_index_or self.now.raft.entries (index - self.now.raft.base - 1) e.now) }
@@ -32,7 +32,7 @@ impl Replica {
         self.raft.entry(index)
     }
 
-    /// The entries of the log from an index on that isn't cut off, lent. Constant cost.
+    /// The entries of the log from an index on that isn't compacted, lent. Constant cost.
     pub fn tail(&self, first: u64) -> &[Entry]
         requires { self.now.raft.base < first }
         ensures { result.now ≡ drop (first - 1) (node_of self.now.raft).log }
@@ -76,7 +76,7 @@ impl Replica {
         self.raft.is_due(applied)
     }
 
-    /// How often something was kept whole since the count began: a term with a vote, a batch, or a snapshot.
+    /// How many times something was kept whole since the count began: a term with a vote, a batch, or a snapshot.
     pub fn keeps(&self) -> u64
         ensures { result ≡ self.now.keeps }
     {

@@ -1,4 +1,4 @@
-//! What a node keeps over its disk: the store, the kept snapshot, and how often something was kept.
+//! What a node keeps over its disk: the store, the kept snapshot, and how many times something was kept.
 ghost use Rattle.std.specs.Prelude.{◌≡◌, ◌<◌, ◌≤◌, suc, Some, None, IfOk, OnOk, MatchOption};
 ghost use Rattle.raft_spec.specs.NodeValues.{node_of};
 ghost use Rattle.store_laws.specs.Store.{Kept};
@@ -14,11 +14,11 @@ use raft_messages::{Entry, Snapshot};
 use segment_store::{Store, StoreFault};
 use std::alloc::AllocError;
 
-/// A store over a disk, with the snapshot that is kept in it, and how often something was kept since the count began.
+/// A store over a disk, with the snapshot that is kept in it, and how many times something was kept since the count began.
 #[derive(Drop)]
 pub(crate) struct RaftStorage {
     pub(crate) store: Store,
-    // one of index 0 where there is none
+    // one of index 0 without one
     pub(crate) snapshot: Snapshot,
     pub(crate) keeps: u64,
 }
@@ -49,7 +49,7 @@ impl RaftStorage {
         Ok(())
     }
 
-    // Keeps term and vote, where a step hands them over.
+    // Keeps term and vote, if a step hands them over.
     pub(crate) fn keep_vote<D: Disk>(
         &mut self,
         disk: &mut D,
@@ -114,7 +114,7 @@ impl RaftStorage {
         Ok(())
     }
 
-    // Keeps a snapshot that came, with what stays of the log behind it.
+    // Keeps a snapshot that came, with what stays of the log after it.
     fn keep_install<D: Disk>(
         &mut self,
         disk: &mut D,

@@ -51,7 +51,7 @@ impl Model for Replica {
 /// What a step of Raft has changed, and what it says.
 #[derive(Drop)]
 pub struct RaftStep {
-    /// The first index at which the log is another one now, where its entries have changed.
+    /// The first index at which the log is another one now, if its entries have changed.
     pub batch: Option<u64>,
     /// Whether a snapshot came in place of all entries up to its end.
     pub installed: bool,
@@ -66,7 +66,7 @@ fn sends_of(todo: Todo) -> OutgoingList
     todo.sends
 }
 
-// A snapshot that is kept; one of index 0 where there is none.
+// A snapshot that is kept; one of index 0 without one.
 fn held(alloc: Global, snapshot: Option<Snapshot>) -> Result<Snapshot, AllocError>
     requires { HasIndex snapshot }
     ensures same { IfOk result (λ held. snap_value held ≡ snap_kept snapshot) }
@@ -83,7 +83,7 @@ fn held(alloc: Global, snapshot: Option<Snapshot>) -> Result<Snapshot, AllocErro
 }
 
 impl Replica {
-    /// Starts over what a load of the disk has answered: a follower that has applied its snapshot alone, and was told these
+    /// Starts over what a load of the disk has answered: a follower that has applied its snapshot alone, and was given these
     /// servers, which are those of its log. All that is kept is moved into it.
     ///
     /// Conditions: the servers may stand together; what was kept is what a load answers.
@@ -139,12 +139,12 @@ impl Replica {
         })
     }
 
-    /// One step of Raft. Term and vote are kept first, where one of them is new, and then the batch or the snapshot; only
+    /// One step of Raft. Term and vote are kept first, if one of them is new, and then the batch or the snapshot; only
     /// then are there messages. So after `Ok` the disk keeps what Raft is now.
     ///
     /// After an `Err` a load of the disk answers what was kept before, that with the new term and vote, or what Raft is
-    /// after the step, maybe with a longer old part of its log; the count of keeps tells which may be. Nothing is said
-    /// then. `DiskFault` comes only where the disk counted one. `NoMemory` is also a count or an index past 64 bits.
+    /// after the step, maybe with a longer old part of its log; the count of keeps says which may be. Nothing is said
+    /// then. `DiskFault` comes only if the disk counted one. `NoMemory` is also a count or an index past 64 bits.
     ///
     /// Conditions: those of Raft's step on servers; an own snapshot goes by `snapshot`.
     ///
@@ -158,7 +158,7 @@ impl Replica {
         ensures raft { OnOk result (node_of self.new.raft ≡ stepped self.old event) }
         ensures short { HasShortTerm (node_of self.old.raft) → OnOk result (HasShortTerm (node_of self.new.raft)) }
         ensures commit { OnOk result (self.old.raft.commit ≤ self.new.raft.commit) }
-        // The kept snapshot is the very one that came, where one came past the commit index.
+        // The kept snapshot is the very one that came, if one came past the commit index.
         ensures snap { OnOk result (self.new.snap ≡ snap_after self.old event) }
         ensures bytes { OnOk result (self.new.snap.bytes ≡ bytes_after self.old event) }
         ensures moved { IfOk result (λ moved. HasMoved (node_of self.old.raft) (node_of self.new.raft) moved.batch moved.installed) }
@@ -204,11 +204,11 @@ impl Replica {
     }
 
     /// Takes an own snapshot at an applied index past the last one, of which these are the bytes: keeps it with the log
-    /// behind it, from up to 16 entries before its end on, and tells Raft. Answers what Raft says then: Appends, where a
+    /// after it, from up to 16 entries before its end on, and tells Raft. Answers what Raft says then: Appends, if a
     /// leader's commit index moves.
     ///
     /// After an `Err` a load of the disk answers what was kept before, or what Raft is after it, maybe with a longer old
-    /// part of the log. Nothing is said then. `DiskFault` comes only where the disk counted one.
+    /// part of the log. Nothing is said then. `DiskFault` comes only if the disk counted one.
     ///
     /// The bytes are shared, and copied once, by the store.
     pub fn snapshot<D: Disk>(

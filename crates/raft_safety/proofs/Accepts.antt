@@ -43,7 +43,7 @@ pub accept_agree : {p c : ℕ} {xs ys new : List Entry} → p + c ≤ length ys 
 accept_agree {p} {c} {xs} {ys} {new} le (stays e a) = subst (λ zs. Agree (p + c) zs ys) (sym e) a
 accept_agree {p} {c} {xs} {ys} {new} le (moves e k b ne) = subst (λ zs. Agree (p + c) zs ys) (sym e) (agree_take (p + c) (p + c) ys (omega arith) le)
 
--- the front of the leader's log, where the two differ within that front
+-- the front of the leader's log, if the two differ within that front
 moved : {vs : Setup} {h : Hist} {n u vote : ℕ} {xs : List Entry} {commit : ℕ} (q c : ℕ) → HistOk vs h → h.who u ≢ 0 → q ≤ length (h.log_of u) → c ≤ q → term_at xs c ≢ term_at (h.log_of u) c → BaseOk vs h n u vote xs commit → BaseOk vs h n u vote (take q (h.log_of u)) commit
 moved {vs} {h} {n} {u} {vote} {xs} {commit} q c ok leads le b ne a = record {
   sound = sound_take (h.log_of u) q le (ok.sound u);

@@ -30,7 +30,7 @@ cond_same : {A : Type 0} (b : Bool) (x y v w : A) → (b ≡ true → x ≡ v) �
 cond_same true x y v w p q = p refl
 cond_same false x y v w p q = q refl
 
--- where an Append is sent, its place is known
+-- if an Append is sent, its place is known
 pub place_known : (s : Node) (next : ℕ) → Shape s → needs_snapshot s next ≡ false → (s.base ≤ next - 1) × ((next - 1 ≡ s.base) → (s.base ≡ 0) ⊎ (s.base ≡ s.snapshot.index))
 unfolding needs_snapshot
 place_known s next sh e =
@@ -169,7 +169,7 @@ finish_alike {voters_of} {ids} me d e sh a =
     subst (λ n. Alike voters_of ids (finish voters_of me d) (finish (always ids) me (record { node = n; out = e.out; recipients = e.recipients }))) (sym a.node)
     (subst (λ p. Alike voters_of ids (finish voters_of me d) (finish (always ids) me (record { node = with_whole_log d.node a.log; out = e.out; recipients = p }))) (sym a.recipients) (finish_at me d.node a.log d.out e.out d.recipients a.sees sh a.same a.out))
 
--- what is known of two steps: the same node except for what is cut off, and the same
+-- what is known of two steps: the same node except for what is compacted, and the same
 -- messages
 pub record AlikeStep (d e : Outcome) : Type 0 where
   pub log : List Entry
@@ -204,7 +204,7 @@ SeesAt voters_of ids s (Local (Transfer to)) = Sees voters_of ids s.log
 SeesAt voters_of ids s (Local (Snapped i)) = Sees voters_of ids s.log
 SeesAt voters_of ids s (Receive m) = Sees voters_of ids s.log
 
--- the node's state and its messages after a step are known from what it has, whatever was cut off
+-- the node's state and its messages after a step are known from what it has, whatever was compacted
 pub step_alike : (voters_of : List Entry → List ℕ) (ids : List ℕ) (me : ℕ) (s : Node) (ys : List Entry) (i j : Input) → SeesAt voters_of ids s i → Shape s → Shape (rule_of voters_of me s i).node → Same s.base s.snapshot.index s.log ys → AlikeInput i j → AlikeStep (raft_step voters_of me s i) (raft_step (always ids) me (with_whole_log s ys) j)
 unfolding raft_step
 step_alike voters_of ids me s ys (Local Timeout) j told sh after e a = subst (λ j. AlikeStep (raft_step voters_of me s (Local Timeout)) (raft_step (always ids) me (with_whole_log s ys) j)) (sym a) (steps_alike _ _ (finish_alike me _ _ after (stand_alike false me s ys told sh e)))

@@ -1,4 +1,4 @@
--- A step reads nothing of the log that is cut off: two logs that are the same past the cut give the same step.
+-- A step reads nothing of the log that is compacted: two logs that are the same past the cut give the same step.
 use Rattle.std.proofs.Common.{◌≡◌, ℕ, suc, ◌+◌, ◌-◌, ◌<◌, ◌≤◌, List, ◌++◌, length, take, drop, sym, ap, ◌∙◌, ⊎_elim, arith, length-append}
 use Rattle.std.proofs.lemmas.List.{drop-drop, drop-take, drop-append-le, length-take-le}
 use Rattle.std.proofs.lemmas.Bool.{cases_lt}

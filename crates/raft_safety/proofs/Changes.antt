@@ -71,7 +71,7 @@ fresh_change {vs} {h} n s entry ok l a e none near is_one j lt c =
     agree_here : {xs ys : List Entry} (i : ℕ) → i ≤ length xs → Agree (length xs) xs ys → take i xs ≡ take i ys
     agree_here i le b = (agree_down i le b).same
 
--- what may be proposed is fit to stand in the leader's log
+-- what may be proposed is fit to be in the leader's log
 pub fresh_fine : {vs : Setup} {h : Hist} (n : ℕ) (s : Node) (es : List Entry) → HistOk vs h → LeaderOk h n s → NodeOk vs h n s → may_propose vs s es ≡ true → (j : ℕ) → length (h.log_of s.term) < j → change_at vs ((longer h s.term es).log_of s.term) j ≡ true → ChangeOk vs (longer h s.term es) s.term j
 unfolding may_change
 fresh_fine {vs} {h} n s [] ok l a m = no_fresh h s.term [] refl

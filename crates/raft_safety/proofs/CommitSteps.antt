@@ -213,7 +213,7 @@ alone_commits_holds voters_of me s es lead some low alone =
     of_one : ℕ → Entry → Entry
     of_one t e = record { term = t; kind = e.kind; bytes = e.bytes }
 
--- the same of a step of the world that may be made
+-- the same for a step of the world that may be made
 pub current_voters_commit_holds : CurrentVotersCommit
 unfolding member_step
 current_voters_commit_holds setup n s i ok l =

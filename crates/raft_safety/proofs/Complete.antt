@@ -51,7 +51,7 @@ sorted {h} {xs} vs i j ok s le b =
     let l = ok.below (term_at xs j) i in
     omega arith
 
--- an entry of a leader's own term stands past the log that it was elected with
+-- an entry of a leader's own term is past the log that it was elected with
 pub past_front : {h : Hist} (vs : Setup) (v n : ℕ) → HistOk vs h → h.who v ≢ 0 → term_at (h.log_of v) n ≡ v → length (elected h v) < n
 past_front {h} vs v n ok e x =
     ⊎_elim (λ (l : length (elected h v) < n). l)

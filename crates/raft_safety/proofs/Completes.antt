@@ -77,7 +77,7 @@ module _ (vs : Setup) (h : Hist) (ok : HistOk vs h) (u bound : ℕ) (xs : List E
       under : (t : ℕ) → term_at xs (length xs) < t → (j : ℕ) → term_at xs j < t
       under t low j = ⊎_elim (λ (a : length xs < j). let z = term_at-past xs j a in omega arith) (λ (a : j ≤ length xs). let z = sorted vs j (length xs) ok sound a (omega arith) in omega arith) (cases_lt (length xs) j)
 
-  -- where the log ends in the term t it has the place
+  -- if the log ends in the term t it has the place
   same_term : (t : ℕ) → t < u → h.who t ≢ 0 → term_at xs (length xs) ≡ t → (k i : ℕ) → (d : Decided vs h t i) → d.upto < k → i ≤ length xs
   same_term t lt leads is zero i d low = absurd (omega arith)
   same_term t lt leads is (suc k) i d low =

@@ -1,4 +1,4 @@
--- Where no configuration reads, the voters are fixed.
+-- If no configuration reads, the voters are fixed.
 use Rattle.std.proofs.Common.{◌≡◌, Bool, true, false, List, [], ◌∷◌, refl, ap, ◌∙◌}
 use Rattle.std.specs.Prelude.{cond, not, ◌&&◌, ◌||◌}
 use Rattle.raft_spec.specs.Log.{Entry}

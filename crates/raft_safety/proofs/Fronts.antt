@@ -1,4 +1,4 @@
--- The snapshots of a run stand for fronts of the chosen entries.
+-- The snapshots of a run represent fronts of the chosen entries.
 use Rattle.std.proofs.Common.{◌≡◌, ℕ, zero, suc, ◌≤◌, Bool, true, false, cond, List, [], ◌∷◌, ◌++◌, Option, Some, None, length, max, take, drop, refl, ap, subst, arith, length-append}
 use Rattle.std.specs.Prelude.{◌==◌, ◌&&◌, not, nat_lt, nat_le, map, slice_get}
 use Rattle.std.proofs.lemmas.Bool.{cond_both, eq-eqb}
@@ -131,7 +131,7 @@ rule_none voters_of me s (Receive m) =
     (λ x. cond_both (nat_lt s.term m.term) _ _ MakesNone (λ y. in_turn_none voters_of me (in_newer_term s m.term) m.from m.what) (λ y. in_turn_none voters_of me s m.from m.what)))
     (λ e. tt)
 
--- what a leader sends stands for its own snapshot
+-- what a leader sends represents its own snapshot
 abbrev Own : Outcome → Type 0
 Own d = AllWithin d.node.snapshot.index d.out
 

@@ -62,7 +62,7 @@ grows_trans n h g k a b = record {
 pub sound_later : {h g : Hist} {xs : List Entry} → Later h g → Sound h xs → Sound g xs
 sound_later {h} {g} {xs} l s = record { at = λ i b. let a = s.at i b in agree_trans a (agree_down i a.in_right (l.logs (term_at xs i))) }
 
--- a term that stood in a leader's log stands there
+-- a term that was in a leader's log is there
 pub term_later : {h g : Hist} (t i : ℕ) → Later h g → i ≤ length (h.log_of t) → term_at (g.log_of t) i ≡ term_at (h.log_of t) i
 term_later t i l b = sym (agree_term i b (l.logs t))
 

@@ -25,7 +25,7 @@ pub record Hist : Type 0 where
 abbrev pub elected : Hist → ℕ → List Entry
 elected h u = h.had (h.who u) u
 
--- each entry of the log is its term's leader's, and so is all before it
+-- each entry of the log is its term's leader's, and the same holds for all before it
 pub record Sound (h : Hist) (xs : List Entry) : Type 0 where
   pub at : (i : ℕ) → i ≤ length xs → Agree i xs (h.log_of (term_at xs i))
 

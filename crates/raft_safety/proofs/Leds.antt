@@ -1,4 +1,4 @@
--- Each entry stood in the log of a leader of its term.
+-- Each entry was in the log of a leader of its term.
 use Rattle.std.proofs.Common.{◌≡◌, ℕ, suc, ◌+◌, ◌<◌, ◌≤◌, true, List, [], ◌∷◌, ◌++◌, length, take, refl, sym, ap, ◌∙◌, subst, arith, length-append, append_assoc}
 use Rattle.std.proofs.lemmas.List.{drop-take, take-append-le, take_all, length-take-le, take-take}
 use Rattle.raft_spec.specs.Log.{Barrier, Entry, term_at}

@@ -164,7 +164,7 @@ piece_nth p k es xs a h = ap (λ l. nth_term l k) (sym a.same) ∙ nth-take (len
 take-len : (k : ℕ) (es zs : List Entry) → take (length es) zs ≡ es → k ≤ length es → take k es ≡ take k zs
 take-len k es zs e h = ap (take k) (sym e) ∙ take-take k (length es) zs h
 
--- the log after an accept: itself, or the front of the other log, where a term differed before
+-- the log after an accept: itself, or the front of the other log, if a term differed before
 pub data Accepted (p : ℕ) (n : ℕ) (xs ys new : List Entry) : Type 0 where
   stays : new ≡ xs → Agree (p + n) xs ys → Accepted p n xs ys new
   moves : new ≡ take (p + n) ys → (c : ℕ) → c ≤ p + n → term_at xs c ≢ term_at ys c → Accepted p n xs ys new

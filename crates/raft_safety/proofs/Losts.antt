@@ -16,7 +16,7 @@ use Rattle.raft_safety.proofs.Appends.{floor_piece, agrees_there}
 use Rattle.raft_safety.proofs.Reaches.{in_term_ok}
 use Rattle.raft_safety.proofs.Worlds.{moments, at_number}
 
--- where two lists of entries first clash their terms differ
+-- if two lists of entries first clash their terms differ
 record Clash (rest es : List Entry) (c : ℕ) : Type 0 where
   at : ℕ
   is : c ≡ suc at

@@ -107,7 +107,7 @@ nth_joined [] ys k t e = let z : k - 0 ≡ k = omega arith in inr (omega arith, 
 nth_joined (x ∷ xs) ys zero t e = inl (omega arith, e)
 nth_joined (x ∷ xs) ys (suc k) t e = ⊎_elim (λ (p : (k < length xs) × (nth_term xs k ≡ t)). inl (let q = p.0 in omega arith, p.1)) (λ (p : (length xs ≤ k) × (nth_term ys (k - length xs) ≡ t)). let q = p.0 in let z : suc k - suc (length xs) ≡ k - length xs = omega arith in inr (omega arith, ap (nth_term ys) z ∙ p.1)) (nth_joined xs ys k t e)
 
--- an index of a log after entries were taken in behind a place
+-- an index of a log after entries were taken in after a place
 accept_from : (log : List Entry) (p : ℕ) (es : List Entry) (k t : ℕ) → p ≤ length log → nth_term (accept log p es) k ≡ t → t ≢ 0 → (nth_term log k ≡ t) ⊎ ((q : ℕ) × (k ≡ p + q) × (nth_term es q ≡ t))
 unfolding accept
 accept_from log p es k t h e nz =

@@ -33,7 +33,7 @@ pub all_among : (vs : Setup) (h : Hist) (f : ℕ → Message) (xs : List ℕ) �
 all_among vs h f [] e = tt
 all_among vs h f (x ∷ xs) e = (e x (or_left _ _ (eq-eqb x x refl)), all_among vs h f xs (λ y a. e y (or_right _ _ a)))
 
--- the node n comes to this state, with these messages
+-- the node n ends with this state, with these messages
 pub record Reach (vs : Setup) (h : Hist) (n : ℕ) (s : Node) (out : List Message) : Type 0 where
   pub to : Hist
   pub grows : Grows n h to

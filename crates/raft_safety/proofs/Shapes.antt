@@ -15,7 +15,7 @@ use Rattle.raft_spec.specs.Receiving.{on_own_term, on_older_term, in_range, on_m
 use Rattle.raft_spec.specs.Steps.{finish, serve, raft_step}
 use Rattle.raft_safety.proofs.Reaches.{off}
 
--- the log stays; or term and vote do; or a term is taken or stood in, whatever comes of the log
+-- the log stays; or term and vote do; or a later term is taken, or the node stands for election in one, whatever comes of the log
 pub data Apart (me : ℕ) (s t : Node) : Type 0 where
   logs : t.log ≡ s.log → t.snapshot ≡ s.snapshot → t.base ≡ s.base → Apart me s t
   metas : t.term ≡ s.term → t.vote ≡ s.vote → Apart me s t

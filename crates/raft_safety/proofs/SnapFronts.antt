@@ -1,4 +1,4 @@
--- Kept snapshots and those in messages stand for fronts of the chosen entries.
+-- Kept snapshots and those in messages represent fronts of the chosen entries.
 use Rattle.std.proofs.Common.{ℕ, List, length, take, sym, ap, ◌∙◌, arith}
 use Rattle.std.proofs.lemmas.List.{take-take}
 use Rattle.raft_spec.specs.Log.{Entry}

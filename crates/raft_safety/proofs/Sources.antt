@@ -53,7 +53,7 @@ abbrev pub RunFit : (List Entry → Type 0) → Setup → World → List Event �
 RunFit Q vs w [] = Unit {0}
 RunFit Q vs w (e ∷ es) = EventFit Q vs w e × RunFit Q vs (happens vs w e) es
 
--- the front of its term's leader's log that a message stands for
+-- the front of its term's leader's log that a message represents
 abbrev pub WhatFit : (List Entry → Type 0) → Hist → ℕ → What → Type 0
 WhatFit Q h u (AskVote last transfer) = Unit {0}
 WhatFit Q h u (Vote granted) = Unit {0}

@@ -1,4 +1,4 @@
--- What stands of what was applied, and what a barrier is past.
+-- What stays of what was applied, and what a barrier is past.
 use Rattle.std.proofs.Common.{◌≡◌, ◌≢◌, ℕ, ◌<◌, ◌≤◌, List, [], ◌∷◌, ◌++◌, length, sym, ap, ◌∙◌, subst, ⊎_elim, arith}
 use Rattle.std.proofs.lemmas.Bool.{cases_eq, cases_lt}
 use Rattle.raft_spec.specs.Log.{term_at}

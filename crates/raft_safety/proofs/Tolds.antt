@@ -16,7 +16,7 @@ use Rattle.raft_safety.specs.Cuts.{ToldAt, SameVoters, FixedTold}
 use Rattle.raft_safety.proofs.Shapes.{rule_of}
 use Rattle.raft_safety.proofs.Fixeds.{fixed_servers_holds, fixed_proposals_holds}
 
--- the node was told these servers
+-- the node was given these servers
 abbrev Was : List Server → Outcome → Type 0
 Was servers d = d.node.servers ≡ servers
 

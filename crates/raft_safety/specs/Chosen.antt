@@ -34,13 +34,13 @@ chosen_from setup w c (e ∷ events) = chosen_from setup (happens setup w e) (ch
 unfoldable pub chosen : Setup → List Event → List Entry
 chosen setup events = chosen_from setup (start setup) [] events
 
--- the chosen entries up to an applied index, and then the node's entries, are its whole log: so at its snapshot's index, and where it has cut its log
+-- the chosen entries up to an applied index, and then the node's entries, are its whole log: so at its snapshot's index, and if it has compacted its log
 abbrev pub WholeLogs : Type 0
 WholeLogs =
     (setup : Setup) (events : List Event) (n i : ℕ) → i ≤ (node_at setup events n).commit →
     take i (chosen setup events) ++ drop i (log_at setup events n) ≡ log_at setup events n
 
--- what is cut off is at or below the snapshot, and that is applied
+-- what is compacted is at or below the snapshot, and that is applied
 abbrev pub CutsApplied : Type 0
 CutsApplied =
     (setup : Setup) (events : List Event) (n : ℕ) →
@@ -54,7 +54,7 @@ AppliedChosen = (setup : Setup) (events : List Event) (n : ℕ) → SameUpTo (no
 abbrev pub ChosenGrows : Type 0
 ChosenGrows = (setup : Setup) (events more : List Event) → take (length (chosen setup events)) (chosen setup (events ++ more)) ≡ chosen setup events
 
--- a message's snapshot stands for no more than the index
+-- a message's snapshot represents no more than the index
 abbrev pub WithinWhat : ℕ → What → Type 0
 WithinWhat k (Install last front) = last.index ≤ k
 WithinWhat k (AskVote last transfer) = Unit {0}
@@ -63,7 +63,7 @@ WithinWhat k (Append prev commit entries) = Unit {0}
 WithinWhat k (Ack good index) = Unit {0}
 WithinWhat k TimeoutNow = Unit {0}
 
--- each kept snapshot, and each in a message, stands for a front of the chosen entries: an Install applies no entry first
+-- each kept snapshot, and each in a message, represents a front of the chosen entries: an Install applies no entry first
 abbrev pub SnapshotsChosen : Type 0
 SnapshotsChosen =
     (setup : Setup) (events : List Event) →

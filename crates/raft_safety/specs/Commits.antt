@@ -7,7 +7,7 @@ use Rattle.raft_spec.specs.Commitment.{majority_stores}
 use Rattle.raft_spec.specs.Steps.{raft_step}
 use Rattle.raft_safety.specs.Members.{Setup, voters_after, may_take, member_step}
 
--- the greatest index that a majority has with an entry of the leader's term, or the old one where that isn't greater
+-- the greatest index that a majority has with an entry of the leader's term, or the old one if that isn't greater
 pub record Exact (voters_of : List Entry → List ℕ) (me : ℕ) (old : ℕ) (t : Node) : Type 0 where
   pub is : (t.commit ≡ old) ⊎ ((old < t.commit) × (t.commit ≤ length t.log) × (majority_stores voters_of me t t.commit ≡ true))
   pub greatest : (k : ℕ) → t.commit < k → k ≤ length t.log → majority_stores voters_of me t k ≡ false
@@ -17,7 +17,7 @@ abbrev pub Serves : Input → Type 0
 Serves (Local (UseServers servers)) = Unit {0}
 Serves i = ⊥
 
--- a leader's commit index after each step is exact; a step that tells it other servers leaves it
+-- a leader's commit index after each step is exact; a step that gives it other servers leaves it
 abbrev pub LeaderCommit : Type 0
 LeaderCommit =
     (voters_of : List Entry → List ℕ) (me : ℕ) (s : Node) (i : Input) → is_leader (raft_step voters_of me s i).node.role ≡ true →
@@ -50,7 +50,7 @@ AloneCommits =
     s.commit ≤ length s.log → voters_of (s.log ++ with_term s.term entries) ≡ me ∷ [] →
     (raft_step voters_of me s (Local (Propose entries))).node.commit ≡ length s.log + length entries
 
--- so it is at each step of the world, by the voters of the last configuration in the leader's log
+-- this holds at each step of the world, by the voters of the last configuration in the leader's log
 abbrev pub CurrentVotersCommit : Type 0
 CurrentVotersCommit =
     (setup : Setup) (n : ℕ) (s : Node) (i : Input) → may_take setup s i ≡ true → is_leader (member_step setup n s i).node.role ≡ true →

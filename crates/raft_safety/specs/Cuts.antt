@@ -14,13 +14,13 @@ pub record Same (b i : ℕ) (xs ys : List Entry) : Type 0 where
   pub rest : drop b xs ≡ drop b ys
   pub snapshot : term_at xs i ≡ term_at ys i
 
--- a node, and one that is the same except for the entries that are cut off
+-- a node, and one that is the same except for the entries that are compacted
 pub record Twin (s v : Node) : Type 0 where
   pub log : List Entry
   pub node : v ≡ with_whole_log s log
   pub same : Same s.base s.snapshot.index s.log log
 
--- two messages that differ at most in the front that a snapshot stands for
+-- two messages that differ at most in the front that a snapshot represents
 abbrev pub AlikeWhat : What → What → Type 0
 AlikeWhat (Install last front) w = (front' : List Entry) × (w ≡ Install last front') × Same last.index last.index front front'
 AlikeWhat (AskVote last transfer) w = w ≡ AskVote last transfer
@@ -51,7 +51,7 @@ abbrev pub AlikeInputs : List Input → List Input → Type 0
 AlikeInputs [] js = js ≡ []
 AlikeInputs (i ∷ is) js = (j : Input) × (rest : List Input) × (js ≡ j ∷ rest) × AlikeInput i j × AlikeInputs is rest
 
--- the voters that the node was told are those of its log: before a proposal, those that it will give; when it is told others, none
+-- the voters that the node was given are those of its log: before a proposal, those that it will give; when it is given others, none
 abbrev pub ToldAt : Setup → Node → Input → Type 0
 ToldAt setup s (Local (UseServers servers)) = Unit {0}
 ToldAt setup s (Local (Propose es)) = voters s.servers ≡ voters_after setup (s.log ++ with_term s.term es)
@@ -62,12 +62,12 @@ ToldAt setup s (Local (Transfer to)) = voters s.servers ≡ voters_after setup s
 ToldAt setup s (Local (Snapped i)) = voters s.servers ≡ voters_after setup s.log
 ToldAt setup s (Receive m) = voters s.servers ≡ voters_after setup s.log
 
--- so it is at each of these steps, and each may be made
+-- this holds at each of these steps, and each may be made
 abbrev pub Told : Setup → ℕ → Node → List Input → Type 0
 Told setup n s [] = Unit {0}
 Told setup n s (i ∷ is) = (may_take setup s i ≡ true) × ToldAt setup s i × Told setup n (member_step setup n s i).node is
 
--- a node of a run and what it hasn't cut off are twins
+-- a node of a run and what it hasn't compacted are twins
 abbrev pub ForgetsNothing : Type 0
 ForgetsNothing = (setup : Setup) (events : List Event) (n : ℕ) → Twin ((run setup events).nodes n) (compact ((run setup events).nodes n))
 
@@ -81,7 +81,7 @@ CutSteps =
     Twin (steps (member_step setup n) ((run setup events).nodes n) (inputs n (run setup events).messages causes)) (steps (compacted_step n) v js)
     × AlikeAll (said (member_step setup n) ((run setup events).nodes n) (inputs n (run setup events).messages causes)) (said (compacted_step n) v js)
 
--- the inputs tell no other voters
+-- the inputs name no other voters
 abbrev pub SameVoters : List ℕ → List Input → Type 0
 SameVoters ids [] = Unit {0}
 SameVoters ids (Local (UseServers servers) ∷ is) = (voters servers ≡ ids) × SameVoters ids is
@@ -93,7 +93,7 @@ SameVoters ids (Local (Transfer to) ∷ is) = SameVoters ids is
 SameVoters ids (Local (Snapped i) ∷ is) = SameVoters ids is
 SameVoters ids (Receive m ∷ is) = SameVoters ids is
 
--- with fixed voters, a node that was told them, and is told no others, was told as each step needs it; and it still was after the steps
+-- with fixed voters, a node that was told them, and is given no others, was told as each step needs it; and it still was after the steps
 abbrev pub FixedTold : Type 0
 FixedTold =
     (servers : List Server) (n : ℕ) (s : Node) (is : List Input) → voters s.servers ≡ voters servers → SameVoters (voters servers) is →

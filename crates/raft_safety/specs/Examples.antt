@@ -66,7 +66,7 @@ with_a_fourth =
     ∷ []
 
 -- Then 1 appends twenty requests, which 2 and 3 take in two pieces each; 1 commits them, takes a snapshot and cuts its log. So 4, which has taken
--- nothing yet, gets an Install. With it the four go on: 2 and 4 take one more request, which 1 commits.
+-- nothing yet, gets an Install. With it the four continue: 2 and 4 take one more request, which 1 commits.
 unfoldable pub with_an_install : List Event
 with_an_install =
     Acts 1 (Does (Propose (replicate 20 command)) ∷ []) (0 ∷ 1 ∷ [])
@@ -99,7 +99,7 @@ abbrev pub FourthJoins : Type 0
 FourthJoins = (sight (node_at three (elected_and_committed ++ with_a_fourth) 1) ≡ record { role = Leader; term = 1; last = 3; commit = 3; snapshot = 0; base = 0 })
     × (voters_after three (log_at three (elected_and_committed ++ with_a_fourth) 1) ≡ 1 ∷ 2 ∷ 3 ∷ 4 ∷ [])
 
--- At the end 1 has cut its log at 7, 4 stands on the snapshot at 23, both have the last request, and 24 entries are chosen.
+-- At the end 1 has compacted its log at 7, 4 has the snapshot at 23, both have the last request, and 24 entries are chosen.
 abbrev pub InstallServes : Type 0
 InstallServes = (sight (node_at three whole_example 1) ≡ record { role = Leader; term = 1; last = 24; commit = 24; snapshot = 23; base = 7 })
     × (sight (node_at three whole_example 4) ≡ record { role = Follower; term = 1; last = 24; commit = 23; snapshot = 23; base = 23 })
@@ -164,7 +164,7 @@ abbrev pub OlderEntryGoes : Type 0
 OlderEntryGoes = (terms_at_two (older_entry_spreads ++ older_entry_replaced) ≡ 1 ∷ 2 ∷ 1 ∷ 0 ∷ 2 ∷ [])
     × (sight (node_at five (older_entry_spreads ++ older_entry_replaced) 5) ≡ record { role = Leader; term = 4; last = 3; commit = 0; snapshot = 0; base = 0 })
 
--- The same by counting alone: a leader of term 3 with entries of terms 1, 1 and 3, of which two peers have so many.
+-- The commit index by counting alone: a leader of term 3 with entries of terms 1, 1 and 3, of which two peers have this many.
 abbrev pub counted_by : ℕ → ℕ → ℕ
 counted_by second third = commit_of
     (record {
@@ -180,7 +180,7 @@ counted_by second third = commit_of
 abbrev pub OlderTermsDontCount : Type 0
 OlderTermsDontCount = (counted_by 2 2 ≡ 1) × (counted_by 3 2 ≡ 1) × (counted_by 3 3 ≡ 3)
 
--- After the whole example 1 hands its office over to 2, which 3 and 4 elect; 2 commits its barrier once 1 and 3 have it.
+-- After the whole example 1 hands its leadership over to 2, which 3 and 4 elect; 2 commits its barrier once 1 and 3 have it.
 unfoldable pub handed_over : List Event
 handed_over =
     Acts 1 (Does (Transfer 2) ∷ []) (0 ∷ [])
@@ -200,7 +200,7 @@ abbrev pub OfficePasses : Type 0
 OfficePasses = (sight (node_at three (whole_example ++ handed_over) 2) ≡ record { role = Leader; term = 2; last = 25; commit = 25; snapshot = 0; base = 0 })
     × ((node_at three (whole_example ++ handed_over) 1).leader ≡ 2)
 
--- Node 3 takes the first two entries, is stopped after so many acts of that step, and starts again.
+-- Node 3 takes the first two entries, is stopped after this many acts of that step, and starts again.
 unfoldable pub stopped_after : ℕ → List Event
 stopped_after acts = elected_and_committed ++ (Stops 3 (Takes 10 ∷ []) acts 2 0 ∷ Start 3 (map voter (1 ∷ 2 ∷ 3 ∷ [])) ∷ [])
 

@@ -32,7 +32,7 @@ LogsAgree =
     i ≤ length (log_at setup (events ++ more) m) → term_at (log_at setup events n) i ≡ term_at (log_at setup (events ++ more) m) i →
     take i (log_at setup events n) ≡ take i (log_at setup (events ++ more) m)
 
--- what a node has applied stands in the log of each later leader of its term or a greater one
+-- what a node has applied is in the log of each later leader of its term or a greater one
 abbrev pub LeadersComplete : Type 0
 LeadersComplete =
     (setup : Setup) (events more : List Event) (n m t : ℕ) → Leads setup (events ++ more) m t → (node_at setup events n).term ≤ t →

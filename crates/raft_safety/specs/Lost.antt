@@ -10,7 +10,7 @@ use Rattle.raft_safety.specs.World.{Event, run}
 abbrev pub at_term : Node → ℕ → Node
 at_term s t = cond (nat_lt s.term t) (in_newer_term s t) s
 
--- an Append or Install comes to no leader of its term; an Append replaces nothing at or below the commit index; a good Ack is of what the leader has
+-- an Append or Install reaches no leader of its term; an Append replaces nothing at or below the commit index; a good Ack is of what the leader has
 abbrev pub IsNotLost : Node → What → Type 0
 IsNotLost s (Append prev commit entries) = (is_leader s.role ≡ false) × (agrees s prev ≡ true → replaces_committed s prev entries ≡ false)
 IsNotLost s (Install last front) = is_leader s.role ≡ false

@@ -26,7 +26,7 @@ abbrev pub reads : Option (List Server) → Bool
 reads None = false
 reads (Some servers) = true
 
--- the servers that were read; none where nothing reads
+-- the servers that were read; none if nothing reads
 abbrev pub servers_read : Option (List Server) → List Server
 servers_read None = []
 servers_read (Some servers) = servers
@@ -50,7 +50,7 @@ unfoldable pub change_at : Setup → List Entry → ℕ → Bool
 change_at setup log zero = false
 change_at setup log (suc k) = nth_change setup log k
 
--- the configuration after these entries, where these servers were before
+-- the configuration after these entries, if these servers were before
 abbrev pub configuration_from : Setup → List Server → List Entry → List Server
 configuration_from setup servers [] = servers
 configuration_from setup servers (e ∷ es) = configuration_from setup (cond (changes setup e) (servers_read (setup.read e.bytes)) servers) es
@@ -87,7 +87,7 @@ may_change setup s e = (term_at s.log s.commit == s.term) && not (any_change set
     || one_more (voters_after setup s.log) (voters_read (setup.read e.bytes))
     || one_more (voters_read (setup.read e.bytes)) (voters_after setup s.log))
 
--- a change stands alone
+-- a change is alone
 abbrev pub may_propose : Setup → Node → List Entry → Bool
 may_propose setup s [] = true
 may_propose setup s (e ∷ []) = not (changes setup e) || may_change setup s e
@@ -108,7 +108,7 @@ may_take setup s (Receive m) = true
 unfoldable pub member_step : Setup → ℕ → Node → Input → Outcome
 member_step setup me s i = cond (may_take setup s i) (raft_step (voters_after setup) me s i) (quiet s)
 
--- where nothing reads, every log gives the opening configuration
+-- if nothing reads, every log gives the opening configuration
 abbrev pub FixedServers : Type 0
 FixedServers = (servers : List Server) (log : List Entry) → configuration (fixed servers) log ≡ servers
 

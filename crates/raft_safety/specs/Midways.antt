@@ -8,7 +8,7 @@ use Rattle.raft_safety.specs.Laws.{Leads}
 use Rattle.raft_safety.specs.Chosen.{actor}
 use Rattle.raft_safety.specs.Sources.{midway}
 
--- The first k steps of the event are made and kept: all of them where it ends well; where it is stopped, those whose acts all stand.
+-- The first k steps of the event are made and kept: all of them where it ends well; if it is stopped, those whose acts all stand.
 abbrev pub Made : Setup → World → Event → ℕ → Type 0
 Made setup w (Acts n causes places) k = Unit {0}
 Made setup w (Stops n causes acts applied base) k = length (account (member_step setup n) (w.nodes n) (take k (inputs n w.messages causes))) ≤ acts
@@ -36,6 +36,6 @@ OneLeaderMidway =
 abbrev pub LeadersShort : Type 0
 LeadersShort = (setup : Setup) (events : List Event) (n t : ℕ) → Leads setup events n t → t ≤ 4294967295
 
--- So it is between two steps.
+-- This holds between two steps.
 abbrev pub LeadersShortMidway : Type 0
 LeadersShortMidway = (setup : Setup) (events : List Event) (e : Event) (k t : ℕ) → LeadsAfter setup events e k t → t ≤ 4294967295

@@ -1,4 +1,4 @@
--- Properties of logs that every front of a log with the property has too, as that the entries of each transaction stand in one piece.
+-- Properties of logs that every front of a log with the property has too, as that the entries of each transaction are in one piece.
 use Rattle.std.specs.Prelude.{◌≡◌, ℕ, true, List, [], ◌∷◌, ◌++◌, take}
 use Rattle.raft_spec.specs.Log.{Entry}
 use Rattle.raft_spec.specs.Node.{Node, Input, Local, Receive, Timeout, Beat, Yield, Propose, Transfer, Snapped, UseServers, is_leader}
@@ -40,7 +40,7 @@ abbrev pub EventsKeep : (List Entry → Type 0) → Setup → World → List Eve
 EventsKeep Q setup w [] = Unit {0}
 EventsKeep Q setup w (e ∷ es) = EventKeeps Q setup w e × EventsKeep Q setup (happens setup w e) es
 
--- Where each proposal of a leader keeps the property, all logs of all nodes have it, at all times.
+-- If each proposal of a leader keeps the property, all logs of all nodes have it, at all times.
 abbrev pub LogsHave : (List Entry → Type 0) → Type 0
 LogsHave Q = IsFrontClosed Q → (setup : Setup) (events : List Event) → EventsKeep Q setup (start setup) events → (n : ℕ) → Q (log_at setup events n)
 

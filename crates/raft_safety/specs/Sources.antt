@@ -37,7 +37,7 @@ pub record Led (setup : Setup) (events : List Event) (t : ℕ) (entries : List E
   pub within : length entries ≤ length (midway setup (run setup first) event steps).log
   pub has : take (length entries) (midway setup (run setup first) event steps).log ≡ entries
 
--- each entry of these, and all before it, stood in the log of a leader of its term
+-- each entry of these, and all before it, was in the log of a leader of its term
 abbrev pub AllLed : Setup → List Event → List Entry → Type 0
 AllLed setup events entries = (i : ℕ) → 0 < i → i ≤ length entries → Led setup events (term_at entries i) (take i entries)
 
@@ -45,7 +45,7 @@ AllLed setup events entries = (i : ℕ) → 0 < i → i ≤ length entries → L
 abbrev pub EntriesLed : Type 0
 EntriesLed = (setup : Setup) (events : List Event) (n : ℕ) → AllLed setup events (log_at setup events n)
 
--- what a message brings, and all before it, stood in the log of a leader of its term
+-- what a message brings, and all before it, was in the log of a leader of its term
 abbrev pub WhatLed : Setup → List Event → What → Type 0
 WhatLed setup events (AskVote last transfer) = Unit {0}
 WhatLed setup events (Vote granted) = Unit {0}
@@ -66,7 +66,7 @@ pub data Adds (s : Node) (i : Input) (d : Node) : Type 0 where
   a_barrier : d.log ≡ s.log ++ barrier d.term ∷ [] → Adds s i d
   proposed : (new : List Entry) → i ≡ Local (Propose new) → is_leader s.role ≡ true → d.term ≡ s.term → d.log ≡ s.log ++ with_term d.term new → Adds s i d
 
--- so is each step of each node
+-- the same holds for each step of each node
 abbrev pub LeadersAdd : Type 0
 LeadersAdd =
     (setup : Setup) (n : ℕ) (s : Node) (i : Input) → s.snapshot.index ≤ length s.log → is_leader (member_step setup n s i).node.role ≡ true →
@@ -78,7 +78,7 @@ LeadersKeep =
     (setup : Setup) (events more : List Event) (n m t : ℕ) → Leads setup events n t → Leads setup (events ++ more) m t →
     take (length (log_at setup events n)) (log_at setup (events ++ more) m) ≡ log_at setup events n
 
--- a message's snapshot stands for a front of these entries
+-- a message's snapshot represents a front of these entries
 abbrev pub WhatFront : List Entry → What → Type 0
 WhatFront c (Install last front) = (last.index ≤ length c) × (front ≡ take last.index c)
 WhatFront c (AskVote last transfer) = Unit {0}
@@ -87,7 +87,7 @@ WhatFront c (Append prev commit entries) = Unit {0}
 WhatFront c (Ack good index) = Unit {0}
 WhatFront c TimeoutNow = Unit {0}
 
--- each kept snapshot, and each in a message, stands for that very front of the chosen entries
+-- each kept snapshot, and each in a message, represents that very front of the chosen entries
 abbrev pub SnapshotFronts : Type 0
 SnapshotFronts =
     (setup : Setup) (events : List Event) →

@@ -1,10 +1,10 @@
--- What stands of an event that is stopped, by where the stop falls.
+-- What stays of an event that is stopped, by where the stop falls.
 use Rattle.std.specs.Prelude.{◌≡◌, ℕ, ◌+◌, List, ◌∷◌, ◌++◌, length, take}
 use Rattle.raft_spec.specs.Node.{Node, Input}
 use Rattle.raft_spec.specs.Account.{Stored, stored_of, enacted, steps, account}
 use Rattle.raft_safety.specs.Members.{Setup, member_step}
 
--- so many acts past the steps of the first inputs
+-- this many acts past the steps of the first inputs
 abbrev pub past : Setup → ℕ → Node → List Input → List Input → ℕ → Stored
 past setup n s first rest acts = enacted (stored_of s) (take (length (account (member_step setup n) s first) + acts) (account (member_step setup n) s (first ++ rest)))
 

@@ -1,4 +1,4 @@
--- What stands of what was applied, and what a barrier is past.
+-- What stays of what was applied, and what a barrier is past.
 use Rattle.std.specs.Prelude.{ℕ, ◌<◌, ◌≤◌, List, [], ◌∷◌, ◌++◌, length}
 use Rattle.raft_spec.specs.Account.{Stored}
 use Rattle.raft_safety.specs.Members.{Setup}
@@ -10,13 +10,13 @@ use Rattle.raft_safety.specs.Chosen.{reached, chosen}
 abbrev pub turn : Setup → List Event → Event → Stored
 turn setup events e = reached setup (run setup events) e
 
--- what a node applied in an event after which its term was t stands in the log of each later leader of t or a greater term
+-- what a node applied in an event after which its term was t is in the log of each later leader of t or a greater term
 abbrev pub AppliedStays : Type 0
 AppliedStays =
     (setup : Setup) (events : List Event) (e : Event) (more : List Event) (m t : ℕ) → Leads setup (events ++ e ∷ more) m t →
     (turn setup events e).term ≤ t → SameUpTo (turn setup events e).applied (turn setup events e).log (log_at setup (events ++ e ∷ more) m)
 
--- what a leader of t has applied, and so may answer, stands in the log of each later leader of t or a greater term
+-- what a leader of t has applied, and so may answer, is in the log of each later leader of t or a greater term
 abbrev pub AnsweredStays : Type 0
 AnsweredStays =
     (setup : Setup) (events more : List Event) (n m t u i : ℕ) → Leads setup events n t → i ≤ (node_at setup events n).commit →

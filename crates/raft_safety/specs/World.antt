@@ -18,8 +18,8 @@ pub data Cause : Type 0 where
 pub data Event : Type 0 where
   -- a running node makes these steps, one after another; of what they say it says these, by their places
   Acts : (node : ℕ) (causes : List Cause) (places : List ℕ) → Event
-  -- a stop or a failing disk call among these steps: so many acts of their account stand, nothing is said, and the node is down.
-  -- It may have applied less, where a later step was made before all was applied, and its log may begin earlier than it kept.
+  -- a stop or a failing disk call among these steps: this many acts of their account stand, nothing is said, and the node is down.
+  -- It may have applied less, if a later step was made before all was applied, and its log may begin earlier than it kept.
   -- At a node that is down nothing stands: a start that is stopped
   Stops : (node : ℕ) (causes : List Cause) (acts applied base : ℕ) → Event
   Crash : (node : ℕ) → Event
@@ -36,7 +36,7 @@ inputs n ms [] = []
 inputs n ms (Does local ∷ cs) = Local local ∷ inputs n ms cs
 inputs n ms (Takes k ∷ cs) = taken n (slice_get ms k) ++ inputs n ms cs
 
--- the message, where it is there
+-- the message, if it is there
 abbrev pub one_of : Option Message → List Message
 one_of None = []
 one_of (Some m) = m ∷ []
@@ -58,7 +58,7 @@ after setup w n causes = steps (member_step setup n) (w.nodes n) (inputs n w.mes
 abbrev pub outs : Setup → World → ℕ → List Cause → List Message
 outs setup w n causes = said (member_step setup n) (w.nodes n) (inputs n w.messages causes)
 
--- what the node has stored and applied after so many acts
+-- what the node has stored and applied after this many acts
 abbrev pub stopped : Setup → World → ℕ → List Cause → ℕ → Stored
 stopped setup w n causes acts = cond (w.nodes n).up
     (enacted (stored_of (w.nodes n)) (take acts (account (member_step setup n) (w.nodes n) (inputs n w.messages causes))))

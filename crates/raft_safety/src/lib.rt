@@ -1,4 +1,4 @@
-//! The safety of Raft over every list of events, while the voters change one at a time: timeouts, beats, requests,
+//! The safety of Raft over every list of events, while the voters change one at a time: timeouts, heartbeats, requests,
 //! transfers, snapshots, other servers, takings of any message ever made, as often as one likes, crashes and starts,
 //! and stops at any act of an event. Nothing here runs: each law is the promise of an empty function.
 #![tactic(auto)]
@@ -38,18 +38,18 @@ pub fn logs_agree()
     ensures { LogsAgree }
 {}
 
-/// What a node applied stands in the log of every later leader of its term or a greater one.
+/// What a node applied is in the log of every later leader of its term or a greater one.
 pub fn leaders_complete()
     ensures { LeadersComplete }
 {}
 
-/// What a node applied in an event, also in a stopped one, stands in the log of every later leader of its term then
+/// What a node applied in an event, also in a stopped one, is in the log of every later leader of its term then
 /// or a greater one.
 pub fn applied_stays()
     ensures { AppliedStays }
 {}
 
-/// What a leader has applied stands in the log of every later leader of its term or a greater one: so do the commits
+/// What a leader has applied is in the log of every later leader of its term or a greater one: so do the commits
 /// that it answers.
 pub fn answers_stay()
     ensures { AnsweredStays }
@@ -79,12 +79,12 @@ pub fn whole_logs()
     ensures cuts { CutsApplied }
 {}
 
-/// Each snapshot, kept or in a message, stands for a front of the chosen entries, so an Install applies no entry first.
+/// Each snapshot, kept or in a message, represents a front of the chosen entries, so an Install applies no entry first.
 pub fn snapshots_chosen()
     ensures { SnapshotsChosen }
 {}
 
-/// Each snapshot, kept or in a message, stands for that very front of the chosen entries: so its state is that of the
+/// Each snapshot, kept or in a message, represents that very front of the chosen entries: so its state is that of the
 /// list.
 pub fn snapshot_fronts()
     ensures { SnapshotFronts }
@@ -97,7 +97,7 @@ pub fn applied_kept()
 
 /// After each step a leader's commit index is exactly the greatest that a majority of the voters has with an entry of
 /// its term, or stays: whatever gives the voters by a log, and so in the world, by the last configuration in its log.
-/// Only a step that tells it other servers leaves it in any case. Another node's is moved by an Append or an Install
+/// Only a step that gives it other servers leaves it in any case. Another node's is moved by an Append or an Install
 /// alone, and a leader that is the only voter commits what it proposes in the same step.
 pub fn exact_commit()
     ensures leader { LeaderCommit }
@@ -117,7 +117,7 @@ pub fn none_lost()
     ensures { NoneLost }
 {}
 
-/// Each entry in a node's log or in a message, and all before it, stood in the log of a leader of its term, after an
+/// Each entry in a node's log or in a message, and all before it, was in the log of a leader of its term, after an
 /// earlier step of the run.
 #[tactic(auto, using(crate::proofs::Leds::entries_led_hold, crate::proofs::Leds::messages_led_hold))]
 pub fn entries_led()
@@ -152,7 +152,7 @@ pub fn next_voters()
     ensures { NextVoters }
 {}
 
-/// Where no configuration reads, the opening one is that of every log, and every proposal may be made: so each law
+/// If no configuration reads, the opening one is that of every log, and every proposal may be made: so each law
 /// speaks of fixed voters too.
 pub fn fixed_voters()
     ensures servers { FixedServers }
@@ -160,7 +160,7 @@ pub fn fixed_voters()
     ensures told { FixedTold }
 {}
 
-/// A node that has cut its log makes the steps of the one that has not: the rules read nothing that is cut off.
+/// A node that has compacted its log makes the steps of the one that has not: the rules read nothing that is compacted.
 pub fn cut_steps()
     ensures nothing_lost { ForgetsNothing }
     ensures same_steps { CutSteps }
@@ -176,7 +176,7 @@ pub fn stop_stages()
 {}
 
 /// A run: a leader is elected and commits its barrier and a request, a fourth voter joins, and after a snapshot the
-/// fourth gets an Install, with which it is counted; then the leader hands its office over. So no law is empty.
+/// fourth gets an Install, with which it is counted; then the leader hands its leadership over. So no law is empty.
 pub fn a_run_is_made()
     ensures elected { LeaderCommits }
     ensures joined { FourthJoins }

@@ -1,4 +1,4 @@
--- Where a log that has taken an Append's entries begins to be another one, and the same of a log that is cut off.
+-- If a log that has taken an Append's entries begins to be another one, and the same for a log that is compacted.
 use Rattle.std.proofs.Common.{◌≡◌, ◌≢◌, ◌⊎◌, inl, inr, ℕ, zero, suc, ◌+◌, ◌-◌, ◌<◌, ◌≤◌, Some, List, [], ◌∷◌, ◌++◌, length, take, drop, refl, sym, ap, ◌∙◌, ⊎_elim, arith, append_assoc}
 use Rattle.std.proofs.lemmas.List.{take-append-drop, length-take-le, length-drop, length-append}
 use Rattle.std.proofs.Math.Seq.{take-add, take-append_seam, drop-append-add, take-append-add}
@@ -23,7 +23,7 @@ nth_dropped zero xs k = let e : k ≡ 0 + k = omega arith in ap (nth_term xs) e
 nth_dropped (suc p) [] k = refl
 nth_dropped (suc p) (x ∷ xs) k = let e : suc (p + k) ≡ suc p + k = omega arith in nth_dropped p xs k ∙ ap (nth_term (x ∷ xs)) e
 
--- the new log, where it is the first p entries of the old one and then others
+-- the new log, if it is the first p entries of the old one and then others
 pub starts : (p : ℕ) (log more new : List Entry) → p ≤ length log → 0 < length more → new ≡ take p log ++ more → (p ≡ length log) ⊎ (nth_term log p ≢ nth_term more 0) → StartsAt log new (Some (suc p))
 unfolding term_at
 starts p log more new le pos is x =

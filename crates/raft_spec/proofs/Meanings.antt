@@ -10,7 +10,7 @@ use Rattle.raft_spec.specs.Laws.{AcceptTakes, CommitIsGreatest, IsGreatest}
 use Rattle.raft_spec.proofs.NodeValues.{nth_past}
 use Rattle.raft_spec.proofs.AcceptPlaces.{nth_dropped}
 
--- each new entry stands there, by its term
+-- each new entry is there, by its term
 merged_stand : (rest es : List Entry) (k : ℕ) → k < length es → nth_term (merged rest es) k ≡ nth_term es k
 unfolding merged
 merged_stand rest [] k l = absurd (omega arith)

@@ -1,4 +1,4 @@
--- The whole log that the code's node stands for: what is cut off, and then its entries.
+-- The whole log that the code's node represents: what is compacted, and then its entries.
 use Rattle.std.proofs.Common.{sym, ⊎_elim, append_assoc, ◌≡◌, ℕ, zero, suc, ◌+◌, ◌-◌, ◌<◌, ◌≤◌, List, [], ◌∷◌, ◌++◌, length, drop, refl, ap, ◌∙◌, arith, length-append}
 use Rattle.std.proofs.lemmas.Bool.{cases_lt}
 use Rattle.std.proofs.lemmas.List.{length-replicate, drop_at}
@@ -10,7 +10,7 @@ use Rattle.raft_spec.specs.NodeValues.{NodeValue, node_of}
 pub compacted_length : (last : LogEnd) (n : ℕ) → length (compacted last n) ≡ n
 compacted_length last n = length-replicate n (record { term = last.term; kind = Barrier; bytes = [] })
 
--- such a node has no more to cut off
+-- a node with these entries has no more to compact
 pub compact_kept : (last : LogEnd) (n : ℕ) (es : List Entry) → compacted last n ++ drop n (compacted last n ++ es) ≡ compacted last n ++ es
 compact_kept last n es = ap (λ l. compacted last n ++ l) (drop_at (compacted last n) es n (compacted_length last n))
 
@@ -57,7 +57,7 @@ term_start xs = refl
 ends : (m n t u : ℕ) → m ≡ n → t ≡ u → let a : LogEnd = record { index = m; term = t } in let b : LogEnd = record { index = n; term = u } in a ≡ b
 ends m n t u e f = λ k. record { index = e k; term = f k }
 
--- the end of such a log: its last entry, else the snapshot's end, else nothing
+-- the end of a node's whole log: its last entry, else the snapshot's end, else nothing
 pub whole_end : (h : NodeValue) (last : LogEnd) → last.index ≡ h.base + length h.entries → ((0 < length h.entries) → last.term ≡ nth_term h.entries (length h.entries - 1)) → (length h.entries ≡ 0 → 0 < h.base → last.term ≡ h.snapshot.term) → (length h.entries ≡ 0 → h.base ≡ 0 → last.term ≡ 0) → last ≡ log_end (node_of h).log
 unfolding log_end
 whole_end h last index some none empty =

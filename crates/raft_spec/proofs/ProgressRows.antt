@@ -7,7 +7,7 @@ use Rattle.raft_spec.specs.Node.{among}
 use Rattle.raft_spec.specs.Outcomes.{updated}
 use Rattle.raft_spec.specs.Progress.{PeerProgress, next_in, match_in, ids_in, ProgressTable, progress_of, after_ack}
 
--- the first row of an id stands at a place
+-- the first row of an id is at a place
 pub record At (rs : List PeerProgress) (i : ℕ) (r : PeerProgress) : Type 0 where
   pub within : i < length rs
   pub is : (d : PeerProgress) → get_or rs i d ≡ r

@@ -42,7 +42,7 @@ abbrev pub enacted : Stored → List Act → Stored
 enacted x [] = x
 enacted x (a ∷ acts) = enacted (enact x a) acts
 
--- The next so many indexes are applied, one after another.
+-- The next this many indexes are applied, one after another.
 abbrev pub applies : ℕ → ℕ → List Act
 applies index zero = []
 applies index (suc n) = Apply (suc index) ∷ applies (suc index) n
@@ -93,7 +93,7 @@ loaded up servers x = record {
 abbrev pub older : ℕ → Stored → Stored
 older base x = record x { base = min base x.base }
 
--- No more than so many indexes are applied.
+-- No more than this many indexes are applied.
 abbrev pub applied_to : ℕ → Stored → Stored
 applied_to index x = record x { applied = min index x.applied }
 

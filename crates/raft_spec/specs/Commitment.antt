@@ -3,7 +3,7 @@ use Rattle.std.specs.Prelude.{ℕ, zero, suc, Bool, cond, ◌&&◌, ◌==◌, na
 use Rattle.raft_spec.specs.Log.{Entry, term_at}
 use Rattle.raft_spec.specs.Node.{Node, majority}
 
--- A voter has what its Acks told; the leader counts itself as having its whole log.
+-- A voter has what its Acks reported; the leader counts itself as having its whole log.
 abbrev pub has : ℕ → Node → ℕ → ℕ
 has me s p = cond (p == me) (length s.log) (s.match_of p)
 
@@ -17,7 +17,7 @@ commit_up_to log term ids has commit zero = commit
 commit_up_to log term ids has commit (suc k) =
     cond (nat_lt commit (suc k)) (cond (is_stored_by_majority log term ids has (suc k)) (suc k) (commit_up_to log term ids has commit k)) commit
 
--- The same of a leader: its log, its term, the voters that its log gives, and what it knows of them.
+-- A majority of a leader's voters stores the entry: by its log, its term, the voters that its log gives, and what it knows of them.
 unfoldable pub majority_stores : (List Entry → List ℕ) → ℕ → Node → ℕ → Bool
 majority_stores voters_of me s k = is_stored_by_majority s.log s.term (voters_of s.log) (has me s) k
 

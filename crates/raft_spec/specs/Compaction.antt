@@ -1,4 +1,4 @@
--- Logs that are cut off at the front, as the code holds them, and the step of a node that holds such a log.
+-- Logs that are compacted at the front, as the code holds them, and the step of a node that holds one.
 use Rattle.std.specs.Prelude.{◌≡◌, ◌≢◌, ◌⊎◌, ℕ, suc, ◌+◌, ◌-◌, ◌<◌, ◌≤◌, Bool, true, false, ◌&&◌, nat_le, Option, Some, None, List, [], ◌++◌, length, take, drop, map, replicate}
 use Rattle.raft_spec.specs.Log.{Entry, Barrier, LogEnd, term_at, matches, accept}
 use Rattle.raft_spec.specs.Node.{What, AskVote, Vote, Append, Ack, Install, TimeoutNow, Message, Node, voters, Input, Outcome}
@@ -8,12 +8,12 @@ use Rattle.raft_spec.specs.Steps.{raft_step}
 abbrev pub compacted : LogEnd → ℕ → List Entry
 compacted last n = replicate n (record { term = last.term; kind = Barrier; bytes = [] })
 
--- A log that is cut off after `first`: of the entries up to there it knows the place and the term, of the later ones all.
+-- A log that is compacted after `first`: of the entries up to there it knows the place and the term, of the later ones all.
 pub record CutLog : Type 0 where
   pub first : LogEnd
   pub entries : List Entry
 
--- A whole log that it stands for.
+-- A whole log that it represents.
 abbrev pub whole_log : CutLog → List Entry
 whole_log l = compacted l.first l.first.index ++ l.entries
 
@@ -39,11 +39,11 @@ Matches old new prev entries index from =
 abbrev pub with_whole_log : Node → List Entry → Node
 with_whole_log s log = record s { log = log }
 
--- The node without what it has cut off.
+-- The node without what it has compacted.
 abbrev pub compact : Node → Node
 compact s = with_whole_log s (compacted s.snapshot s.base ++ drop s.base s.log)
 
--- What a message says, where a snapshot tells only its end.
+-- What a message says, where a snapshot says only its end.
 abbrev pub compact_what : What → What
 compact_what (Install last front) = Install last (compacted last last.index)
 compact_what (AskVote last transfer) = AskVote last transfer
@@ -52,11 +52,11 @@ compact_what (Append prev commit es) = Append prev commit es
 compact_what (Ack good index) = Ack good index
 compact_what TimeoutNow = TimeoutNow
 
--- A message whose snapshot tells only its end.
+-- A message whose snapshot says only its end.
 abbrev pub compact_message : Message → Message
 compact_message m = record { from = m.from; to = m.to; term = m.term; what = compact_what m.what }
 
--- The step of the code's node: it uses the voters that it was told, holds no entry that is cut off, and sends no front of a log.
+-- The step of the code's node: it uses the voters that it was given, holds no entry that is compacted, and sends no front of a log.
 unfoldable pub compacted_step : ℕ → Node → Input → Outcome
 compacted_step me v i = record {
   node = compact (raft_step (λ log. voters v.servers) me v i).node;

@@ -4,7 +4,7 @@ use Rattle.raft_spec.specs.Log.{Entry, LogEnd, log_end, is_up_to_date}
 use Rattle.raft_spec.specs.Node.{AskVote, Vote, Message, Leader, Candidate, Node, among, others, peers, majority, is_leader, is_candidate, Nobody, Everyone, Outcome}
 use Rattle.raft_spec.specs.Outcomes.{quiet, says, answer, in_newer_term, with_log, with_vote, with_grants, barrier}
 
--- A node stands in the next term, with its own vote.
+-- A node stands for election in the next term, with its own vote.
 abbrev pub as_candidate : ℕ → Node → Node
 as_candidate me s = record s { term = suc s.term; vote = me; role = Candidate; leader = 0; grants = me ∷ [] }
 

@@ -14,14 +14,14 @@ SameTerm log prev entries k = term_at log (suc (prev + k)) ≡ nth_term entries 
 pub record Taken (log : List Entry) (prev : ℕ) (entries : List Entry) (new : List Entry) : Type 0 where
   -- up to the previous index it is as it was
   pub front : take prev new ≡ take prev log
-  -- each entry that came stands in it, by index and term
+  -- each entry that came is in it, by index and term
   pub stand : (k : ℕ) → k < length entries → SameTerm new prev entries k
-  -- where no entry conflicts, all old ones stay, whatever follows
+  -- if no entry conflicts, all old ones stay, whatever follows
   pub stays : ((k : ℕ) → k < length entries → prev + k < length log → SameTerm log prev entries k) → take (length log) new ≡ log
-  -- where one conflicts, nothing follows those that came
+  -- if one conflicts, nothing follows those that came
   pub ends : (k : ℕ) → k < length entries → prev + k < length log → term_at log (suc (prev + k)) ≢ nth_term entries k → length new ≡ prev + length entries
 
--- So it is with each log and all entries, from a place within the log on.
+-- This holds for each log and all entries, from a place within the log on.
 abbrev pub AcceptTakes : Type 0
 AcceptTakes = (log entries : List Entry) (prev : ℕ) → prev ≤ length log → Taken log prev entries (accept log prev entries)
 
@@ -30,7 +30,7 @@ pub record IsGreatest (log : List Entry) (term : ℕ) (ids : List ℕ) (has : �
   pub is : (new ≡ commit) ⊎ ((commit < new) × (new ≤ last) × (is_stored_by_majority log term ids has new ≡ true))
   pub greatest : (k : ℕ) → new < k → commit < k → k ≤ last → is_stored_by_majority log term ids has k ≡ false
 
--- So it is with each log, all voters and whatever they have.
+-- This holds for each log, all voters and whatever they have.
 abbrev pub CommitIsGreatest : Type 0
 CommitIsGreatest = (log : List Entry) (term : ℕ) (ids : List ℕ) (has : ℕ → ℕ) (commit last : ℕ) → IsGreatest log term ids has commit last (commit_up_to log term ids has commit last)
 
@@ -42,7 +42,7 @@ HasShortTerm s = s.role ≢ Follower → s.term ≤ 4294967295
 abbrev pub TermsStayShort : Type 0
 TermsStayShort = (voters_of : List Entry → List ℕ) (me : ℕ) (s : Node) (i : Input) → HasShortTerm s → HasShortTerm (raft_step voters_of me s i).node
 
--- So does each step of a node that has cut its log.
+-- So does each step of a node that has compacted its log.
 abbrev pub CutTermsStayShort : Type 0
 CutTermsStayShort = (me : ℕ) (s : Node) (i : Input) → HasShortTerm s → HasShortTerm (compacted_step me s i).node
 
@@ -55,7 +55,7 @@ BringsSnapshot (Append prev commit entries) last = ⊥
 BringsSnapshot (Ack good index) last = ⊥
 BringsSnapshot TimeoutNow last = ⊥
 
--- The end of the snapshot that an input brings or tells of, if it does: that of an Install, and that of an own snapshot.
+-- The end of the snapshot that an input brings or reports, if it does: that of an Install, and that of an own snapshot.
 abbrev pub TellsSnapshot : Input → LogEnd → Type 0
 TellsSnapshot (Receive m) last = BringsSnapshot m.what last
 TellsSnapshot (Local (Snapped i)) last = last.index ≡ i

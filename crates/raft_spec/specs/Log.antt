@@ -1,4 +1,4 @@
--- A log as the list of its entries; indexes count from 1. The log of a node here is its whole log: what it has cut off is still in it.
+-- A log as the list of its entries; indexes count from 1. The log of a node here is its whole log: what it has compacted is still in it.
 use Rattle.std.specs.Prelude.{ℕ, zero, suc, ◌+◌, ◌-◌, Bool, cond, ◌&&◌, ◌||◌, ◌==◌, nat_lt, nat_le, List, [], ◌∷◌, ◌++◌, length, take, drop, max}
 
 -- What an entry is for: a command to the databases, the entry that a new leader appends first, a change of the servers.
@@ -16,13 +16,13 @@ pub record LogEnd : Type 0 where
   pub index : ℕ
   pub term : ℕ
 
--- The term of the k-th entry, from 0; 0 where there is none.
+-- The term of the k-th entry, from 0; 0 without one.
 abbrev pub nth_term : List Entry → ℕ → ℕ
 nth_term [] k = 0
 nth_term (e ∷ es) zero = e.term
 nth_term (e ∷ es) (suc k) = nth_term es k
 
--- The term of the entry at an index; 0 at the index 0 and where there is no entry. Terms of entries are at least 1.
+-- The term of the entry at an index; 0 at the index 0 and if there is no entry. Terms of entries are at least 1.
 unfoldable pub term_at : List Entry → ℕ → ℕ
 term_at log zero = 0
 term_at log (suc k) = nth_term log k
@@ -59,10 +59,10 @@ first_replaced log prev entries = cond (conflict_place (drop prev log) entries =
 unfoldable pub is_up_to_date : LogEnd → LogEnd → Bool
 is_up_to_date last own = nat_lt own.term last.term || ((last.term == own.term) && nat_le own.index last.index)
 
--- `accept`, where entries at or below the floor (a snapshot's index) count as agreeing.
+-- `accept`, if entries at or below the floor (a snapshot's index) count as agreeing.
 unfoldable pub accept_above : List Entry → ℕ → ℕ → List Entry → List Entry
 accept_above log floor prev entries = accept log (max prev floor) (drop (max prev floor - prev) entries)
 
--- `first_replaced`, where entries at or below the floor count as agreeing.
+-- `first_replaced`, if entries at or below the floor count as agreeing.
 unfoldable pub first_replaced_above : List Entry → ℕ → ℕ → List Entry → ℕ
 first_replaced_above log floor prev entries = first_replaced log (max prev floor) (drop (max prev floor - prev) entries)

@@ -1,4 +1,4 @@
--- Other servers: what a node does when it is told them.
+-- Other servers: what a node does when it is given them.
 use Rattle.std.specs.Prelude.{ℕ, suc, cond, not, ◌&&◌, List, length}
 use Rattle.std.specs.List.{filter}
 use Rattle.raft_spec.specs.Node.{Node, Server, among, peers, is_leader, Only, Outcome}
@@ -20,6 +20,6 @@ match_among me s servers p = cond (among (peers servers me) p && among (peers s.
 abbrev pub with_servers : ℕ → Node → List Server → Node
 with_servers me s servers = record s { servers = servers; next_of = next_among me s servers; match_of = match_among me s servers }
 
--- The node is told other servers; a leader sends to each peer that it gains.
+-- The node is given other servers; a leader sends to each peer that it gains.
 unfoldable pub on_servers : ℕ → Node → List Server → Outcome
 on_servers me s servers = cond (is_leader s.role) (sends_to (with_servers me s servers) (Only (gained (peers s.servers me) (peers servers me)))) (quiet (with_servers me s servers))

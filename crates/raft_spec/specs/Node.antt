@@ -12,9 +12,9 @@ pub data What : Type 0 where
   Append : (prev : LogEnd) (commit : ℕ) (entries : List Entry) → What
   -- good: the log agrees with the leader's up to the index; else: no more than up to the index
   Ack : (good : Bool) (index : ℕ) → What
-  -- a snapshot; it stands for the front of the log up to its end
+  -- a snapshot; it represents the front of the log up to its end
   Install : (last : LogEnd) (front : List Entry) → What
-  -- a leader hands its office over: the receiver is to stand for election at once
+  -- a leader hands its leadership over: the receiver is to stand for election at once
   TimeoutNow : What
 
 -- A message, with the term that its sender had.
@@ -41,23 +41,23 @@ pub record Node : Type 0 where
   pub term : ℕ
   -- to whom it gave its vote in this term
   pub vote : ℕ
-  -- the whole log that the node stands for
+  -- the whole log that the node represents
   pub log : List Entry
   pub role : Role
-  -- the leader of this term, where it is known
+  -- the leader of this term, if it is known
   pub leader : ℕ
   -- the commit index; between steps the entries up to it are applied
   pub commit : ℕ
   -- whose votes it has in this term, as a candidate
   pub grants : List ℕ
-  -- the servers that it was told last
+  -- the servers that it was given last
   pub servers : List Server
   -- the index of the next entry to send to a peer, and up to where that peer's log is known to agree
   pub next_of : ℕ → ℕ
   pub match_of : ℕ → ℕ
   -- the end of the kept snapshot; 0 and 0 for none
   pub snapshot : LogEnd
-  -- the entries up to this index are cut off
+  -- the entries up to this index are compacted
   pub base : ℕ
 
 -- The id is in the list.
@@ -114,7 +114,7 @@ pub data LocalEvent : Type 0 where
   Yield : LocalEvent
   -- a leader is to append these entries
   Propose : (entries : List Entry) → LocalEvent
-  -- a leader is to hand its office over
+  -- a leader is to hand its leadership over
   Transfer : (target : ℕ) → LocalEvent
   -- a snapshot was kept at the index
   Snapped : (index : ℕ) → LocalEvent

@@ -1,4 +1,4 @@
--- The value of the code's node: plain data, since a contract's value holds no function; and the node of the rules that it stands for.
+-- The value of the code's node: plain data, since a contract's value holds no function; and the node of the rules that it represents.
 use Rattle.std.specs.Prelude.{◌≡◌, ℕ, ◌+◌, ◌≤◌, true, List, ◌++◌, length}
 use Rattle.raft_spec.specs.Log.{Entry, LogEnd}
 use Rattle.raft_spec.specs.Node.{Role, Node, Server, peers}

@@ -52,7 +52,7 @@ pub record LeaderProgress : Type 0 where
   pub voters : List ℕ
   pub rows : List PeerProgress
 
--- Up to which index a node has the leader's log: the leader all of it, another one what its Acks told.
+-- Up to which index a node has the leader's log: the leader all of it, another one what its Acks reported.
 abbrev pub has_in : LeaderProgress → ℕ → ℕ → ℕ
 has_in v last p = cond (p == v.own) last (match_in v.rows p)
 

@@ -34,7 +34,7 @@ abbrev pub terms_fit_the_wire : List Entry → Bool
 terms_fit_the_wire [] = true
 terms_fit_the_wire (e ∷ es) = fits_the_wire e.term && terms_fit_the_wire es
 
--- The numbers of a message that stand within their limits: terms and indexes, and at most 16 entries.
+-- The numbers of a message that are within their limits: terms and indexes, and at most 16 entries.
 abbrev pub what_in_range : What → Bool
 what_in_range (AskVote last transfer) = fits_the_wire last.index && fits_the_wire last.term
 what_in_range (Vote granted) = true

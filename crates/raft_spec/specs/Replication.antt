@@ -8,7 +8,7 @@ use Rattle.raft_spec.specs.Outcomes.{quiet, says, sends_to, answer, as_follower,
 unfoldable pub agrees : Node → LogEnd → Bool
 agrees s prev = nat_le prev.index s.snapshot.index || matches s.log prev
 
--- The entries are taken; the commit index becomes the leader's, but no more than the last index that is known to agree; the Ack tells that index.
+-- The entries are taken; the commit index becomes the leader's, but no more than the last index that is known to agree; the Ack has that index.
 unfoldable pub take_entries : ℕ → Node → ℕ → LogEnd → ℕ → List Entry → Outcome
 take_entries me s from prev commit entries =
     says (with_log s (accept_above s.log s.snapshot.index prev.index entries) (max s.commit (min commit (prev.index + length entries)))) (answer me s from (Ack true (prev.index + length entries)))
@@ -17,7 +17,7 @@ take_entries me s from prev commit entries =
 unfoldable pub replaces_committed : Node → LogEnd → List Entry → Bool
 replaces_committed s prev entries = nat_lt 0 (first_replaced_above s.log s.snapshot.index prev.index entries) && nat_le (first_replaced_above s.log s.snapshot.index prev.index entries) s.commit
 
--- An Append in the node's term: its sender leads the term. Where the logs agree its entries are taken; else the Ack tells the own last index.
+-- An Append in the node's term: its sender leads the term. If the logs agree its entries are taken; else the Ack has the own last index.
 -- At a leader it changes nothing: no run has one.
 unfoldable pub on_append : ℕ → Node → ℕ → LogEnd → ℕ → List Entry → Outcome
 on_append me s from prev commit entries = cond (is_leader s.role)
@@ -52,6 +52,6 @@ on_propose s es = cond (is_leader s.role) (sends_to (with_log s (s.log ++ with_t
 unfoldable pub on_beat : Node → Outcome
 on_beat s = cond (is_leader s.role) (sends_to s Everyone) (quiet s)
 
--- A leader hands its office over to another node.
+-- A leader hands its leadership over to another node.
 unfoldable pub on_transfer : ℕ → Node → ℕ → Outcome
 on_transfer me s to = cond (is_leader s.role && not (to == me)) (says s (answer me s to TimeoutNow)) (quiet s)

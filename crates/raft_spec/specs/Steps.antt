@@ -27,7 +27,7 @@ receivers me s Nobody = []
 receivers me s Everyone = peers s.servers me
 receivers me s (Only ps) = ps
 
--- A leader moves its commit index; where it moves, the leader sends to all peers.
+-- A leader moves its commit index; if it moves, the leader sends to all peers.
 abbrev pub advance_commit : (List Entry → List ℕ) → ℕ → Outcome → Outcome
 advance_commit voters_of me d = record {
   node = with_log d.node d.node.log (commit_index voters_of me d.node);
@@ -43,7 +43,7 @@ sends me d = record { node = d.node; out = d.out ++ map (message_to me d.node) (
 unfoldable pub finish : (List Entry → List ℕ) → ℕ → Outcome → Outcome
 finish voters_of me d = cond (is_leader d.node.role) (sends me (advance_commit voters_of me d)) d
 
--- The end of a step in which the servers were told: the commit index stays, since their change stands in no log yet.
+-- The end of a step in which the servers were told: the commit index stays, since their change is in no log yet.
 unfoldable pub serve : ℕ → Outcome → Outcome
 serve me d = cond (is_leader d.node.role) (sends me d) d
 

@@ -11,7 +11,7 @@ pub record Begins (commit : ℕ) (old new : List Entry) (first : ℕ) : Type 0 w
   pub same : take (first - 1) new ≡ take (first - 1) old
   pub differs : (first ≡ suc (length old)) ⊎ (term_at old first ≢ term_at new first)
 
--- The index from which on the entries of the new log are to be kept, in place of all from there; none exactly where the log stays.
+-- The index from which on the entries of the new log are to be kept, in place of all from there; none exactly if the log stays.
 abbrev pub IsBatch : ℕ → List Entry → List Entry → Option ℕ → Type 0
 IsBatch commit old new None = new ≡ old
 IsBatch commit old new (Some first) = Begins commit old new first

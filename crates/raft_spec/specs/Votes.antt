@@ -1,10 +1,10 @@
--- The votes of one node: term, vote and grants alone, and what each call of its vote keeper makes of them.
+-- The votes of one node: term, vote and grants alone, and what each call of its votes makes of them.
 use Rattle.std.specs.Prelude.{ℕ, suc, Bool, cond, not, ◌&&◌, nat_lt, List, [], ◌∷◌}
 use Rattle.raft_spec.specs.Log.{LogEnd}
 use Rattle.raft_spec.specs.Node.{among, majority}
 use Rattle.raft_spec.specs.Elections.{may_grant, grants_with}
 
--- A node's id, its term, to whom it gave its vote in that term (0 for nobody), and whose votes it got.
+-- A node's id, its term, to whom it gave its vote in that term (0 for no node), and whose votes it got.
 pub record Votes : Type 0 where
   pub id : ℕ
   pub term : ℕ

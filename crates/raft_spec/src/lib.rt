@@ -6,14 +6,14 @@
 ghost use Rattle.raft_spec.specs.Laws.{AcceptTakes, CommitIsGreatest, CutTermsStayShort, SnapshotsCome, TermsStayShort};
 
 /// A log that takes an Append's entries stays as it was up to the previous index, and has each of these entries after
-/// it. Where none of them conflicts with an old entry, all old entries stay, whatever follows; where one does, nothing
+/// it. If none of them conflicts with an old entry, all old entries stay, whatever follows; if one does, nothing
 /// follows those that came.
 pub fn accept_takes()
     ensures { AcceptTakes }
 {}
 
 /// A leader's commit index is exactly the greatest index that a majority of the voters has with an entry of the
-/// leader's term; where none is greater than the old one, it stays.
+/// leader's term; if none is greater than the old one, it stays.
 #[tactic(auto, using(crate::proofs::Meanings::commit_is_greatest_holds))]
 pub fn commit_is_greatest()
     ensures { CommitIsGreatest }

@@ -140,7 +140,7 @@ fn standing(node: &RaftNode) -> (u8, u64, u64, u64) {
     (role, view.term, view.last.index, view.commit)
 }
 
-/// How the node of a move stands after it, and how many nodes have an entry of term 1 at index 17.
+/// How the node of a move is after it, and how many nodes have an entry of term 1 at index 17.
 fn after(
     alloc: Global,
     cluster: &mut Cluster,

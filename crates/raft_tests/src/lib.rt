@@ -1,5 +1,5 @@
 //! The tests of `raft_messages`, `raft_log`, `raft_core` and `raft_membership`, which call them from outside. A crate with tests of
-//! its own is proved once more with them, so these stand here.
+//! its own is proved once more with them, so these are here.
 #![tactic(auto)]
 
 #[cfg(test)]

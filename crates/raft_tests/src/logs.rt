@@ -18,7 +18,7 @@ fn entries_of(alloc: Global, terms: &[u64]) -> Result<Vec<Entry>, AllocError> {
     Ok(entries)
 }
 
-// A log of entries of these terms, cut off after so many.
+// A log of entries of these terms, compacted after this many.
 fn log_of(alloc: Global, terms: &[u64], cut: u64) -> Result<Log, AllocError> {
     let mut log = Log::new(alloc, LogEnd { index: 0, term: 0 });
     for entry in entries_of(alloc, terms)? {
@@ -51,7 +51,7 @@ const SOME: Accepted = Accepted::Match {
     from: Some(3),
 };
 
-// The terms of a log, how much of it is cut, the index and term before what comes, its terms, the answer, and the last
+// The terms of a log, how much of it is compacted, the index and term before what comes, its terms, the answer, and the last
 // index then.
 const TAKEN: &[(&[u64], u64, u64, u64, &[u64], Accepted, u64)] = &[
     (&[1, 1, 1, 1], 0, 0, 0, &[1, 1], NONE, 4),

@@ -1,4 +1,4 @@
-//! The configurations of a log, as entries join, are cut off and are applied.
+//! The configurations of a log, as entries join, are truncated and are applied.
 use crate::nodes::configuration;
 use crate::owner::{entry_of, joins, leaves, members_at, roles_of, settles_at};
 use raft_membership::Members;
@@ -6,8 +6,8 @@ use raft_messages::{EntryKind, read_servers};
 use std::alloc::{AllocError, Global};
 use std::test::*;
 
-// What happens to the configurations of a log. An entry has an index; a change has the roles of its servers and bytes behind
-// the last server, and one that is cut lacks so many bytes.
+// What happens to the configurations of a log. An entry has an index; a change has the roles of its servers and bytes after
+// the last server, and one that is truncated lacks this many bytes.
 #[derive(Clone, Copy)]
 enum Row {
     Entry(u64, EntryKind),
@@ -30,14 +30,14 @@ fn joined(
     joins(alloc, members, index, &entry)
 }
 
-// The bytes of a configuration of servers with these roles, and those behind it.
+// The bytes of a configuration of servers with these roles, and those after it.
 fn longer(alloc: Global, roles: &[u64], behind: &[u8]) -> Result<Vec<u8>, AllocError> {
     let mut bytes = configuration(alloc, roles)?;
     bytes.extend_from_slice(behind)?;
     Ok(bytes)
 }
 
-// The bytes of a configuration without so many at its end.
+// The bytes of a configuration without this many at its end.
 fn shorter(alloc: Global, roles: &[u64], less: usize) -> Result<Vec<u8>, AllocError> {
     let mut bytes = configuration(alloc, roles)?;
     bytes.truncate(bytes.len().saturating_sub(less));
@@ -96,7 +96,7 @@ const OTHER: &[u64] = &[0, 0, 1];
 // A row, what it answers, and then the roles of the current servers, those of the applied ones, and the last change's index.
 // The log ends at 2 at first, with three voters.
 const ROWS: &[(Row, bool, &[u64], &[u64], u64)] = &[
-    // Only a change joins them, and only where its bytes end with the last server.
+    // Only a change joins them, and only if its bytes end with the last server.
     (Row::Entry(3, EntryKind::Command), false, THREE, THREE, 2),
     (Row::Entry(3, EntryKind::Barrier), false, THREE, THREE, 2),
     (Row::Entry(3, EntryKind::Change), false, THREE, THREE, 2),
@@ -107,7 +107,7 @@ const ROWS: &[(Row, bool, &[u64], &[u64], u64)] = &[
     (Row::Change(3, &[0, 0, 3], &[]), false, THREE, THREE, 2),
     (Row::Change(4, OTHER, &[]), true, OTHER, THREE, 4),
     (Row::Change(7, &[0, 0], &[]), true, &[0, 0], THREE, 7),
-    // What is cut off takes its changes with it, and no other.
+    // What is truncated takes its changes with it, and no other.
     (Row::From(8), false, &[0, 0], THREE, 7),
     (Row::From(7), true, OTHER, THREE, 4),
     (Row::From(3), true, THREE, THREE, 2),

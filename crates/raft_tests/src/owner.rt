@@ -83,7 +83,7 @@ impl Disk {
 }
 
 /// A node, what it has kept, a byte for each entry that it has applied, the configurations of its log, and how many changes
-/// of these it has applied and how many were cut off.
+/// of these it has applied and how many were truncated.
 #[derive(Drop)]
 pub struct Owner {
     pub node: RaftNode,
@@ -112,7 +112,7 @@ pub fn roles_of(alloc: Global, servers: &[Server]) -> Result<Vec<u64>, AllocErro
     Ok(roles)
 }
 
-/// The configurations of a log that ends at an index, where the servers have these roles.
+/// The configurations of a log that ends at an index, if the servers have these roles.
 pub fn members_at(alloc: Global, roles: &[u64], index: u64) -> Result<Members, Fail> {
     let bytes = configuration(alloc, roles)?;
     let (servers, _) = read_servers(alloc, bytes.as_slice())?;
@@ -143,7 +143,7 @@ fn started(alloc: Global, id: u64, roles: &[u64], kept: StoredRaft) -> Result<Ra
     Ok(RaftNode::new(alloc, id, servers.as_slice(), kept)?)
 }
 
-/// An entry joins the configurations of a log; true where it is a change that reads.
+/// An entry joins the configurations of a log; true if it is a change that reads.
 pub fn joins(
     alloc: Global,
     members: &mut Members,
@@ -173,7 +173,7 @@ pub fn settles_at(members: &mut Members, applied: u64) -> Result<(), Fail> {
     Ok(())
 }
 
-// The node is told servers of these roles. Answers what it sends.
+// The node is given servers of these roles. Answers what it sends.
 fn is_told(alloc: Global, node: &mut RaftNode, roles: &[u64]) -> Result<Vec<Outgoing>, Fail> {
     let bytes = configuration(alloc, roles)?;
     let (servers, _) = read_servers(alloc, bytes.as_slice())?;
@@ -209,7 +209,7 @@ impl Owner {
         self.node.view().role == RaftRole::Leader
     }
 
-    // The entries of the node from an index on join the configurations; true where a change is among them.
+    // The entries of the node from an index on join the configurations; true if a change is among them.
     fn takes(&mut self, alloc: Global, first: u64) -> Result<bool, Fail> {
         let mut told = false;
         for index in first..=self.node.view().last.index {
@@ -223,7 +223,7 @@ impl Owner {
         Ok(told)
     }
 
-    // The log is another one from an index on; true where other servers count.
+    // The log is another one from an index on; true if other servers count.
     fn follows(&mut self, alloc: Global, batch: Option<u64>) -> Result<bool, Fail> {
         let Some(first) = batch else {
             return Ok(false);
@@ -236,7 +236,7 @@ impl Owner {
         Ok(left || came)
     }
 
-    // A snapshot has come: it is kept, and what it says counts as applied; true where one has.
+    // A snapshot has come: it is kept, and what it says counts as applied; true if one has.
     fn installs(&mut self, alloc: Global, came: Option<Snapshot>) -> Result<bool, Fail> {
         let Some(snapshot) = came else {
             return Ok(false);
@@ -269,8 +269,8 @@ impl Owner {
         settles_at(&mut self.members, self.applied.len() as u64)
     }
 
-    /// The node takes an event; what it is to keep is kept, what is committed is applied, and where other servers count in
-    /// its log and it doesn't lead it is told them. Answers what it sends.
+    /// The node takes an event; what it is to keep is kept, what is committed is applied, and if other servers count in
+    /// its log and it doesn't lead it is given them. Answers what it sends.
     pub fn happens(&mut self, alloc: Global, event: RaftEvent) -> Result<Vec<Outgoing>, Fail> {
         let todo = step(alloc, &mut self.node, event)?;
         let Todo {
@@ -356,8 +356,8 @@ impl Owner {
         Ok(())
     }
 
-    // What is applied and the configurations are those of the kept snapshot and the entries behind it; the opening roles
-    // where there is none.
+    // What is applied and the configurations are those of the kept snapshot and the entries after it; the opening roles
+    // without one.
     fn recalls(&mut self, alloc: Global, opening: &[u64]) -> Result<(), Fail> {
         let index = end_index(self.disk.end());
         let bytes = match &self.disk.snapshot {

@@ -67,7 +67,7 @@ fn happens(
     sends_all(member, from, sends, mail)
 }
 
-// The same message once more, as its bytes are read again.
+// The message once more, as its bytes are read again.
 fn again(alloc: Global, message: &RaftMessage) -> Result<RaftMessage, Fail> {
     let bytes = write_message(alloc, message)?;
     let kind = bytes.as_slice().get(4).copied().unwrap_or(0);
@@ -119,7 +119,7 @@ fn local_event(alloc: Global, kind: u64, byte: u8) -> Result<RaftEvent, AllocErr
     }
 }
 
-// The member at a place proposes another role of another one, where it may.
+// The member at a place proposes another role of another one, if it may.
 fn changes(
     alloc: Global,
     member: &mut Owner,
@@ -180,7 +180,7 @@ fn has_leader(members: &[Owner]) -> bool {
     members.iter().any(|member| member.leads())
 }
 
-// A timeout or a beat at a member.
+// A timeout or a heartbeat at a member.
 fn at_member(
     alloc: Global,
     members: &mut Vec<Owner>,
@@ -199,7 +199,7 @@ fn at_member(
     }
 }
 
-// The same event at each member, one after another, and what follows from it.
+// One event at each member, one after another, and what follows from it.
 fn everywhere(
     alloc: Global,
     members: &mut Vec<Owner>,
@@ -230,7 +230,7 @@ fn last_leader(members: &[Owner]) -> Option<usize> {
     found
 }
 
-// Whether a member agrees with the leader: where it gets the log all that is applied is the same, and its configuration;
+// Whether a member agrees with the leader: if it gets the log all that is applied is the same, and its configuration;
 // else what it has applied is a front of that.
 fn agrees(alloc: Global, member: &Owner, leader: &Owner, role: u64) -> Result<bool, AllocError> {
     let front = leader.applied.as_slice().get(..member.applied.len());
@@ -246,7 +246,7 @@ fn agrees(alloc: Global, member: &Owner, leader: &Owner, role: u64) -> Result<bo
     )
 }
 
-// How much the leader has applied, where all agree with it.
+// How much the leader has applied, if all agree with it.
 fn common_front(alloc: Global, members: &[Owner]) -> Result<Option<usize>, AllocError> {
     let Some(place) = last_leader(members) else {
         return Ok(None);
@@ -264,7 +264,7 @@ fn common_front(alloc: Global, members: &[Owner]) -> Result<Option<usize>, Alloc
     Ok(Some(leader.applied.len()))
 }
 
-// How a run ends: the common front, how many have a snapshot, and how many changes were applied and were cut off.
+// How a run ends: the common front, how many have a snapshot, and how many changes were applied and were truncated.
 #[derive(Clone, Copy)]
 struct Ending {
     front: Option<usize>,
@@ -299,7 +299,7 @@ fn five(alloc: Global) -> Result<Vec<Owner>, Fail> {
     Ok(members)
 }
 
-// A run of five nodes with a seed: so many events with losses, repeats, stops, snapshots, transfers and changes of servers,
+// A run of five nodes with a seed: this many events with losses, repeats, stops, snapshots, transfers and changes of servers,
 // and then a quiet time.
 fn run(alloc: Global, seed: u64, events: u32) -> Result<Ending, Fail> {
     let mut members = five(alloc)?;

@@ -194,7 +194,7 @@ const STEPS: &[(Row, Seen)] = &[
     (Row::Propose(&[4]), (0, 4, 3, 3, 0, NONE)),
     (Row::Timeout, (1, 5, 3, 3, 4, (2, 1, false, 3))),
     (Row::Yield, (1, 5, 3, 3, 0, NONE)),
-    // A standby's Ack isn't counted; an only voter commits at once, and its snapshot goes to a peer that is behind.
+    // A standby's Ack isn't counted; an only voter commits at once, and its snapshot goes to a peer that lags.
     (Row::Fresh(1, &[0, 1]), (0, 0, 0, 0, 0, NONE)),
     (Row::Timeout, (2, 1, 1, 1, 1, (2, 3, false, 0))),
     (Row::Propose(&[1; 20]), (2, 1, 21, 21, 1, (2, 3, false, 0))),

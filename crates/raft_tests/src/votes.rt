@@ -58,7 +58,7 @@ fn messages_both_ways(rt: HostRuntime) -> Result<(), Fail> {
     Ok(())
 }
 
-// Whether a message of this type is refused wherever its body is cut.
+// Whether a message of this type is refused wherever its body is truncated.
 fn is_refused_cut(alloc: Global, kind: u8, words: &[u64]) -> Result<bool, Fail> {
     let whole = bytes(alloc, words)?;
     for end in 0..whole.len() {
@@ -129,7 +129,7 @@ fn faults_of_messages(rt: HostRuntime) -> Result<(), Fail> {
 
 const N1: u64 = 0x316e;
 
-// The place after the servers with which the bytes begin, where these are written again as the bytes up to there.
+// The place after the servers with which the bytes begin, if these are written again as the bytes up to there.
 fn place_after(alloc: Global, spelled: &[u64], behind: u64) -> Result<Option<u64>, Fail> {
     let wanted = bytes(alloc, spelled)?;
     let mut longer = bytes(alloc, spelled)?;
@@ -155,7 +155,7 @@ fn servers_fault(alloc: Global, words: &[u64]) -> Result<Option<ServersFault>, A
     Ok(read_servers(alloc, &bytes).err())
 }
 
-// The fault of so many servers of this role.
+// The fault of this many servers of this role.
 fn fault_of_many(alloc: Global, count: u64, role: u64) -> Result<Option<ServersFault>, AllocError> {
     let mut words = vec![in alloc; count]?;
     for id in 1..=count {

@@ -235,7 +235,7 @@ module _ (mean : Meaning) (standing : Standing) (w : Node) (a : NodeOk mean w) (
       by true e h = run_rests kind (w.gate.session c).tx (s ∷ []) true answers e refl (s, refl) h
       by false e h = tt
 
--- ---- what a reader tells
+-- ---- what a reader answers
 
 same_some : (x y : Reply) → Some x ≡ Some y → x ≡ y
 same_some x y e = cc

@@ -11,7 +11,7 @@ const GREETING: &str = "bytes 1 010000000000000001000000000000000000000000000000
 /// The reply of a node that knows no leader: id 0 and no address.
 const NO_LEADER: &str = "reply 1 020000000100000000000000000000000000000000000000\n";
 
-/// That reply, and how the node stands at the end of the script.
+/// That reply, and how the node is at the end of the script.
 const STANDS: &str =
     "reply 1 020000000100000000000000000000000000000000000000\nnode 1 term 0 role follower applied 0 files e3b0c44298fc1c149afbf4c8996fb92427ae41e4649b934ca495991b7852b855\n";
 
@@ -22,7 +22,7 @@ struct Ended {
     text: Vec<u8>,
 }
 
-/// Runs a script in memory, where the read and the write of these numbers, from 1, fail. Its engine has cells, since no line of a
+/// Runs a script in memory, if the read and the write of these numbers, from 1, fail. Its engine has cells, since no line of a
 /// script here runs a statement, and SQLite isn't compiled then.
 fn run(alloc: Global, script: &[u8], read: u64, write: u64) -> Result<Ended, AllocError> {
     let mut input = MemSource::new(
@@ -73,7 +73,7 @@ type Row = (Script, u64, u64, Outcome, &'static str);
 const ROWS: &[Row] = &[
     (Script::Asking, 0, 0, Outcome::Done, STANDS),
     (Script::Asking, 1, 0, Outcome::ReadFault, ""),
-    // The first read gives the whole script, and the second is to tell that it has ended.
+    // The first read gives the whole script, and the second is to say that it has ended.
     (Script::Asking, 2, 0, Outcome::ReadFault, NO_LEADER),
     (Script::Text(""), 1, 0, Outcome::ReadFault, ""),
     // A line that is cut by a failed read is not run.

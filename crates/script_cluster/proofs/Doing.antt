@@ -31,7 +31,7 @@ use Rattle.script_cluster.specs.Holding.{Held, beside, outside_of, world_of, pla
 abbrev pub Led : {P : Type 0} → Knowing P → ℕ → List P → List P → Turn → Type 0
 Led knows voters old new turn = (earlier : List Turn) → AllKnow knows voters old earlier → AllKnow knows voters new (earlier ++ turn ∷ [])
 
--- so it is where the wire can hold what it says; and in any case it leads the place of its node on
+-- this holds if the wire can hold what it says; and in any case it leads the place of its node on
 pub record LedBy {P : Type 0} (knows : Knowing P) (voters : ℕ) (old new : List P) (turn : Turn) : Type 0 where
   pub held : AllByRecursion CanHold (messages_in turn) → Led knows voters old new turn
   pub over : (earlier : List Turn) → AllKnow knows voters old earlier → KnowsOver knows voters earlier (Some turn)
@@ -80,7 +80,7 @@ by_way_of knows go way old mid new before now (Some why) same does keeps = recor
   uses = does.uses;
 }
 
--- the same of an answer
+-- the same for an answer
 pub in_result : {P T : Type 0} (knows : Knowing P) (go way : World → Went) (old mid new : Held P) (before now : List ClusterLine) (result : Result T EventFault) → ((earlier : List Turn) (later : List Outcome) → go (world_of old earlier later) ≡ way (world_of mid earlier later))
     → Does knows way result mid new before now → ((earlier : List Turn) → AllKnow knows old.voters old.nodes earlier → AllKnow knows mid.voters mid.nodes earlier) → Does knows go result old new before now
 in_result knows go way old mid new before now (Ok x) same does keeps = by_way_of knows go way old mid new before now None same does keeps
@@ -131,7 +131,7 @@ then_does knows first next old mid new before between now (Some why) a b = recor
 onward_halts : (next : World → Went) (why : Halt) (journal : List Item) (more : List ClusterLine) (turns : List Turn) (over : Option Turn) (went : Went) → HaltsAt why journal more turns over went → HaltsAt why journal more turns over (then_on next went)
 onward_halts next why journal more turns over went at = subst (HaltsAt why journal more turns over) (sym (ap (onward next went) at.halt)) at
 
--- where the first halts, all does
+-- if the first halts, all does
 pub then_halts : {P : Type 0} (knows : Knowing P) (first next : World → Went) (why : Halt) (old new : Held P) (before now : List ClusterLine) → Halts knows first why old new before now → Halts knows (λ (w : World). then_on next (first w)) why old new before now
 then_halts knows first next why old new before now a = record {
   outcomes = a.outcomes;
@@ -219,7 +219,7 @@ asked_does knows n doing aim voters nodes now_nodes places q old new came (Err f
     asked_halts knows n doing aim voters nodes now_nodes places (set places (n - 1) q) old new (answers_in came.answers) comes.ending before now (all.0 voters places) all.1 all.2 comes.on.over
 asked_does knows n doing aim voters nodes now_nodes places q old new came (Err faults.NoMemory) before now comes tells = tt
 
--- ---- where a node runs, and where none does
+-- ---- where a node runs, and if none does
 
 pub at_node_up : {P T : Type 0} (knows : Knowing P) (n : ℕ) (doing : Doing) (aim : FaultTarget) (h new : Held P) (result : Result T EventFault) (before now : List ClusterLine) → (nat_le 1 n && is_some (get_or h.places (n - 1) empty_place).standing) ≡ true
     → Does knows (λ (w : World). asked n doing aim w w.outcomes) result h new before now → Does knows (at_node n doing aim) result h new before now

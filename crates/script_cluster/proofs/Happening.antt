@@ -230,7 +230,7 @@ takes_settle knows e aim n h new there count result before now known present cou
 pub takes_nothing : {P : Type 0} (knows : Knowing P) (e : Event) (aim : FaultTarget) (h : Held P) (there : Bool) (said : List ClusterLine) → there ≡ exists (world_now h) e → there ≡ false → Halts knows (λ (w : World). takes w e aim) NotThere h h said said
 takes_nothing knows e aim h there said known missing = takes_missing knows e aim h said (sym known ∙ missing)
 
--- an event that is none of those that happen once
+-- an event that is not one of those that happen once
 pub never_once : {P : Type 0} (knows : Knowing P) (e : Event) (aim : FaultTarget) (h : Held P) (said : List ClusterLine) → once e aim ≡ halted NotThere → Halts knows (once e aim) NotThere h h said said
 never_once knows e aim h said is = subst (λ (go : World → Went). Halts knows go NotThere h h said said) (sym is) (record {
   outcomes = [];

@@ -136,7 +136,7 @@ none_by : (c : ℕ) (e : ℕ × Endpoint) (es : List (ℕ × Endpoint)) (here : 
 none_by c e es true is none rest = absurd (true≢false (ap is_some none))
 none_by c e es false is none rest = ap (λ (all : List Link). link_of e ∷ all) (rest refl)
 
--- so it is where none has the number
+-- this holds if none has the number
 pub none_found : (c : ℕ) (es : List (ℕ × Endpoint)) → lookup (is_at (nat_cmp c)) es ≡ None → without (map link_of es) c ≡ map link_of es
 none_found c [] none = refl
 none_found c (e ∷ es) none =

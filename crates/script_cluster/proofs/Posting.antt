@@ -1,4 +1,4 @@
--- Messages as letters.
+-- Messages as peer messages.
 use Rattle.std.proofs.Common.{◌≡◌, ℕ, ◌+◌, ◌<◌, ◌≤◌, Bool, true, false, cond, nat_le, min, List, [], ◌∷◌, ◌++◌, map, take, length, set, get_or, add-one, zero, suc, Option, Some, None, refl, sym, ap, subst, ◌∙◌, arith}
 use Rattle.std.specs.List.{AllByRecursion, sum_by}
 use Rattle.std.specs.Option.{option_map}
@@ -76,7 +76,7 @@ one_arrived mail n d arrived within is = rw add-one (one_more mail n d arrived w
 
 -- ---- marking
 
--- a letter at a place is marked
+-- a peer message at a place is marked
 pub marked : (mail : List Letter) (place : ℕ) (d : Letter) → place < length mail → arrived_at mail place ≡ set mail place (record (get_or mail place d) { arrived = true })
 marked [] place d within = absurd (omega (arith, within))
 marked (letter ∷ mail) zero d within = refl
@@ -100,7 +100,7 @@ front_stays mail more zero within arrived = tt
 front_stays [] more (suc front) within arrived = absurd (omega (arith, within))
 front_stays (letter ∷ mail) more (suc front) within arrived = (arrived.0, front_stays mail more front (omega (arith, within)) arrived.1)
 
--- ---- letters as the code has them
+-- ---- peer messages as the code has them
 
 pub marked_code : (letters : List CodeLetter) (place : ℕ) (at : CodeLetter) → at ≡ get_or letters place at
     → map letter_seen (set letters place (record { to = at.to; bytes = at.bytes; has_arrived = true })) ≡ arrived_at (map letter_seen letters) place
@@ -144,7 +144,7 @@ one_more_at letters from place at within has so_far =
 all_take : (mail : List Letter) (n : ℕ) → length mail ≤ n → HaveArrived (take n mail) → HaveArrived mail
 all_take mail n within arrived = subst HaveArrived (take_all n mail within) arrived
 
--- no letter is left
+-- no peer message is left
 pub none_left : (letters : List CodeLetter) (from place : ℕ) → place ≤ length letters → length letters ≤ place → (HaveArrived (take from (map letter_seen letters)) → HaveArrived (take place (map letter_seen letters)))
     → IsFirstWaiting (map letter_seen letters) from place
 none_left letters from place within past so_far arrived =
@@ -152,7 +152,7 @@ none_left letters from place within past so_far arrived =
     none_waits (map letter_seen letters) (all_take (map letter_seen letters) place most (so_far arrived))
     ∙ sym (ap (λ (b : Bool). cond b (Some place) None) (le-ltb place (length (map letter_seen letters)) most))
 
--- one more letter for one more message
+-- one more peer message for one more message
 pub written_more : (letters new : List CodeLetter) (letter : CodeLetter) (messages : List RaftMessage) (i : ℕ) (m : RaftMessage) → new ≡ letters ++ letter ∷ [] → letter_seen letter ≡ letter_of m → m ≡ get_or messages i m
     → i < length messages → map letter_seen letters ≡ letters_of (take i messages) → map letter_seen new ≡ letters_of (take (i + 1) messages)
 written_more letters new letter messages i m push is item within before =

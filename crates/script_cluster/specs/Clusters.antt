@@ -19,11 +19,11 @@ use Rattle.script_cluster.specs.Holding.{Held, TellsAll, beside, world_of}
 abbrev pub held : {P : Type 0} → (P → Place) → Cluster P → Held P
 held shows c = beside c.voters c.places.items (map shows c.places.items) c.outside
 
--- the world of these, where nothing is asked of turns or of what is to come
+-- the world of these, if nothing is asked of turns or of what is to come
 abbrev pub world_now : {P : Type 0} → Held P → World
 world_now h = world_of h [] []
 
--- so many voters and further nodes, at these places, none of which runs
+-- this many voters and further nodes, at these places, none of which runs
 abbrev pub empty_held : {P : Type 0} → ℕ → ℕ → List P → Held P
 empty_held voters spare nodes =
     record { voters = voters; nodes = nodes; places = empty_places (voters + spare); links = []; mail = []; usage = no_usage; journal = [] }
@@ -55,7 +55,7 @@ abbrev pub TellsIn : {T : Type 0} → Result T EventFault → ℕ → FaultTarge
 TellsIn result node aim came old new before now = (failed : Bool) (ending : Ending) → TellsEnding failed came.ended ending
     → TellsAll result node aim (answers_in came.answers) failed ending old new before now
 
--- how many messages may arrive by an event, where it settles
+-- how many messages may arrive by an event, if it settles
 abbrev pub settle_count : Event → Option ℕ
 settle_count (event.Timeout n) = None
 settle_count (event.Beat n) = None

@@ -25,7 +25,7 @@ abbrev pub all_take : List (Event × FaultTarget) → World → Went
 all_take [] w = quiet w
 all_take (line ∷ lines) w = then_on (all_take lines) (takes w line.0 line.1)
 
--- so many voters and these lines, with what came of them
+-- this many voters and these lines, with what came of them
 abbrev pub plays : ℕ → List (Event × FaultTarget) → List Outcome → Went
 plays voters lines outcomes = then_on (all_take lines) (opened voters 0 outcomes)
 
@@ -91,7 +91,7 @@ StoppedSays = stopped.said ≡ says.Stopped 1 ∷ []
 abbrev pub StoppedStands : Type 0
 StoppedStands = all_shown stopped.world ≡ says.Node 1 1 roles.Follower 0 (digest []) ∷ []
 
--- how the call was met, and what the start behind it loaded
+-- how the call was met, and what the start after it loaded
 abbrev pub StoppedNotes : Type 0
 StoppedNotes = stopped.world.journal ≡ Met (Some 0) ∷ Loaded (kept_in_term 1 1) ∷ []
 

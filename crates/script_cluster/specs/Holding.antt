@@ -42,7 +42,7 @@ world_of h turns outcomes = record {
   over = None;
 }
 
--- what there is beside nodes, with these places
+-- what there is besides nodes, with these places
 abbrev pub beside : {P : Type 0} → ℕ → List P → List Place → Network → Held P
 beside voters nodes places o =
     record { voters = voters; nodes = nodes; places = places; links = o.connections; mail = o.mail; usage = o.usage; journal = o.journal }
@@ -55,7 +55,7 @@ pub record IsNothing (o : Network) : Type 0 where
 
 -- ---- what comes of an event at a node
 
--- what is noted of an event with these answers whose line aims so, where its call was met or not
+-- what is noted of an event with these answers whose line aims so, if its call was met or not
 abbrev pub note_of : List Answer → FaultTarget → Option ℕ → List Item
 note_of answers aim met = map Answered answers ++ met_by aim met
 
@@ -78,7 +78,7 @@ abbrev pub SaysOuts : Bool → FaultTarget → List Answer → Outs → Network 
 SaysOuts true aim answers outs old new before now = SaysAll aim answers outs old new before now
 SaysOuts false aim answers outs old new before now = SaysNone outs old new before now
 
--- a node fell, behind so many things that were kept whole, and this is said behind the connections that close
+-- a node fell, after this many things that were kept whole, and this is said after the connections that close
 pub record Falls (node : ℕ) (aim : FaultTarget) (answers : List Answer) (keeps : ℕ) (say : ClusterLine) (old new : Network) (before now : List ClusterLine) : Type 0 where
   pub usage : new.usage ≡ old.usage
   pub links : new.connections ≡ without_node old.connections node
@@ -97,7 +97,7 @@ places_after node Unreadable places = places
 abbrev pub with_note : {P : Type 0} → Held P → FaultTarget → List Answer → Bool → Ending → Held P
 with_note h aim answers failed ending = record h { journal = h.journal ++ noted aim failed (record { answers = answers; ending = ending }) }
 
--- what there is beside nodes, whatever stands at these places
+-- what there is besides nodes, whatever is at these places
 abbrev pub outside_of : ℕ → List Place → Network → Held (Unit {0})
 outside_of voters places o = beside voters [] places o
 
@@ -145,7 +145,7 @@ pub record Leads {P : Type 0} (knows : Knowing P) (go : World → Went) (old new
   -- no other outcomes came
   pub uses : outcomes ≡ outcomes_in turns
 
--- it ended so, behind these turns and by this one that isn't in the run, when this was noted, and this said
+-- it ended so, after these turns and by this one that isn't in the run, when this was noted, and this said
 pub record HaltsAt (why : Halt) (journal : List Item) (said : List ClusterLine) (turns : List Turn) (over : Option Turn) (went : Went) : Type 0 where
   pub halt : went.halt ≡ Some why
   pub said_is : went.said ≡ said
@@ -172,7 +172,7 @@ abbrev pub DoesBy : {P : Type 0} → Knowing P → (World → Went) → Option H
 DoesBy knows go None old new before now = Leads knows go old new before now
 DoesBy knows go (Some why) old new before now = Halts knows go why old new before now
 
--- the same by its answer; after out of memory nothing is told
+-- the same by its answer; after out of memory nothing is reported
 abbrev pub Does : {P T : Type 0} → Knowing P → (World → Went) → Result T EventFault → Held P → Held P → List ClusterLine → List ClusterLine → Type 0
 Does knows go (Ok x) old new before now = DoesBy knows go None old new before now
 Does knows go (Err faults.NotThere) old new before now = DoesBy knows go (Some NotThere) old new before now

@@ -37,7 +37,7 @@ abbrev pub AllCanHold : List Turn → Type 0
 AllCanHold [] = Unit {0}
 AllCanHold (turn ∷ turns) = AllByRecursion CanHold (messages_in turn) × AllCanHold turns
 
--- These turns of the node of this number, in a cluster that was opened with so many voters, have led to this place.
+-- These turns of the node of this number, in a cluster that was opened with this many voters, have led to this place.
 abbrev pub Knowing : Type 0 → Type 1
 Knowing P = P → ℕ → ℕ → List Turn → Type 0
 
@@ -61,7 +61,7 @@ abbrev pub node_at : {P : Type 0} → List P → ℕ → Option P
 node_at places zero = None
 node_at places (suc index) = slice_get places index
 
--- these turns of a node have led to its place; where it has none, there are none
+-- these turns of a node have led to its place; if it has none, there are none
 abbrev pub KnowsAt : {P : Type 0} → Knowing P → ℕ → ℕ → List Turn → Option P → Type 0
 KnowsAt knows voters node turns (Some place) = knows place node voters turns
 KnowsAt knows voters node turns None = turns ≡ []
@@ -70,7 +70,7 @@ KnowsAt knows voters node turns None = turns ≡ []
 abbrev pub AllKnow : {P : Type 0} → Knowing P → ℕ → List P → List Turn → Type 0
 AllKnow knows voters places turns = ((node : ℕ) → KnowsAt knows voters node (turns_at node turns) (node_at places node)) × AllCanHold turns
 
--- what a node did behind these turns, which isn't among them, led its place on
+-- what a node did after these turns, which isn't among them, led its place on
 abbrev pub KnowsOver : {P : Type 0} → Knowing P → ℕ → List Turn → Option Turn → Type 0
 KnowsOver knows voters turns None = Unit {0}
 KnowsOver {P} knows voters turns (Some turn) = (place : P) × knows place (actor turn) voters (turns_at (actor turn) turns ++ turn ∷ [])
@@ -82,7 +82,7 @@ pub record Told {P : Type 0} (knows : Knowing P) (turns : List Turn) (over : Opt
   pub know : AllKnow knows voters places turns
   pub last : KnowsOver knows voters turns over
 
--- with it behind them
+-- with it after them
 abbrev pub with_over : List Turn → Option Turn → List Turn
 with_over turns None = turns
 with_over turns (Some turn) = turns ++ turn ∷ []

@@ -22,8 +22,8 @@ pub record Outs : Type 0 where
   pub closed : List (ℕ × CloseReason)
   pub messages : List RaftMessage
 
--- How an event ended: a step of a node, which says this and after which the node stands so; a start, which loaded what was kept; the
--- disk stopped at a call, or a call failed, when so many things of the event were kept whole; or a start found files that don't load.
+-- How an event ended: a step of a node, which says this and after which the node is so; a start, which loaded what was kept; the
+-- disk stopped at a call, or a call failed, when this many things of the event were kept whole; or a start found files that don't load.
 pub data Ending : Type 0 where
   Steps : Outs → Standing → Ending
   Starts : Kept → Standing → Ending
@@ -66,7 +66,7 @@ met_by Nothing met = []
 met_by (Stop call pick) met = Met met ∷ []
 met_by (Fail call) met = Met met ∷ []
 
--- what is noted of an event by how it ended: of a start also what it loaded, where a call of the node's disk stopped or failed since
+-- what is noted of an event by how it ended: of a start also what it loaded, if a call of the node's disk stopped or failed since
 -- the last one
 abbrev pub noted_by : FaultTarget → Bool → Ending → List Item
 noted_by aim failed (Steps outs standing) = met_by aim None

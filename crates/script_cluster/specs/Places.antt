@@ -35,7 +35,7 @@ down_place failed = record { standing = None; failed = failed }
 abbrev pub place_after_crash : Place → Place
 place_after_crash place = down_place place.failed
 
--- how a place stands after an event at it that ended so
+-- how a place is after an event at it that ended so
 abbrev pub place_after : Ending → Place → Place
 place_after (Steps outs standing) place = standing_so standing
 place_after (Starts kept standing) place = standing_so standing
@@ -43,7 +43,7 @@ place_after (Stops keeps) place = down_place true
 place_after (Fails keeps) place = down_place true
 place_after Unreadable place = place
 
--- This is how it ended. A start tells what it has loaded where a call of the disk stopped or failed since the last one.
+-- This is how it ended. A start says what it has loaded where a call of the disk stopped or failed since the last one.
 abbrev pub TellsEnding : Bool → EventEnd → Ending → Type 0
 TellsEnding failed (ended.Stepped outs) (Steps told standing) = told ≡ outs_of outs
 TellsEnding failed (ended.Started loaded) (Starts kept standing) = loaded ≡ (if failed then Some kept else None)
@@ -52,7 +52,7 @@ TellsEnding failed (ended.Failed keeps) (Fails told) = told ≡ keeps
 TellsEnding failed ended.Unreadable Unreadable = Unit {0}
 TellsEnding failed came ending = ⊥
 
--- An event at a place ended so, and it stands as after that; with this outcome the turn leads on.
+-- An event at a place ended so, and it is as after that; with this outcome the turn leads on.
 pub record Comes (old new : Place) (came : EventResult) (leads : Outcome → Type 0) : Type 0 where
   pub ending : Ending
   pub tells : TellsEnding old.failed came.ended ending

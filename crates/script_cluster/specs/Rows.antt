@@ -59,7 +59,7 @@ MissingSaid = Says (codes "nodes 1\ncrash 2\n") (started 0 0 ∷ []) [] (Some (L
 abbrev pub NoNodesSaid : Type 0
 NoNodesSaid = Says (codes "nodes 0\n") [] [] (Some (Line 1))
 
--- a node that is down is shown, and a line stands in the wrong mode
+-- a node that is down is shown, and a line is in the wrong mode
 abbrev pub PutSaid : Type 0
 PutSaid = Says (codes "# a\n\nnodes 1\ncrash 1\nshow 1\nput 00\n") (started 0 0 ∷ []) (says.NodeDown 1 ∷ []) (Some (Line 6))
 

@@ -13,7 +13,7 @@ use Rattle.script_cluster.specs.World as world
 use Rattle.script_cluster.specs.World.{World, Halt, Went, takes, opened, shown, all_shown}
 use Rattle.script_cluster.specs.Printed.{printed as text_of}
 
--- where a script is: before its mode line, with what is to come of events; or among its nodes
+-- if a script is: before its mode line, with what is to come of events; or among its nodes
 pub data Stage : Type 0 where
   Opening : List Outcome → Stage
   Within : World → Stage
@@ -36,7 +36,7 @@ fault_by number world.NotThere = Line number
 fault_by number world.TooMany = Large
 fault_by number world.Untold = Untold
 
--- where the line of this number led
+-- if the line of this number led
 abbrev pub next_by : ℕ → Went → Next
 next_by number went = record { stage = Within went.world; said = went.said; fault = option_map (fault_by number) went.halt }
 
@@ -71,7 +71,7 @@ said_step stage number (Some line) = line_step stage number line
 unfoldable pub step : Stage → ℕ → List ℕ → Next
 step stage number line = if nat_le number line_count_limit then said_step stage number (line_of line) else stops stage Large
 
--- A run: what is said, in order; the fault at which it ends, where it has one; what happened at its nodes; and what is noted that the
+-- A run: what is said, in order; the fault at which it ends, if it has one; what happened at its nodes; and what is noted that the
 -- script doesn't say.
 pub record Run : Type 0 where
   pub said : List ClusterLine

@@ -1,4 +1,4 @@
--- Connections, letters and the journal as the code has them.
+-- Connections, peer messages and the journal as the code has them.
 use Rattle.std.specs.Prelude.{◌≡◌, ℕ, true, List, [], ◌∷◌, length, map, take, nat_lt, Option, Some, None, Ok, Err, if◌then◌else◌}
 use Rattle.std.specs.List.{AllByRecursion}
 use Rattle.raft_messages.specs.declared.fault.PeerFault.{PeerFault}
@@ -28,7 +28,7 @@ letter_seen letter = record { to = letter.to; bytes = letter.bytes; arrived = le
 abbrev pub HaveArrived : List Letter → Type 0
 HaveArrived mail = AllByRecursion (λ (letter : Letter). letter.arrived ≡ true) mail
 
--- of the letters from a place on, this is the first that has never arrived; where there is none, it is the number of all letters
+-- of the peer messages from a place on, this is the first that has never arrived; without one, it is the number of all peer messages
 abbrev pub IsFirstWaiting : List Letter → ℕ → ℕ → Type 0
 IsFirstWaiting mail from place = HaveArrived (take from mail) → first_waiting mail ≡ (if nat_lt place (length mail) then Some place else None)
 

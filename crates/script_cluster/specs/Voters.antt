@@ -10,7 +10,7 @@ IsVoterCount count = (1 ≤ count) × (count ≤ 7)
 abbrev pub voter : ℕ → Server
 voter n = record { id = n; address = codes "n" ++ decimal n; role = 0 }
 
--- so many voters, the first of which has this number
+-- this many voters, the first of which has this number
 abbrev pub voters_from : ℕ → ℕ → List Server
 voters_from zero n = []
 voters_from (suc count) n = voter n ∷ voters_from count (suc n)

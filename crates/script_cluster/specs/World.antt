@@ -71,7 +71,7 @@ pub data Halt : Type 0 where
   TooMany : Halt
   Untold : Halt
 
--- where events led, what was said, and why they end, if they do
+-- if events led, what was said, and why they end, if they do
 pub record Went : Type 0 where
   pub world : World
   pub said : List ClusterLine
@@ -86,7 +86,7 @@ halted why w = record { world = w; said = []; halt = Some why }
 abbrev pub said_before : List ClusterLine → Went → Went
 said_before said went = record { world = went.world; said = said ++ went.said; halt = went.halt }
 
--- it goes on so, unless it ended
+-- it continues so, unless it ended
 abbrev pub onward : (World → Went) → Went → Option Halt → Went
 onward go went None = said_before went.said (go went.world)
 onward go went (Some why) = went
@@ -169,7 +169,7 @@ arrived_at [] place = []
 arrived_at (letter ∷ mail) zero = record letter { arrived = true } ∷ mail
 arrived_at (letter ∷ mail) (suc place) = letter ∷ arrived_at mail place
 
--- bytes as a message of the wire: the number of its type, its schema, and what stands behind the header
+-- bytes as a message of the wire: the number of its type, its schema, and what follows the header
 abbrev pub wire_message : List ℕ → Message
 wire_message bytes = record { kind = slice_index bytes 4; schema = slice_index bytes 5; body = drop 8 bytes }
 
@@ -205,7 +205,7 @@ abbrev pub without_all : List Link → List (ℕ × CloseReason) → List Link
 without_all links [] = links
 without_all links (one ∷ closed) = without_all (without links one.0) closed
 
--- the node stands so, and has no failed call behind it
+-- the node is so, and has no failed call after it
 abbrev pub standing_so : Standing → Place
 standing_so standing = record { standing = Some standing; failed = false }
 
@@ -228,7 +228,7 @@ after_step n outs standing w (Some usage) = record {
 abbrev pub fallen : World → ℕ → Bool → World
 fallen w n failed = record w { places = set w.places (n - 1) (record { standing = None; failed = failed }); links = without_node w.links n }
 
--- so it is where its disk stops or a call fails, and this is said behind what closes
+-- this holds if its disk stops or a call fails, and this is said after what closes
 abbrev pub after_fall : ℕ → ClusterLine → World → Went
 after_fall n say w = record { world = fallen w n true; said = closings w.links n ++ say ∷ []; halt = None }
 
@@ -255,7 +255,7 @@ unless_many w went (Some why) = halted why w
 abbrev pub asked_so : World → Went → Went
 asked_so w went = unless_many w went went.halt
 
--- a node is asked to do something, of which comes what is told next
+-- a node is asked to do something, of which comes what is reported next
 abbrev pub asked : ℕ → Doing → FaultTarget → World → List Outcome → Went
 asked n doing aim w [] = halted Untold w
 asked n doing aim w (outcome ∷ left) =
@@ -305,7 +305,7 @@ crashes n pick w =
 abbrev pub starts : ℕ → FaultTarget → World → Went
 starts n aim w = if is_up w n then quiet w else asked n (Start w.voters) aim w w.outcomes
 
--- one event more, where there may be one
+-- one event more, if there may be one
 abbrev pub counted_so : (World → Went) → World → Option Usage → Went
 counted_so go w None = halted TooMany w
 counted_so go w (Some usage) = go (record w { usage = usage })
@@ -318,7 +318,7 @@ abbrev pub settled_so : (World → Went) → World → Option ℕ → Went
 settled_so go w None = quiet w
 settled_so go w (Some place) = then_on go (counted (delivers place Nothing) w)
 
--- again and again, until none is left or so many did
+-- again and again, until none is left or this many did
 abbrev pub settles : ℕ → World → Went
 settles zero w = quiet w
 settles (suc count) w = settled_so (settles count) w (first_waiting w.mail)
@@ -361,7 +361,7 @@ abbrev pub empty_places : ℕ → List Place
 empty_places zero = []
 empty_places (suc count) = empty_place ∷ empty_places count
 
--- so many voters' places and further ones, without a node, and what is to come of the events
+-- this many voters' places and further ones, without a node, and what is to come of the events
 abbrev pub empty_world : ℕ → ℕ → List Outcome → World
 empty_world voters spare outcomes = record {
   voters = voters;
@@ -375,12 +375,12 @@ empty_world voters spare outcomes = record {
   over = None;
 }
 
--- nodes are started one after another, so many, the first of which has this number
+-- nodes are started one after another, this many, the first of which has this number
 abbrev pub all_start : ℕ → ℕ → World → Went
 all_start zero n w = quiet w
 all_start (suc count) n w = then_on (all_start count (suc n)) (starts n Nothing w)
 
--- so many voters and further nodes, all started, which is no event
+-- this many voters and further nodes, all started, which is no event
 unfoldable pub opened : ℕ → ℕ → List Outcome → Went
 opened voters spare outcomes = all_start (voters + spare) 1 (empty_world voters spare outcomes)
 
@@ -390,7 +390,7 @@ abbrev pub shown_so : ℕ → Option Standing → ClusterLine
 shown_so n None = says.NodeDown n
 shown_so n (Some standing) = says.Node n standing.term (role_of standing.role) standing.applied (digest standing.databases)
 
--- how the node of a number stands, where it is there
+-- how the node of a number stands, if it is there
 abbrev pub shown : World → ℕ → Option ClusterLine
 shown w n = if is_node w n then Some (shown_so n (place_at w n).standing) else None
 

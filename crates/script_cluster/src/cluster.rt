@@ -83,7 +83,7 @@ fn crash_at<P: NodePlace>(places: &mut Vec<P>, index: usize, pick: u32) -> Resul
     places[index].crash(pick)
 }
 
-/// The nodes of a script by their numbers from 1, each at its place; and what there is beside them.
+/// The nodes of a script by their numbers from 1, each at its place; and what there is besides them.
 #[derive(Drop)]
 pub struct Cluster<P: NodePlace> {
     pub(crate) voters: VoterCount,
@@ -93,7 +93,7 @@ pub struct Cluster<P: NodePlace> {
 
 impl<P: NodePlace> Cluster<P> {
     #[tactic(auto, using(crate::proofs::Placing::none_held))]
-    /// So many voters and further nodes, none of which runs, each at a place like this one.
+    /// This many voters and further nodes, none of which runs, each at a place like this one.
     pub fn new(
         alloc: Global,
         place: &P,

@@ -78,7 +78,7 @@ impl DownCause {
     }
 }
 
-/// The number of the reason for which a connection closes whose node is down; those of a node that runs are told by
+/// The number of the reason for which a connection closes whose node is down; those of a node that runs are described by
 /// `CloseReason`.
 pub(crate) const NODE_DOWN: u64 = 4;
 
@@ -90,7 +90,7 @@ pub enum ClusterLine {
         connection: u64,
         bytes: WireBytes,
     },
-    /// A connection closed: by its node, for the reason of this number, or with its node, where the number is 4.
+    /// A connection closed: by its node, for the reason of this number, or with its node, if the number is 4.
     Closed {
         connection: u64,
         reason: u64,

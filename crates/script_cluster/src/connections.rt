@@ -21,7 +21,7 @@ pub(crate) struct Endpoint {
 impl Endpoint {
     ghost use Rattle.script_cluster.specs.Seen.{open_node};
 
-    /// The node to which it leads, where it is open.
+    /// The node to which it leads, if it is open.
     fn open_node(self) -> Option<u64>
         ensures { result ≡ open_node self }
     {
@@ -57,14 +57,14 @@ impl Model for Connections {
     ghost view = { λ c. map link_of c.links.entries };
 }
 
-/// The connection of a number, where it was made.
+/// The connection of a number, if it was made.
 fn found(links: &BTreeMap<u64, Endpoint>, number: u64) -> Option<Endpoint>
     ensures { result ≡ lookup (is_at (nat_cmp number)) links.now.entries }
 {
     links.get(&number).copied()
 }
 
-/// A connection is closed, where it was made.
+/// A connection is closed, if it was made.
 fn shut(links: &mut BTreeMap<u64, Endpoint>, number: u64)
     ensures { map link_of links.new.entries ≡ without (map link_of links.old.entries) number }
 {
@@ -73,7 +73,7 @@ fn shut(links: &mut BTreeMap<u64, Endpoint>, number: u64)
     }
 }
 
-/// Connections are closed, where they were made.
+/// Connections are closed, if they were made.
 fn shut_each(links: &mut BTreeMap<u64, Endpoint>, numbers: &[u64])
     ensures { map link_of links.new.entries ≡ without_each (map link_of links.old.entries) numbers.now }
 {
@@ -142,7 +142,7 @@ impl Connections {
         Ok(())
     }
 
-    /// A connection is closed, where it was made.
+    /// A connection is closed, if it was made.
     pub(crate) fn close(&mut self, number: u64)
         ensures { self.new ≡ without self.old number }
     {

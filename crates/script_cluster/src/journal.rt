@@ -15,7 +15,7 @@ use store_format::Kept;
 pub enum JournalItem {
     /// What an engine answered in one event, call by call.
     Answers(Journal),
-    /// How the disk call was met at which a `stop` or `fail` line aims: not at all, or behind so many things that the event had
+    /// How the disk call was met at which a `stop` or `fail` line aims: not at all, or after this many things that the event had
     /// kept whole, which is 0 in a start.
     Met(Option<u64>),
     /// What a node loaded at its first start since a call of its disk stopped or failed.

@@ -2,7 +2,7 @@ ghost use Rattle.script_cluster.specs.Examples.{CandidatesSay, CandidatesStand, 
 ghost use Rattle.script_cluster.specs.Examples.{ClosingSays, ClosingNotes, ClosingHalts, ClosingCounts};
 ghost use Rattle.script_cluster.specs.Rows.{CandidatesSaid, StoppedSaid, FailedSaid, MissingSaid, NoNodesSaid, PutSaid, PutPrints, EmptySaid, AskingSaid};
 
-/// Small scripts, computed: what they say, how nodes stand then, and what is noted.
+/// Small scripts, computed: what they say, how nodes are then, and what is noted.
 pub fn scripts_play()
     ensures candidates { CandidatesSay }
     ensures candidates_stand { CandidatesStand }

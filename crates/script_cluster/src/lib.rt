@@ -1,5 +1,5 @@
 //! The nodes of a script: each at its place; the connections of clients; the messages between nodes; what the events of a script
-//! do to all of these; and what that prints. What a place is stands as a trait, `NodePlace`.
+//! do to all of these; and what that prints. What a place is, is a trait: `NodePlace`.
 #![tactic(auto)]
 
 mod cluster;

@@ -29,7 +29,7 @@ pub(crate) struct Letter {
 pub(crate) struct Mail {
     alloc: Global,
     letters: Vec<Letter>,
-    /// All letters in front of this place have arrived.
+    /// All peer messages in front of this place have arrived.
     front: usize,
 }
 
@@ -75,7 +75,7 @@ fn message_in(alloc: Global, bytes: &[u8]) -> Result<Message, AllocError>
     })
 }
 
-/// The message that arrives by these bytes at a node; none where a number of it is out of range. Copies the body twice.
+/// The message that arrives by these bytes at a node; none if a number of it is out of range. Copies the body twice.
 fn arriving(alloc: Global, to: u64, bytes: &[u8]) -> Result<Option<RaftMessage>, AllocError>
     ensures { IfOk result (Arrives to bytes.now) }
 {
@@ -87,7 +87,7 @@ fn arriving(alloc: Global, to: u64, bytes: &[u8]) -> Result<Option<RaftMessage>,
     }
 }
 
-/// The place of the first letter from a place on that has never arrived; the number of letters where there is none.
+/// The place of the first peer message from a place on that has never arrived; the number of peer messages without one.
 fn next_waiting(letters: &[Letter], from: usize) -> usize
     requires { from ≤ length letters.now }
     ensures within { result ≤ length letters.now }
@@ -153,7 +153,7 @@ impl Mail {
         Ok(message)
     }
 
-    /// Letters join, behind all others.
+    /// Letters join, after all others.
     pub(crate) fn join(&mut self, letters: Vec<Letter>) -> Result<(), AllocError>
         ensures { OnOk result (self.new ≡ self.old ++ map letter_seen letters.items) }
     {
@@ -163,7 +163,7 @@ impl Mail {
     }
 }
 
-/// A new message as a letter, which has not arrived.
+/// A new message as a peer message, which has not arrived.
 fn letter_for(alloc: Global, message: &RaftMessage) -> Result<Letter, AllocError>
     ensures letter { IfOk result (λ letter. letter_seen letter ≡ letter_of message.now) }
     ensures hold { OnOk result (CanHold message.now) }
@@ -175,7 +175,7 @@ fn letter_for(alloc: Global, message: &RaftMessage) -> Result<Letter, AllocError
     })
 }
 
-/// New messages as letters, none of which has arrived.
+/// New messages as peer messages, none of which has arrived.
 pub(crate) fn written(alloc: Global, messages: &[RaftMessage]) -> Result<Vec<Letter>, AllocError>
     ensures letters { IfOk result (λ letters. map letter_seen letters.items ≡ letters_of messages.now) }
     ensures hold { OnOk result (AllByRecursion CanHold messages.now) }
@@ -187,7 +187,7 @@ pub(crate) fn written(alloc: Global, messages: &[RaftMessage]) -> Result<Vec<Let
     Ok(letters)
 }
 
-/// How many bytes letters have, with their headers; the last number, where they have more than that.
+/// How many bytes peer messages have, with their headers; the last number, if they have more than that.
 fn size_of(letters: &[Letter]) -> u64
     ensures { result ≡ min (sum_by (λ (letter : Seen). length letter.bytes) (map letter_seen letters.now)) 18446744073709551615 }
 {
@@ -199,7 +199,7 @@ fn size_of(letters: &[Letter]) -> u64
 }
 
 #[tactic(auto, using(crate::proofs::Posting::sized))]
-/// What was used, with the bytes of these letters; `None` where a script doesn't make as many.
+/// What was used, with the bytes of these peer messages; `None` where a script doesn't make as many.
 pub(crate) fn with_letters(usage: Usage, letters: &[Letter]) -> Option<Usage>
     ensures { (messages : List RaftMessage) → map letter_seen letters.now ≡ letters_of messages → result ≡ with_messages usage (bytes_in messages) }
 {

@@ -1,4 +1,4 @@
-//! What there is beside the nodes of a script, and what comes of an event at a node there: it is noted and said.
+//! What there is besides the nodes of a script, and what comes of an event at a node there: it is noted and said.
 
 ghost use Rattle.std.specs.Prelude.{◌≡◌, ◌++◌, ◌∷◌, [], ℕ, Bool, List, None, map, suc, length, IfOk, OnOk};
 ghost use Rattle.script_cluster.specs.declared.cluster_line.ClusterLine.TheVariants as says;
@@ -32,7 +32,7 @@ pub(crate) struct Network {
     pub(crate) journal: ClusterJournal,
 }
 
-/// One more; `Err` where there is no such number.
+/// One more; `Err` where there is no greater number.
 fn one_more(number: u64) -> Result<u64, AllocError>
     ensures { IfOk result (λ more. more ≡ suc number) }
 {
@@ -74,7 +74,7 @@ fn say_closed(
     Ok(())
 }
 
-/// Messages are said, behind so many that were made before.
+/// Messages are said, after this many that were made before.
 fn say_messages(
     before: u64,
     messages: &[RaftMessage],
@@ -178,7 +178,7 @@ impl Network {
         say_down(numbers.as_slice(), said)
     }
 
-    /// A start that ended well is noted, with what it has loaded, where it tells that.
+    /// A start that ended well is noted, with what it has loaded, if it says that.
     fn start(
         &mut self,
         aim: FaultTarget,
@@ -191,7 +191,7 @@ impl Network {
         self.journal.note_loaded(loaded)
     }
 
-    /// A node's disk stopped or a call failed, behind so many things that the event had kept whole: its connections close, and then
+    /// A node's disk stopped or a call failed, after this many things that the event had kept whole: its connections close, and then
     /// this is said.
     fn fall(
         &mut self,

@@ -33,7 +33,7 @@ pub enum NodeEvent {
 pub struct Outs {
     /// Messages to clients, in order, each with the number of its connection.
     pub replies: Vec<(u64, WireBytes)>,
-    /// Connections that are closed behind these replies, and why.
+    /// Connections that are closed after these replies, and why.
     pub closed: Vec<(u64, CloseReason)>,
     /// Messages to other nodes.
     pub messages: Vec<RaftMessage>,
@@ -44,11 +44,11 @@ pub struct Outs {
 pub enum EventEnd {
     /// A step ended well, and said this.
     Stepped(Outs),
-    /// A start ended well. It tells what was loaded, where a call of the disk stopped or failed since the last one.
+    /// A start ended well. It says what was loaded, if a call of the disk stopped or failed since the last one.
     Started(Option<Kept>),
-    /// The disk stopped at the call at which the line aims, when so many things of the event were kept whole.
+    /// The disk stopped at the call at which the line aims, when this many things of the event were kept whole.
     Stopped(u64),
-    /// A call of the disk failed, when so many things of the event were kept whole.
+    /// A call of the disk failed, when this many things of the event were kept whole.
     Failed(u64),
     /// A start found files that don't load.
     Unreadable,
@@ -88,7 +88,7 @@ pub trait NodePlace: Drop {
     /// How the place stands.
     ghost shows: { Self → Place };
 
-    /// Which turns have led to the place: of the node of a number, in a cluster that was opened with so many voters.
+    /// Which turns have led to the place: of the node of a number, in a cluster that was opened with this many voters.
     ghost knows: { Self → ℕ → ℕ → List Turn → Type 0 };
 
     /// A disk without files, and no node.
@@ -112,7 +112,7 @@ pub trait NodePlace: Drop {
             (λ outcome. LeadsOn knows self.old self.new (λ node. Does node (doing_of event) aim outcome))) }
         ensures step { IfOk result (λ came. IsStep came.ended) };
 
-    /// The node of this number starts over the disk of a place where none runs, in a cluster that was opened with so many voters, at
+    /// The node of this number starts over the disk of a place where none runs, in a cluster that was opened with this many voters, at
     /// the addresses `n1` and so on; with an engine that knows nothing.
     fn start(
         &mut self,

@@ -19,7 +19,7 @@ fn role_name(role: RaftRole) -> &'static str
     }
 }
 
-/// How a node stands, behind its number, with the LF.
+/// How a node stands, after its number, with the LF.
 fn standing_text(
     alloc: Global,
     term: u64,

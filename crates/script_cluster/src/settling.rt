@@ -11,7 +11,7 @@ use crate::cluster_line::ClusterLine;
 use crate::place::{NodeEvent, NodePlace};
 use script_grammar::{Event, EventFault, FaultTarget};
 
-/// How many messages may arrive by an event, where it settles.
+/// How many messages may arrive by an event, if it settles.
 fn settle_count(event: &Event) -> Option<u32>
     ensures { result ≡ settle_count event.now }
 {
@@ -65,7 +65,7 @@ impl<P: NodePlace> Cluster<P> {
         self.deliver(place, FaultTarget::Nothing, said)
     }
 
-    /// The first message that has never arrived does, again and again, until none is left or so many did. Each is one event.
+    /// The first message that has never arrived does, again and again, until none is left or this many did. Each is one event.
     fn settle(&mut self, count: u32, said: &mut Vec<ClusterLine>) -> Result<(), EventFault>
         ensures { Does P.knows (settles count) result (held P.shows self.old) (held P.shows self.new) said.old.items said.new.items }
     {
@@ -110,12 +110,12 @@ impl<P: NodePlace> Cluster<P> {
         }
     }
 
-    /// Has a line's event happen, and puts what is said behind the rest.
+    /// Has a line's event happen, and puts what is said after the rest.
     ///
     /// - `NotThere`: the event names what isn't there. Nothing has happened.
     /// - `TooMany`: the event is one more than a script may have, or its messages have more bytes than those of a script may. Of a
     ///   `settle`, what came of the messages that arrived before is said; of the event itself nothing is said or noted.
-    /// - `NoMemory`: nothing is told of the cluster.
+    /// - `NoMemory`: nothing is reported of the cluster.
     pub fn take(
         &mut self,
         event: Event,
@@ -138,7 +138,7 @@ impl<P: NodePlace> Cluster<P> {
         }
     }
 
-    /// All nodes start, one after another, where they are down, which is no event.
+    /// All nodes start, one after another, if they are down, which is no event.
     pub fn start_all(&mut self, said: &mut Vec<ClusterLine>) -> Result<(), EventFault>
         ensures { Does P.knows (all_start (length self.old.places.items) 1) result
             (held P.shows self.old) (held P.shows self.new) said.old.items said.new.items }

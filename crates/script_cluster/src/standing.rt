@@ -33,7 +33,7 @@ fn shown(node: u64, line: Option<NodeLine>) -> ClusterLine
 }
 
 impl<P: NodePlace> Cluster<P> {
-    /// How the node of a number stands, where it is there. Costs in the order of its files.
+    /// How the node of a number stands, if it is there. Costs in the order of its files.
     pub fn standing(&self, node: u64) -> Option<ClusterLine>
         ensures { result ≡ shown (world_now (held P.shows self.now)) node }
     {

@@ -25,7 +25,7 @@ impl VoterCount {
     ghost use Rattle.std.specs.Prelude.{◌≡◌};
     ghost use Rattle.script_cluster.specs.Voters.{IsVoterCount};
 
-    /// So many voters, of which there may be so many.
+    /// This many voters, of which there may be this many.
     pub fn new(count: u32) -> VoterCount
         requires { IsVoterCount count }
         ensures { result ≡ count }

@@ -19,7 +19,7 @@ use Rattle.session_spec.specs.Engines.{Answer, Ending, Lacking, TooLarge, Stoppe
 use Rattle.node_core.specs.Plain.{plain_ran}
 use Rattle.script_determinism.specs.CoreSteps.{IsAmple}
 
--- an ending without the number of the transaction that its pages are told under
+-- an ending without the number of the transaction that its pages are listed under
 abbrev pub plain_end : Ending → Ending
 plain_end Lacking = Lacking
 plain_end (TooLarge ran) = TooLarge (plain_ran ran)

@@ -127,7 +127,7 @@ module _ (steps : StepsAreDecided) (starts : StartsAreDecided) where
     crashes = λ n k also pick picked old was new now same x y. crashes_same old new now x (subst (λ (seat : CoreSeat). CrashesAt seat now) (sym same) y);
   }
 
-  -- ---- whole nodes are such nodes
+  -- ---- whole nodes are nodes of this kind
 
   module _ (keeps : KeptIsOfCore) where
     -- the seat of a node
@@ -135,7 +135,7 @@ module _ (steps : StepsAreDecided) (starts : StartsAreDecided) where
     seat_of (NodeRuns node) = Runs (core_of node)
     seat_of (NodeRests kept) = Rests kept
 
-    -- a node that runs has no links and no readers
+    -- a node that runs has no peer connections and no readers
     abbrev IsLone : Seat → Type 0
     IsLone (NodeRuns node) = IsAlone (core_of node)
     IsLone (NodeRests kept) = Unit {0}

@@ -1,4 +1,4 @@
--- What is done to two worlds that are the same except for their pasts leads to such worlds, or ends early in one of
+-- What is done to two worlds that differ in their pasts alone leads to two that do, or ends early in one of
 -- them.
 use Rattle.std.proofs.Common.{◌≡◌, ℕ, ◌-◌, ◌+◌, zero, suc, Bool, true, false, cond, List, [], ◌∷◌, ◌++◌, map, Option, Some, None, Result, Ok, Err, refl, sym, ap, subst, ◌∙◌, append_assoc}
 use Rattle.std.specs.Prelude.{slice_get, get_or}
@@ -78,7 +78,7 @@ pub record GoAlike (one other : Went) : Type 0 where
   pub said : one.said ≡ other.said
   pub halt : one.halt ≡ other.halt
 
--- it isn't told what came of an event
+-- it doesn't learn what came of an event
 pub record GoShort (one other : Went) : Type 0 where
   pub cut : one.halt ≡ Some Untold
   pub front : StartWith other.said one.said
@@ -156,7 +156,7 @@ ending_alike n Unreadable x h k same = went_alike x h k _ None same
 -- ---- what is done
 
 module _ (nodes : Nodes) (exact : AreExact nodes) where
-  -- what happened is what such nodes do, and where it ended also what isn't in the run
+  -- what happened is what these nodes do, and if it ended also what isn't in the run
   abbrev pub FitsBy : Option Halt → World → Type 0
   FitsBy None w = AreLed nodes w.turns
   FitsBy (Some why) w = AreLed nodes (with_over w.turns w.over)
@@ -189,7 +189,7 @@ module _ (nodes : Nodes) (exact : AreExact nodes) where
 
   -- ---- an event at a node
 
-  -- what isn't in the run, as it has too many bytes of messages, is the same of both
+  -- what isn't in the run, as it has too many bytes of messages, is the same for both
   unless_together : (w v : World) (one other : Went) (a b : Option Halt) → one.halt ≡ a → other.halt ≡ b → SameWorld w v
       → (AreLed nodes one.world.turns → AreLed nodes other.world.turns → GoAlike one other)
       → with_over w.turns w.over ≡ one.world.turns → with_over v.turns v.over ≡ other.world.turns

@@ -1,4 +1,4 @@
--- By turns that ask the same of a node, from the first seat on, the same comes.
+-- By turns that ask the same for a node, from the first seat on, the same comes.
 use Rattle.std.proofs.Common.{◌≡◌, ℕ, ◌==◌, Bool, true, false, cond, List, [], ◌∷◌, ◌++◌, refl, sym, ap, subst, ◌∙◌}
 use Rattle.std.specs.List.{AllByRecursion}
 use Rattle.std.proofs.lemmas.Bool.{eq-eqb}
@@ -80,7 +80,7 @@ led_front nodes front rest led =
     (subst (λ (turns : List Turn). Path nodes n nodes.first turns (led.ends n)) (turns_join n front rest) (led.paths n)) in
     record { ends = λ n. (parts n).mid; paths = λ n. (parts n).first; well = well_front front rest led.well }
 
--- a path goes on by crashes
+-- a path continues by crashes
 path_crashes : (nodes : Nodes) → MayCrash nodes → (n : ℕ) (old mid : nodes.Seat) (turns rest : List Turn) → AreCrashes rest → Path nodes n old turns mid → (new : nodes.Seat) × Path nodes n old (turns ++ rest) new
 path_crashes nodes may n old mid [] [] crashes path = (mid, path)
 path_crashes nodes may n old mid [] (Does k doing aim outcome ∷ rest) crashes path = absurd crashes
@@ -152,7 +152,7 @@ paths_same nodes exact n (turn ∷ turns) (also ∷ others) old was new now same
     paths_same nodes exact n turns others a.0 b.0 new now (tail_same (plain_turn turn) (plain_turn also) (plain_turns turns) (plain_turns others) same) well.1 fine.1
     (turn_same nodes exact n turn also old was a.0 b.0 (head_same (plain_turn turn) (plain_turn also) (plain_turns turns) (plain_turns others) same) well.0 fine.0 at a.1 b.1) a.2 b.2
 
--- A node that was asked the same by was, and is asked this now, comes to the same.
+-- A node that was asked the same by was, and is asked this now, gives the same.
 pub asked_same : (nodes : Nodes) → AreExact nodes → (n : ℕ) (doing : Doing) (aim : FaultTarget) (turns others : List Turn) (one other : Outcome) → plain_turns turns ≡ plain_turns others
     → AreLed nodes (turns ++ Does n doing aim one ∷ []) → AreLed nodes (others ++ Does n doing aim other ∷ []) → plain_outcome one ≡ plain_outcome other
 asked_same nodes exact n doing aim turns others one other same a b =

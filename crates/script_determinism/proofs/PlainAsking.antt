@@ -339,7 +339,7 @@ module _ (v : View) (m : Machine) (g : Gateway) (conn : ℕ) (s : Session) where
       (both (log_full v) (Refused LogFull) (Proposes (flying v (plain_session s) [] (Other ∷ []) 0 (Querying q)) (Other ∷ []) Nothing) (Refused LogFull) (Proposes (flying v s [] (Other ∷ []) 0 (Querying q)) (Other ∷ []) Nothing) refl refl)
       (read_at s.tx q a)
 
--- A request comes to the same without them,
+-- A request gives the same without them,
 pub request_plain : (v : View) (m : Machine) (g : Gateway) (conn : ℕ) (r : Request) (a : List Answer) → plain_turned (on_request v m (plain_gate g) conn r a) ≡ plain_turned (on_request v m g conn r a)
 unfolding on_request
 request_plain v m g conn r a =

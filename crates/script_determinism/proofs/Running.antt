@@ -31,7 +31,7 @@ use Rattle.script_determinism.proofs.Going as going
 
 -- ---- stages
 
--- where a script is, except for what happened and what is to come
+-- if a script is, except for what happened and what is to come
 data Form : Type 0 where
   Before : Form
   Among : Beside → Form

@@ -47,7 +47,7 @@ none_left : (a : List Answer) → 0 ≡ length a → map plain_answer a ≡ []
 none_left [] e = refl
 none_left (x ∷ xs) e = absurd (omega arith)
 
--- none behind the first
+-- none after the first
 sole_left : (a : List Answer) → 1 ≡ suc (length a) → map plain_answer a ≡ []
 sole_left a e = none_left a (omega arith)
 

@@ -79,7 +79,7 @@ inside_plain m g conn s x ss rows (Ended to r) =
     both (no_pages pages) (told_inside None s x ss rows to x.turn r) (told_inside hinders s x ss rows to true r) (told_inside None s x ss rows to x.turn (plain_ran r)) (told_inside hinders s x ss rows to true (plain_ran r))
     (inside_told None s x ss rows to x.turn r) (inside_told hinders s x ss rows to true r)
 
--- statements whose runs end alike come to the same
+-- statements whose runs end alike give the same
 pub outside_same : (v : View) (m : Machine) (g : Gateway) (conn : ℕ) (s : Session) (ss : List Statement) (rows : Bool) (e f : Ending) → plain_end e ≡ plain_end f
     → plain_turned (outside v m g conn s ss rows e) ≡ plain_turned (outside v m g conn s ss rows f)
 outside_same v m g conn s ss rows e f same = outside_plain v m g conn s ss rows e ∙ ap (λ (x : Ending). plain_turned (outside v m g conn s ss rows x)) same ∙ sym (outside_plain v m g conn s ss rows f)

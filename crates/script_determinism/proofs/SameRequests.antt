@@ -85,7 +85,7 @@ module _ (v : View) (m : Machine) (g : Gateway) (conn : ℕ) (a b : List Answer)
         ∙ sym (ap plain_turned other)
   ]
 
--- A request comes to the same by any answers of cells that are enough, except for the numbers of
+-- A request gives the same by any answers of cells that are enough, except for the numbers of
 -- transactions.
 pub asked_same : (v : View) (m : Machine) (g : Gateway) (conn : ℕ) (request : Request) (a b : List Answer)
     → AllowsFor cells Cells (handed v m g conn request) a → AllowsFor cells Cells (handed v m g conn request) b → AllByRecursion IsAmple a → AllByRecursion IsAmple b

@@ -21,7 +21,7 @@ use Rattle.script_determinism.specs.CoreSteps.{IsAmple, plain_answer, IsAlone, I
 use Rattle.script_determinism.proofs.SameSteps.{raft_same, raft_beside, beside}
 use Rattle.script_determinism.proofs.SameTurns.{AreAlike, turn_same, turn_alone, alone_of}
 
--- ---- answers one behind the other
+-- ---- answers one after the other
 
 front_ample : (a b : List Answer) → AllByRecursion IsAmple (a ++ b) → AllByRecursion IsAmple a
 front_ample [] b h = tt

@@ -118,7 +118,7 @@ told_same : (o : Option (List Server)) (w v u : Core) → ExactTold o w v → Ex
 told_same None w v u p q = p ∙ sym q
 told_same (Some servers) w v u p q = (step_same (due.Servers servers) p.0 q.0 w v u p.1 q.1).1
 
--- where the same is told of the same
+-- if the same is told of the same
 told_alike : (o r : Option (List Server)) (w x v u : Core) → r ≡ o → x ≡ w → ExactTold o w v → ExactTold r x u → v ≡ u
 told_alike o r w x v u e f p q =
     told_same o w v u p (subst (λ (s : Option (List Server)). ExactTold s w u) e (subst (λ (z : Core). ExactTold r z u) f q))
@@ -177,7 +177,7 @@ compacts_same w v u p q =
 
 -- ---- what no turn changes
 
--- links, and whether there are links and readers
+-- peer connections, and whether there are peer connections and readers
 abbrev pub beside : Core → List Link × Bool × Bool
 beside w = (w.links, w.view.links, w.view.readers)
 

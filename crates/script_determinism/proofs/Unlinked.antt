@@ -1,4 +1,4 @@
--- Without links no connection comes to carry a peer's messages, and without readers no query is lent: what comes of a request is told.
+-- Without peer connections no connection comes to carry a peer's messages, and without readers no query is lent: what comes of a request is told.
 use Rattle.std.proofs.Common.{◌≡◌, ℕ, Bool, true, false, true≢false, cond, ◌&&◌, not, List, [], ◌∷◌, length, map, Option, Some, None, Result, Ok, Err}
 use Rattle.std.specs.Prelude.{◌==◌, nat_lt, nat_le}
 use Rattle.wire_words.specs.declared.value.Value.{Value}

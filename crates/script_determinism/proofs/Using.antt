@@ -57,7 +57,7 @@ module _ (all : List Outcome) where
   abbrev AlwaysUses : (World → Went) → Type 0
   AlwaysUses go = (w : World) → Used w → Uses (go w)
 
-  -- where events end with nothing done beside the run
+  -- if events end with nothing done outside the run
   ends_used : (w : World) → Used w → Ended w.turns w.over
   ends_used w u = record { rest = w.outcomes; is = ap (λ (over : Option Turn). outcomes_in w.turns ++ (outcomes_over over ++ w.outcomes)) u.over ∙ u.used }
 
@@ -65,7 +65,7 @@ module _ (all : List Outcome) where
   either true x y p q = p
   either false x y p q = q
 
-  -- what is beside turns, outcomes and what was done last doesn't matter
+  -- what is besides turns, outcomes and what was done last doesn't matter
   record Beside (w v : World) : Type 0 where
     turns : v.turns ≡ w.turns
     outcomes : v.outcomes ≡ w.outcomes
@@ -322,7 +322,7 @@ pub over_behind : (turns rest : List Turn) (over : Option Turn) → with_over (t
 over_behind turns rest None = refl
 over_behind turns rest (Some turn) = append_assoc turns rest (turn ∷ [])
 
--- behind the turns that used all outcomes there are crashes alone
+-- after the turns that used all outcomes there are crashes alone
 pub only_crashes : (script : List ℕ) (outcomes : List Outcome) (turns rest : List Turn) → outcomes_in turns ≡ outcomes → (run script outcomes).turns ≡ turns ++ rest → AreCrashes (with_over rest (run script outcomes).over)
 only_crashes script outcomes turns rest uses is =
     let r = run script outcomes in

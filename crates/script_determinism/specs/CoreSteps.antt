@@ -22,18 +22,18 @@ use Rattle.raft_on_disk.specs.Replicas.{kept_of}
 abbrev pub IsAmple : Answer → Type 0
 IsAmple answer = answer ≢ Err NoMemory
 
--- an answer without the number of the transaction that its pages are told under
+-- an answer without the number of the transaction that its pages are listed under
 abbrev pub plain_answer : Answer → Answer
 plain_answer (Ok ran) = Ok (plain_ran ran)
 plain_answer (Err fault) = Err fault
 
--- the node has no links to other nodes, and no readers beside it
+-- the node has no peer connections to other nodes, and no readers that work for it
 pub record IsAlone (w : Core) : Type 0 where
   pub links : w.links ≡ []
   pub unlinked : w.view.links ≡ false
   pub unread : w.view.readers ≡ false
 
--- another event than what a reader tells
+-- another event than what a reader answers
 abbrev pub IsUnread : Event → Type 0
 IsUnread (events.ReadDone conn read) = ⊥
 IsUnread events.Timeout = Unit {0}
@@ -54,13 +54,13 @@ pub record IsSame (v u : Core) (one other : StepOutputs) (a b : List Answer) : T
   pub answers : map plain_answer a ≡ map plain_answer b
   pub alone : IsAlone v
 
--- From one core, with no links and no readers, an event leads to one core, by any answers of cells of which none is out of memory.
+-- From one core, with no peer connections and no readers, an event leads to one core, by any answers of cells of which none is out of memory.
 abbrev pub StepsAreDecided : Type 0
 StepsAreDecided = (event : Event) (w v u : Core) (one other : StepOutputs) (a b : List Answer) → IsUnread event → IsAlone w
     → StepsExactly cells Cells event w v one a → StepsExactly cells Cells event w u other b
     → AllByRecursion IsAmple a → AllByRecursion IsAmple b → IsSame v u one other a b
 
--- Over what was kept a start of an id leads to one core, which has no links and no readers if the start has none.
+-- Over what was kept a start of an id leads to one core, which has no peer connections and no readers if the start has none.
 abbrev pub StartsAreDecided : Type 0
 StartsAreDecided = (me : ℕ) (opening : List Server) (kept : Kept) (v u : Core)
     → StartsExactly me false false opening kept v → StartsExactly me false false opening kept u → (v ≡ u) × IsAlone v

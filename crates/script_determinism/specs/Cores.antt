@@ -27,7 +27,7 @@ pub data CoreSeat : Type 0 where
 abbrev pub stands_at : Core → Standing
 stands_at w = record { term = w.raft.term; role = w.raft.role; applied = w.raft.commit; databases = contents_in w.files }
 
--- A step of a node that has no links and no readers said this, by these answers.
+-- A step of a node that has no peer connections and no readers said this, by these answers.
 pub record StepsAt (w v : Core) (doing : Doing) (answers : List Answer) (outs : Outs) (standing : Standing) : Type 0 where
   pub alone : IsAlone w
   pub event : core.Event
@@ -37,7 +37,7 @@ pub record StepsAt (w v : Core) (doing : Doing) (answers : List Answer) (outs : 
   pub outs_are : outs ≡ outs_of said
   pub stands : standing ≡ stands_at v
 
--- A start over what was kept, in a cluster that was opened with so many voters; the engine is asked nothing.
+-- A start over what was kept, in a cluster that was opened with this many voters; the engine is asked nothing.
 pub record StartsAt (n : ℕ) (kept loaded : Kept) (v : Core) (doing : Doing) (answers : List Answer) (standing : Standing) : Type 0 where
   pub voters : ℕ
   pub is : doing ≡ Start voters

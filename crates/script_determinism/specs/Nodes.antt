@@ -38,7 +38,7 @@ pub record ComesWell (outcome : Outcome) : Type 0 where
   pub ends : EndsWell outcome.ending
   pub ample : AllByRecursion IsAmple outcome.answers
 
--- so of a turn; a crash is none of both
+-- so of a turn; a crash is neither
 abbrev pub GoesWell : Turn → Type 0
 GoesWell (Does n doing aim outcome) = ComesWell outcome
 GoesWell (Crashes n pick) = Unit {0}
@@ -59,7 +59,7 @@ pub record ComesTo (nodes : Nodes) (one other : Outcome) (new now : nodes.Seat) 
   pub outcome : plain_outcome one ≡ plain_outcome other
   pub core : nodes.core new ≡ nodes.core now
 
--- So it is of a step or a start, whichever call of the disk the line aims at, where all goes well; and of a crash.
+-- This holds for a step or a start, whichever call of the disk the line aims at, where all goes well; and of a crash.
 pub record AreExact (nodes : Nodes) : Type 0 where
   pub does : (n k also : ℕ) (doing : Doing) (aim aimed : FaultTarget) (one other : Outcome) (old was new now : nodes.Seat) →
       nodes.core old ≡ nodes.core was → nodes.leads n old (Does k doing aim one) new → nodes.leads n was (Does also doing aimed other) now →

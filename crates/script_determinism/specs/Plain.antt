@@ -1,4 +1,4 @@
--- What came of a script's events, without the numbers of transactions: an engine's answer has one, which no client is told.
+-- What came of a script's events, without the numbers of transactions: an engine's answer has one, which no client is sent.
 use Rattle.std.specs.Prelude.{List, map, Ok, Err}
 use Rattle.sql_engine.specs.declared.answer.StatementResult.{StatementResult}
 use Rattle.session_spec.specs.Engines.{Answer}

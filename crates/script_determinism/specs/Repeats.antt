@@ -8,7 +8,7 @@ use Rattle.script_runner.specs.Run.{Run, run, printed}
 use Rattle.script_determinism.specs.Plain.{plain_turns, plain_items}
 use Rattle.script_determinism.specs.Nodes.{Nodes, AreLed, AreExact, MayCrash}
 
--- The same is said, the fault is the same, and the same happened and was noted except for the numbers of
+-- Both say the same, with the same fault, and the same happened and was noted except for the numbers of
 -- transactions.
 pub record AreAlike (one other : Run) : Type 0 where
   pub said : one.said ≡ other.said
@@ -16,7 +16,7 @@ pub record AreAlike (one other : Run) : Type 0 where
   pub turns : plain_turns one.turns ≡ plain_turns other.turns
   pub journal : plain_items one.journal ≡ plain_items other.journal
 
--- In all that nodes do in it, also where that isn't in the run, each does what it does, and all goes well.
+-- In all that nodes do in it, also if that isn't in the run, each does what it does, and all goes well.
 abbrev pub IsLed : Nodes → Run → Type 0
 IsLed nodes r = AreLed nodes (with_over r.turns r.over)
 
@@ -24,7 +24,7 @@ IsLed nodes r = AreLed nodes (with_over r.turns r.over)
 abbrev pub StartWith : {A : Type 0} → List A → List A → Type 0
 StartWith {A} said front = (rest : List A) × (said ≡ front ++ rest)
 
--- One isn't told what came of an event, and has said a front of what the other says.
+-- One doesn't learn what came of an event, and has said a front of what the other says.
 pub record EndsBefore (one other : Run) : Type 0 where
   pub early : one.fault ≡ Some Untold
   pub front : StartWith other.said one.said
@@ -37,17 +37,17 @@ pub data Compared (one other : Run) : Type 0 where
 
 -- ---- the laws
 
--- So it is of any two runs of one script, whatever their outcomes, whose turns are those of such nodes.
+-- This holds for any two runs of one script, whatever their outcomes, whose turns are those of these nodes.
 abbrev pub RunsCompare : Nodes → Type 0
 RunsCompare nodes =
     AreExact nodes → (script : List ℕ) (one other : List Outcome) → IsLed nodes (run script one) → IsLed nodes (run script other) →
     Compared (run script one) (run script other)
 
--- a run that was told what came of each event
+-- a run that learned what came of each event
 abbrev pub IsWhole : Option Fault → Type 0
 IsWhole fault = fault ≢ Some Untold
 
--- A run that isn't told all prints a front of what a whole one prints, as it would where memory or the output ended it there.
+-- A run that doesn't learn all prints a front of what a whole one prints, as it would where memory or the output ended it there.
 abbrev pub FrontsRepeat : Nodes → Type 0
 FrontsRepeat nodes =
     AreExact nodes → (script : List ℕ) (one other : List Outcome) → IsLed nodes (run script one) → IsLed nodes (run script other) →

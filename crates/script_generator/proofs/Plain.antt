@@ -9,7 +9,7 @@ use Rattle.dq_base.specs.Names.{has_nul}
 use Rattle.wire_msgs.specs.Requests.{IsWritableRequest}
 use Rattle.script_generator.specs.Generated.{cell_of, value_of, statement, set_request}
 
--- two texts without a NUL, one behind the other
+-- two texts without a NUL, one after the other
 both_plain : (xs ys : List ℕ) → has_nul xs ≡ false → has_nul ys ≡ false → has_nul (xs ++ ys) ≡ false
 both_plain xs ys first second = list_any-append (λ (byte : ℕ). byte == 0) xs ys ∙ (λ i. first i || second i)
 

@@ -36,7 +36,7 @@ unfolding opening_bytes
 begins rest =
     ap (stream client_limit) (append_assoc version_word (request_bytes open_request) rest) ∙ version_first client_limit (request_bytes open_request ++ rest)
 
--- a request whose fields stand in a short body of whole words
+-- a request whose fields are in a short body of whole words
 asked : (request : Request) → AreFields dialects.Exact (request_line request).fields (body_bytes (request_line request).fields)
     → length (body_bytes (request_line request).fields) % 8 ≡ 0 → length (body_bytes (request_line request).fields) ≤ 1000 → Asks request (request_bytes request)
 asked request fields whole short =

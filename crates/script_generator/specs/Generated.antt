@@ -14,7 +14,7 @@ use Rattle.wire_msgs.specs.Requests.{request_bytes}
 unfoldable pub number_after : ℕ → ℕ
 number_after number = (number * 1103515245 + 12345) % 2147483648
 
--- the number of the write at a place, from 1, where the first one has the number that follows this one
+-- the number of the write at a place, from 1, if the first one has the number that follows this one
 unfoldable pub number_at : ℕ → ℕ → ℕ
 number_at number zero = number
 number_at number (suc before) = number_after (number_at number before)
@@ -66,12 +66,12 @@ restart_lines place = if place % 100 == 0 then codes "crash 3" ∷ codes "start 
 unfoldable pub write_lines : ℕ → ℕ → List (List ℕ)
 write_lines number place = bytes_line (set_bytes number) ∷ codes "settle 100" ∷ restart_lines place
 
--- the script of so many writes: that of one write more has the lines of this write behind it
+-- the script of this many writes: that of one write more has the lines of this write after it
 unfoldable pub script_lines : ℕ → ℕ → List (List ℕ)
 script_lines number zero = opening_lines
 script_lines number (suc writes) = script_lines number writes ++ write_lines (number_at number (suc writes)) (suc writes)
 
--- lines as a text, with an LF behind each
+-- lines as a text, with an LF after each
 unfoldable pub text_of : List (List ℕ) → List ℕ
 text_of lines = flat_map (λ line. line ++ codes "\n") lines
 

@@ -1,4 +1,4 @@
-//! The lines, as texts with an LF behind each.
+//! The lines, as texts with an LF after each.
 
 ghost use Rattle.std.specs.Prelude.{◌≡◌, IfOk, string_bytes};
 ghost use Rattle.script_generator.specs.Generated.{opening_lines, restart_lines, write_lines, text_of};
@@ -15,7 +15,7 @@ pub(crate) fn opening_text(alloc: Global) -> Result<String, AllocError>
     format!(in alloc; "nodes 3\ntimeout 1\nsettle 100\nconnect 1 1\nbytes 1 {digits}\nsettle 100\n")
 }
 
-/// The lines of a crash and a start, where they follow the write at this place.
+/// The lines of a crash and a start, if they follow the write at this place.
 #[tactic(auto, unfolding(crate::specs::Generated::restart_lines, crate::specs::Generated::text_of))]
 fn restart_text(place: u32) -> &'static str
     ensures { result.now ≡ text_of (restart_lines place) }

@@ -1,4 +1,4 @@
--- Numbers and words of a line are read exactly where they are spelled so.
+-- Numbers and words of a line are read exactly if they are encoded so.
 use Rattle.std.proofs.Common.{◌≡◌, ◌≢◌, ℕ, ◌<◌, ◌≤◌, ◌^◌, false, cond, eqb, ltb, leb, ◌&&◌, inl, inr, List, [], ◌∷◌, ◌++◌, length, take, drop, codes, Option}
 use Rattle.std.proofs.Common.{Some, None, option_map, refl, sym, ap, subst, ◌∙◌, take-append-drop, arith}
 use Rattle.std.specs.Prelude.{bytes_eq}
@@ -13,7 +13,7 @@ use Rattle.dq_base.proofs.Halves.{halves_cut, halves_of, decimal_no_space}
 use Rattle.script_grammar.specs.Events.{number, number_within, numbers_in, one_or_two}
 use Rattle.script_grammar.specs.Spelling.{IsNumbered, IsCounted, IsPaired}
 
--- what stands behind a word
+-- what follows a word
 pub behind_is : (word line text : List ℕ) → behind word line ≡ Some text → line ≡ word ++ text
 behind_is word line text e =
     let a = passed (bytes_eq (take (length word) line) word) (Some (drop (length word) line)) text e in
@@ -71,7 +71,7 @@ pub paired_is : (word line text : List ℕ) (both : ℕ × ℕ) → line ≡ wor
 unfolding one_or_two
 paired_is word line text both at e = paired_so word line text (halves text) both refl at e
 
--- ---- what is spelled so is read
+-- ---- what is encoded so is read
 
 pub again : (n : ℕ) → n < 2 ^ 32 → number (decimal n) ≡ Some n
 again n small = number_again (2 ^ 32) n (omega arith) small

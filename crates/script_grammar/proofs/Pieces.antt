@@ -2,7 +2,7 @@
 use Rattle.std.proofs.Common.{◌≡◌, ℕ, suc, ◌+◌, ◌-◌, ◌<◌, ◌≤◌, List, ◌∷◌, ◌++◌, length, get_or, take, drop, refl, sym, ap, ◌∙◌, arith}
 use Rattle.std.proofs.lemmas.List.{take-append-drop, drop-take, drop-drop, drop_more, get_or-take, get_or-drop, length-take, length-drop}
 
--- the first n bytes of a range, and the range behind them
+-- the first n bytes of a range, and the range after them
 pub range_split : (piece : List ℕ) (start end n : ℕ) → start + n ≤ end
     → take (end - start) (drop start piece) ≡ take n (take (end - start) (drop start piece)) ++ take (end - (start + n)) (drop (start + n) piece)
 range_split piece start end n fits =

@@ -22,7 +22,7 @@ part_taken old new (Some rest) part separator t =
     ap (λ (bytes : List ℕ). bytes ++ rest) t.taken ∙ append_assoc part (separator ++ new.ahead) rest
     ∙ ap (λ (bytes : List ℕ). part ++ bytes) (append_assoc separator new.ahead rest) ∙ sym (append_assoc part separator (new.ahead ++ rest))
 
--- A line goes on by a part.
+-- A line continues by a part.
 pub line_grows : (first before : Option (List ℕ)) (left : Option (List ℕ)) (old new : Cursor) (part separator : List ℕ)
     → TakesLine first before old.line [] → Keeps before (to_come old left) → TakesPart old new part separator
     → TakesLine first (to_come new left) new.line separator

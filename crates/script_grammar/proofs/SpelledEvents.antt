@@ -1,4 +1,4 @@
--- An event is read exactly where its bytes spell it.
+-- An event is read exactly if its bytes encode it.
 use Rattle.std.proofs.Common.{◌≡◌, ℕ, ◌<◌, ◌^◌, inl, inr, List, ◌++◌, length, codes, Some, None, option_map, refl, ap, subst, ◌∙◌}
 use Rattle.std.specs.Fmt.{decimal}
 use Rattle.dq_base.specs.Texts.{halves, behind}
@@ -12,9 +12,9 @@ use Rattle.script_grammar.specs.Spelling.{AreHex, IsNumbered, IsPaired, IsEvent}
 use Rattle.script_grammar.proofs.HexWords.{hex_spelled, hex_read}
 use Rattle.script_grammar.proofs.LineNumbers.{behind_is, numbered_is, counted_is, paired_is, again, no_space, within_again, one_again, two_again}
 
--- ---- what is read is spelled so
+-- ---- what is read is encoded so
 
--- a word with a number behind it
+-- a word with a number after it
 numbered : (word line text : List ℕ) (make : ℕ → Event) (said : Event) → ((n : ℕ) → IsNumbered word n line → IsEvent (make n) line)
     → behind word line ≡ Some text
     → option_map make (number text) ≡ Some said → IsEvent said line
@@ -119,7 +119,7 @@ event_is line said e =
       ]
     ]
 
--- ---- what is spelled so is read
+-- ---- what is encoded so is read
 
 read_number : (make : ℕ → Event) (n : ℕ) → n < 2 ^ 32 → option_map make (number (decimal n)) ≡ Some (make n)
 read_number make n small = rw (again n small) refl

@@ -1,4 +1,4 @@
--- A line is read exactly where its bytes spell it.
+-- A line is read exactly if its bytes encode it.
 use Rattle.std.proofs.Common.{◌≡◌, ℕ, ◌<◌, ◌≤◌, ◌+◌, ◌^◌, Bool, true, false, cond, ltb, leb, ◌&&◌, inl, inr, List, [], ◌∷◌, length, ◌++◌, codes, Option, Some}
 use Rattle.std.proofs.Common.{None, option_map, refl, ap, subst, ◌∙◌, arith}
 use Rattle.std.specs.List.{AllByRecursion, list_all}
@@ -33,7 +33,7 @@ ascii_test : (bytes : List ℕ) → AllByRecursion (λ b. b < 128) bytes → lis
 ascii_test [] h = refl
 ascii_test (b ∷ bytes) h = and_from (ltb b 128) (list_all (λ b. ltb b 128) bytes) (lt-ltb b 128 h.0) (ascii_test bytes h.1)
 
--- ---- what is read is spelled so
+-- ---- what is read is encoded so
 
 nodes_are : (line text : List ℕ) (said : ScriptLine) → behind (codes "nodes ") line ≡ Some text → nodes_of text ≡ Some said → IsLineText said line
 unfolding nodes_of
@@ -61,7 +61,7 @@ show_is line text said at e =
     let a = mapped says.Show (number text) said e in
     subst (λ (s : ScriptLine). IsLineText s line) a.2 (numbered_is (codes "show ") line text a.0 (behind_is (codes "show ") line text at) a.1)
 
--- an aim and the event behind it
+-- an aim and the event after it
 aimed_is : (front : Option (FaultTarget × List ℕ)) (line : List ℕ) (said : ScriptLine)
     → ((aim : FaultTarget) (rest : List ℕ) (event : Event) → front ≡ Some (aim, rest) → may_be_aimed event ≡ true → IsEvent event rest → IsAimed aim event line)
     → aimed_of front ≡ Some said → IsLineText said line
@@ -163,7 +163,7 @@ line_spelled said line e =
     let fit = and_parts (leb (length line) line_limit) (list_all (λ b. ltb b 128) line) a.0 in
     record { short = leb-true (length line) line_limit fit.0; ascii = ascii_so line fit.1; text = text_is line (is_blank line) said refl a.1 }
 
--- ---- what is spelled so is read
+-- ---- what is encoded so is read
 
 -- what a line of this text says
 abbrev said_by : List ℕ → Option ScriptLine

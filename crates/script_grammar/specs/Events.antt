@@ -27,7 +27,7 @@ abbrev pub numbers_in : Option (List ℕ × List ℕ) → List ℕ → Option (�
 numbers_in None text = option_map (λ (n : ℕ). (n, 0)) (number text)
 numbers_in (Some both) text = number both.0 >>= λ (n : ℕ). option_map (λ (m : ℕ). (n, m)) (number both.1)
 
--- one number, or two with a space between; where the second is left out it is 0
+-- one number, or two with a space between; if the second is left out it is 0
 unfoldable pub one_or_two : List ℕ → Option (ℕ × ℕ)
 one_or_two text = numbers_in (halves text) text
 
@@ -51,7 +51,7 @@ bytes_of text = do
   bytes ← hex_bytes both.1
   Some (Bytes connection bytes)
 
--- an event that leaves disks alone or is over all of them, or one at machines
+-- an event that leaves disks alone or is over all of them, or one at state machines
 unfoldable pub other_event : List ℕ → Option Event
 other_event line =
     or_else (behind (codes "connect ") line) connect_of
@@ -61,7 +61,7 @@ other_event line =
     (or_else (behind (codes "take ") line) (λ text. option_map Take (number text))
     None))))
 
--- a line that has something happen: words, each behind one space
+-- a line that has something happen: words, each after one space
 unfoldable pub event_of : List ℕ → Option Event
 event_of line =
     or_else (behind (codes "timeout ") line) (λ text. option_map Timeout (number text))

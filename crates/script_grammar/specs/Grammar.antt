@@ -11,7 +11,7 @@ use Rattle.script_grammar.specs.declared.grammar.FaultTarget.TheVariants.{Nothin
 use Rattle.script_grammar.specs.declared.grammar.ScriptLine.{ScriptLine}
 use Rattle.script_grammar.specs.declared.grammar.ScriptLine.TheVariants as says
 
--- so many voters and further nodes may be in one cluster
+-- this many voters and further nodes may be in one cluster
 abbrev pub is_cluster : ℕ → ℕ → Bool
 is_cluster voters spare = (nat_le 1 voters && nat_le voters 7) && nat_le (voters + spare) 9
 
@@ -25,7 +25,7 @@ nodes_of text = do
 abbrev pub call_of : List ℕ → Option ℕ
 call_of word = number_within 1 4294967295 word
 
--- what `stop K P` aims, and what stands behind it
+-- what `stop K P` aims, and what follows it
 unfoldable pub stop_of : List ℕ → Option (FaultTarget × List ℕ)
 stop_of text = do
   both ← halves text
@@ -34,18 +34,18 @@ stop_of text = do
   pick ← number rest.0
   Some (Stop call pick, rest.1)
 
--- what `fail K` aims, and what stands behind it
+-- what `fail K` aims, and what follows it
 unfoldable pub fail_of : List ℕ → Option (FaultTarget × List ℕ)
 fail_of text = do
   both ← halves text
   call ← call_of both.0
   Some (Fail call, both.1)
 
--- an event under an aim, where it may be aimed
+-- an event under an aim, if it may be aimed
 abbrev pub under : FaultTarget → Event → Option ScriptLine
 under aim event = if may_be_aimed event then Some (says.Event event aim) else None
 
--- an aim, and the event behind it
+-- an aim, and the event after it
 unfoldable pub aimed_of : Option (FaultTarget × List ℕ) → Option ScriptLine
 aimed_of front = do
   both ← front
@@ -71,6 +71,6 @@ abbrev pub is_blank : List ℕ → Bool
 is_blank [] = true
 is_blank (b ∷ bytes) = b == 35
 
--- what a line says, where it is in the grammar
+-- what a line says, if it is in the grammar
 unfoldable pub line_of : List ℕ → Option ScriptLine
 line_of line = if is_fit line then (if is_blank line then Some says.Blank else words_line line) else None

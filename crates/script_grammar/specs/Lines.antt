@@ -25,7 +25,7 @@ pub record Cursor : Type 0 where
   pub line : List ℕ
   pub ahead : List ℕ
 
--- what is still to come: the bytes that the reader holds, and then those that the source has left, where they are told
+-- what is still to come: the bytes that the reader holds, and then those that the source has left, if they are known
 abbrev pub to_come : Cursor → Option (List ℕ) → Option (List ℕ)
 to_come cursor left = prepend_known cursor.ahead left
 
@@ -35,12 +35,12 @@ pub record TakesPart (old new : Cursor) (part separator : List ℕ) : Type 0 whe
   pub taken : old.ahead ≡ part ++ (separator ++ new.ahead)
   pub no_feed : HasNoFeed part
 
--- A line was taken off the front of what was to come, and the separator behind it.
+-- A line was taken off the front of what was to come, and the separator after it.
 pub record TakesLine (before after : Option (List ℕ)) (line separator : List ℕ) : Type 0 where
   pub taken : Consumes before after (line ++ separator)
   pub no_feed : HasNoFeed line
 
--- how a line of these bytes ended: behind it stood an LF, nothing more, or more than a line may have
+-- how a line of these bytes ended: after it stood an LF, nothing more, or more than a line may have
 abbrev pub EndsSo : Option (List ℕ) → Option (List ℕ) → List ℕ → LineEnd → Type 0
 EndsSo before after line Feed = TakesLine before after line (10 ∷ []) × (length line ≤ line_limit)
 EndsSo before after line Input = TakesLine before after line [] × (length line ≤ line_limit) × IsAtEnd after

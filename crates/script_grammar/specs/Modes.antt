@@ -1,4 +1,4 @@
--- Which lines may stand behind a mode line, and which aim at a disk call.
+-- Which lines may follow a mode line, and which aim at a disk call.
 use Rattle.std.specs.Prelude.{Bool, true, false, not}
 use Rattle.script_grammar.specs.declared.events.Event.{Event}
 use Rattle.script_grammar.specs.declared.events.Event.TheVariants.{Timeout, Beat, Connect, Bytes, Hangup, Deliver, Settle, Crash, Start, Put, Take}
@@ -9,7 +9,7 @@ use Rattle.script_grammar.specs.declared.grammar.Mode.TheVariants as mode
 use Rattle.script_grammar.specs.declared.grammar.ScriptLine.{ScriptLine}
 use Rattle.script_grammar.specs.declared.grammar.ScriptLine.TheVariants as says
 
--- whether an event is one of machines that apply one list of commands
+-- whether an event is one of state machines that apply one list of commands
 abbrev pub is_for_machines : Event → Bool
 is_for_machines (Timeout node) = false
 is_for_machines (Beat node) = false
@@ -27,7 +27,7 @@ abbrev pub is_event_of : Mode → Event → Bool
 is_event_of mode.Pages event = is_for_machines event
 is_event_of mode.Nodes event = not (is_for_machines event)
 
--- whether a line may stand behind the mode line of a mode: each mode has its events, `show`, empty lines and comments
+-- whether a line may follow the mode line of a mode: each mode has its events, `show`, empty lines and comments
 abbrev pub may_follow : Mode → ScriptLine → Bool
 may_follow mode says.Blank = true
 may_follow mode (says.Nodes voters spare) = false

@@ -1,4 +1,4 @@
--- How a line of a script is spelled.
+-- How a line of a script is encoded.
 use Rattle.std.specs.Prelude.{◌≡◌, ◌<◌, ◌≤◌, ◌+◌, ◌^◌, ◌/◌, ◌%◌, ◌⊎◌, ◌++◌, ⊤, ℕ, List, [], ◌∷◌, length, slice_index, codes, true}
 use Rattle.std.specs.List.{AllByRecursion}
 use Rattle.std.specs.Fmt.{decimal}
@@ -11,7 +11,7 @@ use Rattle.script_grammar.specs.declared.grammar.FaultTarget.TheVariants.{Nothin
 use Rattle.script_grammar.specs.declared.grammar.ScriptLine.{ScriptLine}
 use Rattle.script_grammar.specs.declared.grammar.ScriptLine.TheVariants as says
 
--- the digit stands for a number below 16, in either case
+-- the digit represents a number below 16, in either case
 abbrev pub IsHexDigit : ℕ → ℕ → Type 0
 IsHexDigit digit value =
     (value < 16) × ((digit ≡ slice_index (codes "0123456789abcdef") value) ⊎ (digit ≡ slice_index (codes "0123456789ABCDEF") value))
@@ -22,18 +22,18 @@ AreHex [] [] = ⊤
 AreHex (high ∷ low ∷ digits) (byte ∷ bytes) = IsHexDigit high (byte / 16) × IsHexDigit low (byte % 16) × AreHex digits bytes
 AreHex digits bytes = ⊥
 
--- a word with the space behind it, and a number below 2 ^ 32 in decimal
+-- a word with the space after it, and a number below 2 ^ 32 in decimal
 pub record IsNumbered (word : List ℕ) (number : ℕ) (text : List ℕ) : Type 0 where
   pub in_range : number < 2 ^ 32
   pub parts : text ≡ word ++ decimal number
 
--- a word with the space behind it, and a number that is in a range
+-- a word with the space after it, and a number that is in a range
 pub record IsCounted (least most : ℕ) (word : List ℕ) (number : ℕ) (text : List ℕ) : Type 0 where
   pub at_least : least ≤ number
   pub at_most : number ≤ most
   pub numbered : IsNumbered word number text
 
--- a word with the space behind it, and two numbers with a space between, the second of which may be left out where it is 0
+-- a word with the space after it, and two numbers with a space between, the second of which may be left out where it is 0
 pub record IsPaired (word : List ℕ) (first second : ℕ) (text : List ℕ) : Type 0 where
   pub first_in_range : first < 2 ^ 32
   pub second_in_range : second < 2 ^ 32
@@ -118,8 +118,8 @@ IsLineText (says.Pages machines) text = IsCounted 1 9 (codes "pages ") machines 
 IsLineText (says.Show number) text = IsNumbered (codes "show ") number text
 IsLineText (says.Event event aim) text = IsAimed aim event text
 
--- The bytes spell the line: they are its text, in ASCII, and no more than a line may have. That no LF is among them is in
--- how a script is cut into lines.
+-- The bytes encode the line: they are its text, in ASCII, and no more than a line may have. That no LF is among them is in
+-- how a script is split into lines.
 pub record Spells (line : ScriptLine) (bytes : List ℕ) : Type 0 where
   pub short : length bytes ≤ line_limit
   pub ascii : AllByRecursion (λ b. b < 128) bytes

@@ -9,12 +9,12 @@ use dq_base::{Bytes, decimal_u32, halves_of};
 use hex::FromHexError;
 use std::alloc::{AllocError, Global};
 
-/// Something that a script has happen to the cluster, or to machines.
+/// Something that a script has happen to the cluster, or to state machines.
 #[derive(Debug, Drop)]
 pub enum Event {
     /// An election timeout at a node.
     Timeout { node: u32 },
-    /// A beat at a node.
+    /// A heartbeat at a node.
     Beat { node: u32 },
     /// A client opens a connection to a node.
     Connect { node: u32, connection: u32 },
@@ -24,15 +24,15 @@ pub enum Event {
     Hangup { connection: u32 },
     /// A message arrives.
     Deliver { message: u32 },
-    /// The least message that never arrived does, until none is left or so many, from 1 to 10,000, did.
+    /// The least message that never arrived does, until none is left or this many, from 1 to 10,000, did.
     Settle { count: u32 },
     /// A node stops, and its disk takes the outcome of a pick.
     Crash { node: u32, pick: u32 },
     /// A node starts over its disk.
     Start { node: u32 },
-    /// Bytes that may be a command go to the list that machines apply.
+    /// Bytes that may be a command go to the list that state machines apply.
     Put { bytes: Bytes },
-    /// A machine applies the next command of the list.
+    /// A state machine applies the next command of the list.
     Take { machine: u32 },
 }
 
@@ -51,7 +51,7 @@ fn hex_in(alloc: Global, word: &[u8]) -> Result<Option<Bytes>, AllocError>
     }
 }
 
-/// `connect N C`, behind its first word.
+/// `connect N C`, after its first word.
 #[tactic(auto, unfolding(crate::specs::Events::connect_of))]
 fn connect_in(text: &[u8]) -> Option<Event>
     ensures { result ≡ connect_of text.now }
@@ -62,7 +62,7 @@ fn connect_in(text: &[u8]) -> Option<Event>
     Some(Event::Connect { node, connection })
 }
 
-/// `bytes C HEX`, behind its first word.
+/// `bytes C HEX`, after its first word.
 #[tactic(auto, unfolding(crate::specs::Events::bytes_of))]
 fn bytes_in(alloc: Global, text: &[u8]) -> Result<Option<Event>, AllocError>
     ensures { IfOk result (λ event. event ≡ bytes_of text.now) }
@@ -79,7 +79,7 @@ fn bytes_in(alloc: Global, text: &[u8]) -> Result<Option<Event>, AllocError>
     Ok(Some(Event::Bytes { connection, bytes }))
 }
 
-/// `put HEX`, behind its first word.
+/// `put HEX`, after its first word.
 fn put_in(alloc: Global, digits: &[u8]) -> Result<Option<Event>, AllocError>
     ensures { IfOk result (λ event. event ≡ option_map Event.Put (hex_bytes digits.now)) }
 {
@@ -87,7 +87,7 @@ fn put_in(alloc: Global, digits: &[u8]) -> Result<Option<Event>, AllocError>
     Ok(bytes.map(|bytes| Event::Put { bytes }))
 }
 
-/// An event that leaves disks alone or is over all of them, or one at machines.
+/// An event that leaves disks alone or is over all of them, or one at state machines.
 #[tactic(auto, unfolding(crate::specs::Events::other_event))]
 fn other_in(alloc: Global, line: &[u8]) -> Result<Option<Event>, AllocError>
     ensures { IfOk result (λ event. event ≡ other_event line.now) }
@@ -110,7 +110,7 @@ fn other_in(alloc: Global, line: &[u8]) -> Result<Option<Event>, AllocError>
     Ok(None)
 }
 
-/// A line that has something happen: words, each behind one space.
+/// A line that has something happen: words, each after one space.
 #[tactic(auto, unfolding(crate::specs::Events::event_of))]
 pub(crate) fn event_in(alloc: Global, line: &[u8]) -> Result<Option<Event>, AllocError>
     ensures { IfOk result (λ event. event ≡ event_of line.now) }
@@ -159,7 +159,7 @@ impl Event {
         }
     }
 
-    /// Whether the event is one of machines that apply one list of commands.
+    /// Whether the event is one of state machines that apply one list of commands.
     pub fn is_for_machines(&self) -> bool
         ensures { result ≡ is_for_machines self.now }
     {

@@ -5,7 +5,7 @@ use std::alloc::{AllocError, AllocFailed};
 /// Why what a line says could not be done: the script ends there.
 #[derive(Clone, Copy, Debug)]
 pub enum EventFault {
-    /// The line names what isn't there, or may not stand there.
+    /// The line names what isn't there, or must not be there.
     NotThere,
     /// The event is one more than a script may have, or it makes more bytes of messages than a script may make.
     TooMany,

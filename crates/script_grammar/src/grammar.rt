@@ -41,7 +41,7 @@ impl FaultTarget {
 pub enum Mode {
     /// A cluster of nodes.
     Nodes,
-    /// Machines that apply one list of commands.
+    /// State machines that apply one list of commands.
     Pages,
 }
 
@@ -52,9 +52,9 @@ pub enum ScriptLine {
     Blank,
     /// The mode line of a cluster of nodes: from 1 to 7 that vote, and further ones, at most 9 in all.
     Nodes { voters: u32, spare: u32 },
-    /// The mode line of machines that apply one list of commands, and how many there are, from 1 to 9.
+    /// The mode line of state machines that apply one list of commands, and how many there are, from 1 to 9.
     Pages { machines: u32 },
-    /// A node or machine is to be shown.
+    /// A node or state machine is to be shown.
     Show { number: u32 },
     /// An event, and what happens to its node's disk.
     Event { event: Event, aim: FaultTarget },
@@ -63,7 +63,7 @@ pub enum ScriptLine {
 impl ScriptLine {
     ghost use Rattle.script_grammar.specs.Modes.{may_follow};
 
-    /// Whether the line may stand behind the mode line of a mode.
+    /// Whether the line may follow the mode line of a mode.
     pub fn may_follow(&self, mode: Mode) -> bool
         ensures { result ≡ may_follow mode self.now }
     {
@@ -78,14 +78,14 @@ impl ScriptLine {
     }
 }
 
-/// Whether so many voters and further nodes may be in one cluster.
+/// Whether this many voters and further nodes may be in one cluster.
 fn is_cluster(voters: u32, spare: u32) -> bool
     ensures { result ≡ is_cluster voters spare }
 {
     voters >= 1 && voters <= 7 && u64::from(voters) + u64::from(spare) <= 9
 }
 
-/// `nodes V` and `nodes V S`, behind the first word.
+/// `nodes V` and `nodes V S`, after the first word.
 #[tactic(auto, unfolding(crate::specs::Grammar::nodes_of))]
 fn nodes_in(text: &[u8]) -> Option<ScriptLine>
     ensures { result ≡ nodes_of text.now }
@@ -97,7 +97,7 @@ fn nodes_in(text: &[u8]) -> Option<ScriptLine>
     Some(ScriptLine::Nodes { voters, spare })
 }
 
-/// What `stop K P` aims, and what stands behind it; its first word is left out.
+/// What `stop K P` aims, and what follows it; its first word is left out.
 #[tactic(auto, unfolding(crate::specs::Grammar::stop_of))]
 fn stop_in(text: &[u8]) -> Option<(FaultTarget, &[u8])>
     ensures { option_map (λ both. (both.0, both.1.now)) result ≡ stop_of text.now }
@@ -109,7 +109,7 @@ fn stop_in(text: &[u8]) -> Option<(FaultTarget, &[u8])>
     Some((FaultTarget::Stop { call, pick }, event))
 }
 
-/// What `fail K` aims, and what stands behind it; its first word is left out.
+/// What `fail K` aims, and what follows it; its first word is left out.
 #[tactic(auto, unfolding(crate::specs::Grammar::fail_of))]
 fn fail_in(text: &[u8]) -> Option<(FaultTarget, &[u8])>
     ensures { option_map (λ both. (both.0, both.1.now)) result ≡ fail_of text.now }
@@ -119,7 +119,7 @@ fn fail_in(text: &[u8]) -> Option<(FaultTarget, &[u8])>
     Some((FaultTarget::Fail { call }, event))
 }
 
-/// An aim, and the event behind it.
+/// An aim, and the event after it.
 #[tactic(auto, unfolding(crate::specs::Grammar::aimed_of))]
 fn aimed_in(
     alloc: Global,
@@ -191,7 +191,7 @@ fn says_nothing(line: &[u8]) -> bool
 }
 
 /// What a line says, or `None` where it isn't in the grammar. What depends on the run, as whether a node, a connection or a
-/// message is there, isn't looked at. It copies the bytes that a line spells in hex, and nothing else.
+/// message is there, isn't looked at. It copies the bytes that a line encodes in hex, and nothing else.
 #[tactic(auto, unfolding(crate::specs::Grammar::line_of))]
 pub fn line_in(alloc: Global, line: &[u8]) -> Result<Option<ScriptLine>, AllocError>
     ensures { IfOk result (λ said. said ≡ line_of line.now) }

@@ -22,7 +22,7 @@ const PIECE_SIZE: usize = 65_536;
 /// How a line ended.
 #[derive(Clone, Copy, Debug)]
 pub enum LineEnd {
-    /// An LF stood behind it.
+    /// An LF followed it.
     Feed,
     /// The input ended; a line without bytes is then none.
     Input,
@@ -80,7 +80,7 @@ impl Model for LineReader {
     ghost invariant = { λ r. (r.start ≤ r.end) × (r.end ≤ vec_len r.piece) × (0 < vec_len r.piece) };
 }
 
-/// How many bytes stand before the first LF, or how many there are.
+/// How many bytes are before the first LF, or how many there are.
 fn before_feed(bytes: &[u8]) -> usize
     ensures within { result ≤ length bytes.now }
     ensures before { HasNoFeed (take result bytes.now) }
@@ -112,7 +112,7 @@ impl LineReader {
         self.line.as_slice()
     }
 
-    /// Reads the next piece, where nothing is held. Answers how many bytes it has: 0 at the end of the input.
+    /// Reads the next piece, if nothing is held. Answers how many bytes it has: 0 at the end of the input.
     fn refill<S: Source>(&mut self, source: &mut S) -> Result<usize, Failed>
         requires { self.old.ahead ≡ [] }
         ensures line { self.new.line ≡ self.old.line }

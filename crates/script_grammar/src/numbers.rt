@@ -18,7 +18,7 @@ pub(crate) fn number_within(least: u32, most: u32, word: &[u8]) -> Option<u32>
     }
 }
 
-/// One number, or two with a space between; where the second is left out it is 0.
+/// One number, or two with a space between; if the second is left out it is 0.
 #[tactic(auto, unfolding(crate::specs::Events::one_or_two))]
 pub(crate) fn one_or_two(text: &[u8]) -> Option<(u32, u32)>
     ensures { result ≡ one_or_two text.now }

@@ -43,7 +43,7 @@ impl Usage {
         })
     }
 
-    /// With so many bytes of messages more; `None` where a script doesn't make as many.
+    /// With this many bytes of messages more; `None` where a script doesn't make as many.
     pub fn with_messages(self, bytes: u64) -> Option<Usage>
         ensures { result ≡ with_messages self bytes }
     {

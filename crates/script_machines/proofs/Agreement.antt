@@ -1,4 +1,4 @@
--- Each machine holds what its front of the list makes, and is shown so.
+-- Each state machine holds what its front of the list makes, and is shown so.
 use Rattle.std.proofs.Common.{◌≡◌, ℕ, zero, suc, ◌+◌, ◌-◌, ◌<◌, ◌≤◌, Bool, true, false, cond, leb, List, [], ◌∷◌, ◌++◌, Option, Some, None, option_map, Ok, Err, length, get_or, take, refl, sym, ap, subst, ◌∙◌, append_assoc, append-nil, arith}
 use Rattle.std.specs.Prelude.{slice_get, Result}
 use Rattle.std.specs.List.{AllByRecursion}
@@ -22,7 +22,7 @@ use Rattle.script_machines.specs.Alike.{BeginsWith, Follows, AllFollow, IsDigest
 use Rattle.dq_base.proofs.Choices.{some_is}
 use Rattle.script_machines.proofs.Elements.{all_weaker, all_set, all_get_or, where_mapped}
 
--- ---- one machine, and a list that grows
+-- ---- one state machine, and a list that grows
 
 pub begins_itself : (commands : List Command) → BeginsWith commands commands
 begins_itself commands = ([], append-nil commands)
@@ -66,7 +66,7 @@ follows_next commands machine (Some command) e f =
       holds = ap (λ (d : List Content). act d command) f.holds ∙ sym (fold-append act [] (take machine.applied commands) (command ∷ [])) ∙ ap files (sym (next_front commands machine.applied command e));
     }
 
--- ---- all machines
+-- ---- all state machines
 
 pub all_follow_idle : (count : ℕ) → AllFollow (idle_fleet count)
 all_follow_idle zero = tt
@@ -131,7 +131,7 @@ place_is n count le =
     let back : suc n - 1 ≡ n = omega arith in
     rw (some, few, back) refl
 
--- the machine behind some others has the number after theirs
+-- the state machine after some others has the number after theirs
 here : (commands : List Command) (front machines : List Holding) (machine : Holding)
     → standing_of (record { commands = commands; machines = front ++ machine ∷ machines }) (suc (length front)) ≡ Some (standing (suc (length front)) machine)
 here commands front machines machine =
@@ -152,7 +152,7 @@ all_here commands front (machine ∷ machines) =
           (subst (λ (all : List Holding). AllSeenIn (record { commands = commands; machines = all }) (standings (suc (length (front ++ machine ∷ []))) machines)) same others),
     )
 
--- what is shown of a machine is how it stands
+-- what is shown of a state machine is how it stands
 standing_seen : (fleet : Fleet) (number : ℕ) (o : Option ℕ) (say : MachineLine) → place_named number (length fleet.machines) ≡ o → option_map (λ (place : ℕ). standing number (get_or fleet.machines place idle)) o ≡ Some say → IsSeenIn fleet say
 standing_seen fleet number None say is e = absurd cc
 standing_seen fleet number (Some place) say is e =

@@ -1,4 +1,4 @@
--- The files of a machine are never longer together than the limit on what a list of commands states.
+-- The files of a state machine are never longer together than the limit on what a list of commands states.
 use Rattle.std.proofs.Common.{◌≡◌, ℕ, suc, ◌+◌, ◌<◌, ◌≤◌, max, Bool, true, false, cond, List, [], ◌∷◌, ◌++◌, Option, Some, None, Ok, Err, length, take, drop, sum_by, Contains, refl, sym, ap, subst, arith}
 use Rattle.std.specs.Prelude.{bytes_eq, Result}
 use Rattle.std.specs.List.{AllByRecursion}
@@ -90,7 +90,7 @@ each_in P (n ∷ names) holds = (
   each_in P names (λ name c. let lt : c.0 < length names = c.1 in holds name (suc c.0, omega (arith, lt), c.2)),
 )
 
--- ---- the files of a machine
+-- ---- the files of a state machine
 
 front_within : (commands : List Command) (count : ℕ) → IsSound commands → length_of_all (files (take count commands)) ≤ 67108864
 front_within commands count sound =
@@ -106,6 +106,6 @@ front_within commands count sound =
     (subst (λ (cs : List Command). AllByRecursion (λ name. Contains names name) (names_opened cs)) (sym whole) among)
     (subst (λ (cs : List Command). sum_by (files_stated.greatest_stated cs) names ≤ 67108864) (sym whole) total)
 
--- So the files of a machine that has applied a front of the list are within the limit.
+-- So the files of a state machine that has applied a front of the list are within the limit.
 pub files_are_bounded : FilesAreBounded
 files_are_bounded commands machine sound f = subst (λ (contents : List Content). length_of_all contents ≤ 67108864) (sym f.holds) (front_within commands machine.applied sound)

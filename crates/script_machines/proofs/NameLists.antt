@@ -1,10 +1,10 @@
--- Lists of names in which none stands twice.
+-- Lists of names in which none occurs twice.
 use Rattle.std.proofs.Common.{◌≡◌, ◌≢◌, ℕ, zero, suc, ◌<◌, ◌⊎◌, inl, inr, List, [], ◌∷◌, length, sum_by, refl, sym, subst, arith}
 use Rattle.std.specs.List.{AllPairs, Contains}
 use Rattle.std.proofs.lemmas.List.Sums.{sum_by-cons}
 use Rattle.log_commands.proofs.NamesAmong.{IsIn, at_place, same_or_other, without, without_sum, without_other}
 
--- no name stands twice
+-- no name occurs twice
 abbrev pub AreDistinct : List (List ℕ) → Type 0
 AreDistinct [] = Unit {0}
 AreDistinct (name ∷ names) = (IsIn name names → ⊥) × AreDistinct names

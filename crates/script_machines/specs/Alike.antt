@@ -1,4 +1,4 @@
--- Machines have one list of commands, and those that have applied as many of them hold the same files and pending pages.
+-- State machines have one list of commands, and those that have applied as many of them hold the same files and pending pages.
 use Rattle.std.specs.Prelude.{◌≡◌, ◌≤◌, ℕ, List, [], ◌++◌, length, take, sum_by, true, Some, ⊤}
 use Rattle.std.specs.List.{AllByRecursion}
 use Rattle.wire_words.specs.Items.{AreBytes}
@@ -18,7 +18,7 @@ use Rattle.script_machines.specs.Machines.{Fleet, applies, standing_of, standing
 abbrev pub BeginsWith : List Command → List Command → Type 0
 BeginsWith commands front = (rest : List Command) × (front ++ rest ≡ commands)
 
--- A machine has applied a front of the list, and holds what that front makes.
+-- A state machine has applied a front of the list, and holds what that front makes.
 pub record Follows (commands : List Command) (machine : Holding) : Type 0 where
   pub within : machine.applied ≤ length commands
   pub holds : machine.databases ≡ files (take machine.applied commands)
@@ -26,12 +26,12 @@ pub record Follows (commands : List Command) (machine : Holding) : Type 0 where
 abbrev pub AllFollow : Fleet → Type 0
 AllFollow fleet = AllByRecursion (Follows fleet.commands) fleet.machines
 
--- So many commands of the list are there, and this is the digest of the files that they make.
+-- This many commands of the list are there, and this is the digest of the files that they make.
 pub record IsDigestOf (commands : List Command) (applied : ℕ) (bytes : List ℕ) : Type 0 where
   pub within : applied ≤ length commands
   pub bytes_are : bytes ≡ digest (files (take applied commands))
 
--- what is said of a machine names a number of commands of the list, and the digest of the files that so many make
+-- what is said of a state machine names a number of commands of the list, and the digest of the files that this many make
 abbrev pub Tells : List Command → MachineLine → Type 0
 Tells commands Refused = ⊤
 Tells commands (Machine number applied bytes) = IsDigestOf commands applied bytes
@@ -39,7 +39,7 @@ Tells commands (Machine number applied bytes) = IsDigestOf commands applied byte
 abbrev pub AllTell : List Command → List MachineLine → Type 0
 AllTell commands said = AllByRecursion (Tells commands) said
 
--- what is said of a machine is how the machine of its number stands
+-- what is said of a state machine is how the state machine of its number stands
 abbrev pub IsSeenIn : Fleet → MachineLine → Type 0
 IsSeenIn fleet Refused = ⊤
 IsSeenIn fleet (Machine number applied bytes) = standing_of fleet number ≡ Some (Machine number applied bytes)
@@ -51,7 +51,7 @@ AllSeenIn fleet said = AllByRecursion (IsSeenIn fleet) said
 abbrev pub length_of_all : List Content → ℕ
 length_of_all contents = sum_by (λ (content : Content). length_of_files content.image) contents
 
--- Bytes stand for each command of a list, and the list is within its limits.
+-- Bytes represent each command of a list, and the list is within its limits.
 pub record IsSound (commands : List Command) : Type 0 where
   pub spelled : AllByRecursion IsSpelled commands
   pub allowed : is_allowed (table_of commands) ≡ true
@@ -72,19 +72,19 @@ PutsBytes (Take machine) = ⊤
 
 -- ---- what an event keeps
 
--- Machines became others, whose list is the longer one; each holds what its front of it makes; and what was said is of that list, and of
--- the machines as they stood.
+-- State machines became others, whose list is the longer one; each holds what its front of it makes; and what was said is of that list, and of
+-- the state machines as they stood.
 pub record GoesAlike (old new : Fleet) (said : List MachineLine) : Type 0 where
   pub follow : AllFollow new
   pub grows : BeginsWith new.commands old.commands
   pub tells : AllTell new.commands said
   pub seen : AllSeenIn old said
 
--- So it is after each event.
+-- This holds after each event.
 abbrev pub EventsKeepAlike : Type 0
 EventsKeepAlike = (fleet : Fleet) (event : Event) (next : Fleet × List MachineLine) → AllFollow fleet → applies fleet event ≡ Some next → GoesAlike fleet next.0 next.1
 
--- How machines stand that hold so is told of their list.
+-- How state machines stand that hold so is told of their list.
 pub record StandsAlike (fleet : Fleet) : Type 0 where
   pub one : (number : ℕ) (say : MachineLine) → standing_of fleet number ≡ Some say → Tells fleet.commands say × IsSeenIn fleet say
   pub all : AllTell fleet.commands (standings 1 fleet.machines) × AllSeenIn fleet (standings 1 fleet.machines)
@@ -92,7 +92,7 @@ pub record StandsAlike (fleet : Fleet) : Type 0 where
 abbrev pub MachinesStandAlike : Type 0
 MachinesStandAlike = (fleet : Fleet) → AllFollow fleet → StandsAlike fleet
 
--- The list stays within its limits, and so the files of a machine are together at most 67,108,864 bytes long.
+-- The list stays within its limits, and so the files of a state machine are together at most 67,108,864 bytes long.
 abbrev pub ListsStaySound : Type 0
 ListsStaySound = (fleet : Fleet) (event : Event) (next : Fleet × List MachineLine) → PutsBytes event → IsSound fleet.commands → applies fleet event ≡ Some next → IsSound next.0.commands
 

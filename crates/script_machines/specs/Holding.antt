@@ -1,4 +1,4 @@
--- What a machine holds.
+-- What a state machine holds.
 use Rattle.std.specs.Prelude.{ℕ, List}
 use Rattle.database_state.specs.Files.{Content}
 

@@ -32,7 +32,7 @@ note (s ∷ ss) name length =
     if bytes_eq s.name name then record { name = s.name; length = max s.length length } ∷ ss
     else s ∷ note ss name length
 
--- the names in a table and in statements behind it, each with the greatest length that is stated for it
+-- the names in a table and in statements after it, each with the greatest length that is stated for it
 abbrev pub noted : List Stated → List Stated → List Stated
 noted table stated = fold (λ table s. note table s.name s.length) table stated
 
@@ -48,7 +48,7 @@ is_allowed table = nat_le (length table) 16 && nat_le (sum_by (λ (s : Stated). 
 abbrev pub may_join : List Command → Command → Bool
 may_join commands command = is_allowed (table_of (commands ++ command ∷ []))
 
--- the entry of the name stands at this place
+-- the entry of the name is at this place
 abbrev pub IsNotedAt : List ℕ → List Stated → ℕ → Type 0
 IsNotedAt name table place = (place < length table) × ((length : ℕ) (s : Stated) → note table name length ≡ set table place (record { name = (get_or table place s).name; length = max (get_or table place s).length length }))
 

@@ -1,4 +1,4 @@
--- What is printed of what machines say.
+-- What is printed of what state machines say.
 use Rattle.std.specs.Prelude.{ℕ, List, ◌++◌, codes}
 use Rattle.std.specs.List.{flat_map}
 use Rattle.std.specs.Fmt.{decimal}

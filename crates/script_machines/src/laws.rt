@@ -7,7 +7,7 @@ ghost use Rattle.script_machines.specs.StatedLengths.{AreNamesOf, greatest_lengt
 ghost use Rattle.script_machines.specs.Alike.{EventsKeepAlike, FilesAreBounded, ListsStaySound, MachinesStandAlike};
 
 /// The limits of a list bound what its commands state: its table has the name of each database that a command opens once, and with it the
-/// greatest length that a command states for it. So a list is allowed exactly where it has at most 16 names, and the
+/// greatest length that a command states for it. So a list is allowed exactly if it has at most 16 names, and the
 /// greatest lengths of these names are together at most 67,108,864.
 pub fn limits_bound_what_is_stated()
     ensures names { (commands : List Command) → AreNamesOf commands (names_in (table_of commands)) }
@@ -18,8 +18,8 @@ pub fn limits_bound_what_is_stated()
         IsTrue (is_allowed (table_of commands)) ↔ ((length names ≤ 16) × (sum_by (greatest_length commands) names ≤ 67108864)) }
 {}
 
-/// Machines apply fronts of one list, which only grows, and each holds what its front makes; what is said of a machine names a front of
-/// that list, with the digest of the files that it makes. The list stays within its limits, so the files of a machine are never longer.
+/// State machines apply fronts of one list, which only grows, and each holds what its front makes; what is said of a state machine names a front of
+/// that list, with the digest of the files that it makes. The list stays within its limits, so the files of a state machine are never longer.
 pub fn machines_stay_alike()
     ensures events { EventsKeepAlike }
     ensures shown { MachinesStandAlike }

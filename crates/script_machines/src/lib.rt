@@ -1,4 +1,4 @@
-//! Machines that apply one list of commands, each at its own pace; and that list, with the limits on what it names and states.
+//! State machines that apply one list of commands, each at its own pace; and that list, with the limits on what it names and states.
 #![tactic(auto)]
 
 mod laws;

@@ -1,4 +1,4 @@
-//! The list of commands that machines apply, within its limits.
+//! The list of commands that state machines apply, within its limits.
 
 ghost use Rattle.std.specs.Prelude.{◌≡◌, ◌<◌, ◌+◌, ◌^◌, ◌++◌, ◌∷◌, [], length, vec_len, set, get_or, slice_get, IfOk, IfSome, OnSome, OnErr, Some, MatchOption, true, false, option_copied, if◌then◌else◌};
 ghost use Rattle.dq_base.specs.Applying.{last_page};
@@ -175,7 +175,7 @@ impl CommandList {
         self.commands.get(place)
     }
 
-    /// Adds a command where the limits allow it, and answers whether it did. Where they don't, and after `Err`, which
+    /// Adds a command where the limits allow it, and answers whether it did. If they don't, and after `Err`, which
     /// means out of memory, the list is as before. The command's numbers are in their ranges, as `Command::numbers_fit`
     /// tells and as those of a command are that was read. Looks at each name of the list, and copies none that is there.
     pub fn try_push(&mut self, alloc: Global, command: Command) -> Result<bool, AllocError>

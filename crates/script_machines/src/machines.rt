@@ -1,4 +1,4 @@
-//! Machines that apply one list of commands, each at its own pace.
+//! State machines that apply one list of commands, each at its own pace.
 
 ghost use Rattle.std.specs.Prelude.{◌≡◌, ◌<◌, [], ◌∷◌, Some, None, length, IfOk, IfSome, OnOk, OnErr, IsErrOf};
 ghost use Rattle.std.specs.Option.{option_map};
@@ -14,7 +14,7 @@ use script_grammar::{Event, EventFault};
 use std::alloc::{AllocError, Global};
 use std::marker::Model;
 
-/// One machine, and how many commands of the list it has applied.
+/// One state machine, and how many commands of the list it has applied.
 #[derive(Drop)]
 pub(crate) struct Replica {
     machine: Machine,
@@ -33,7 +33,7 @@ impl Model for Replica {
 impl Replica {
     ghost use Rattle.script_machines.specs.Machines.{idle, after_next, standing};
 
-    /// A machine that has applied nothing.
+    /// A state machine that has applied nothing.
     fn new(alloc: Global) -> Replica
         ensures { result ≡ idle }
     {
@@ -43,7 +43,7 @@ impl Replica {
         }
     }
 
-    /// Applies the next command of a list, where it has not applied all of them.
+    /// Applies the next command of a list, if it has not applied all of them.
     fn take_next(&mut self, commands: &CommandList) -> Result<(), AllocError>
         ensures { OnOk result (self.new ≡ after_next commands.now self.old) }
     {
@@ -55,7 +55,7 @@ impl Replica {
         Ok(())
     }
 
-    /// How the machine of this number stands. Costs in the order of its files.
+    /// How the state machine of this number stands. Costs in the order of its files.
     fn standing(&self, number: u64) -> MachineLine
         ensures { result ≡ standing number self.now }
     {
@@ -68,7 +68,7 @@ impl Replica {
     }
 }
 
-/// The list of commands, and the machines by their numbers from 1.
+/// The list of commands, and the state machines by their numbers from 1.
 pub struct Machines {
     commands: CommandList,
     machines: Vec<Replica>,
@@ -84,7 +84,7 @@ impl Drop for Machines {
     }
 }
 
-/// The place of a machine's number among so many.
+/// The place of a state machine's number among this many.
 fn place_of(number: u32, count: usize) -> Option<usize>
     ensures place { result ≡ place_named number count }
     ensures within { IfSome result (λ place. place < count) }
@@ -110,7 +110,7 @@ fn refusal(alloc: Global, joined: bool) -> Result<Vec<MachineLine>, AllocError>
 impl Machines {
     ghost use Rattle.script_machines.specs.Machines.{idle_fleet, joins, with_command, take_at, applies, standing_of, standings, fleet_of};
 
-    /// So many machines that have applied nothing of an empty list.
+    /// This many state machines that have applied nothing of an empty list.
     pub fn new(alloc: Global, count: u32) -> Result<Machines, AllocError>
         ensures { IfOk result (λ machines. fleet_of machines ≡ idle_fleet count) }
     {
@@ -124,7 +124,7 @@ impl Machines {
         })
     }
 
-    /// Adds the command that bytes stand for, where it is one and the list may take it. Answers whether it did.
+    /// Adds the command that bytes represent, if it is one and the list may take it. Answers whether it did.
     fn put(&mut self, alloc: Global, bytes: &[u8]) -> Result<bool, AllocError>
         ensures joined { IfOk result (λ joined. joined ≡ joins (fleet_of self.old) (command_of bytes.now)) }
         ensures list { OnOk result (fleet_of self.new ≡ with_command (fleet_of self.old) (command_of bytes.now)) }
@@ -136,7 +136,7 @@ impl Machines {
         }
     }
 
-    /// A machine applies the next command of the list.
+    /// A state machine applies the next command of the list.
     #[tactic(auto, unfolding(crate::specs::Machines::applies))]
     fn take_next(&mut self, number: u32) -> Result<(), EventFault>
         ensures ok { OnOk result (applies (fleet_of self.old) (Event.Take number) ≡ Some (fleet_of self.new, [])) }
@@ -182,7 +182,7 @@ impl Machines {
         }
     }
 
-    /// How the machine of a number stands, where it is there.
+    /// How the state machine of a number stands, if it is there.
     pub fn standing(&self, number: u32) -> Option<MachineLine>
         ensures { result ≡ standing_of (fleet_of self.now) number }
     {
@@ -190,7 +190,7 @@ impl Machines {
         Some(self.machines[place].standing(u64::from(number)))
     }
 
-    /// How all machines stand, by their numbers.
+    /// How all state machines stand, by their numbers.
     pub fn standings(&self, alloc: Global) -> Result<Vec<MachineLine>, AllocError>
         ensures { IfOk result (λ said. said.items ≡ standings 1 (fleet_of self.now).machines) }
     {

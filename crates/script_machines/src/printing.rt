@@ -1,4 +1,4 @@
-//! The line that is printed of what machines say.
+//! The line that is printed of what state machines say.
 
 ghost use Rattle.std.specs.Prelude.{◌≡◌, IfOk, string_bytes};
 ghost use Rattle.script_machines.specs.Printed.{printed_line};
@@ -6,7 +6,7 @@ ghost use Rattle.script_machines.specs.Printed.{printed_line};
 use crate::machine_line::MachineLine;
 use std::alloc::{AllocError, Global};
 
-/// The line of a machine, with its LF.
+/// The line of a state machine, with its LF.
 fn machine_line(
     alloc: Global,
     number: u64,

@@ -1,4 +1,4 @@
--- Each machine holds what its front of the run's list makes, at every moment, and is shown so.
+-- Each state machine holds what its front of the run's list makes, at every moment, and is shown so.
 use Rattle.std.proofs.Common.{◌≡◌, ℕ, zero, suc, ◌+◌, ◌/◌, ◌<◌, ◌≤◌, Bool, true, false, cond, List, [], ◌∷◌, ◌++◌, Option, Some, None, map, take, All, Contains, refl, sym, ap, subst, ◌∙◌, append_assoc, arith}
 use Rattle.std.specs.Prelude.{slice_get}
 use Rattle.std.specs.List.{AllByRecursion}
@@ -52,7 +52,7 @@ tells_grown all commands b (OfMachines say) t = machine_grown all commands b say
 
 -- ---- a line
 
--- The machines of a stage became others by a line that said this.
+-- The state machines of a stage became others by a line that said this.
 record Goes (old new : Fleet) (said : List Said) : Type 0 where
   follow : AllFollow new
   grows : BeginsWith new.commands old.commands
@@ -222,7 +222,7 @@ lead_sound stage number (line ∷ lines) sound =
 
 -- ---- scripts
 
--- The machines of a stage follow, and its list begins with an earlier one.
+-- The state machines of a stage follow, and its list begins with an earlier one.
 record Leads (before after : Fleet) : Type 0 where
   follow : AllFollow after
   grows : BeginsWith after.commands before.commands
@@ -279,7 +279,7 @@ run_tells stage number (line ∷ lines) follow =
       | Some fault ↦ goes.tells
     ]
 
--- so it is after some of these lines
+-- this holds after some of these lines
 abbrev SeenOnTheWay : Stage → ℕ → List (List ℕ) → Said → Type 0
 SeenOnTheWay stage number lines say = (count : ℕ) × IsSeenIn (fleet_at (led_from stage number (take count lines))) say
 

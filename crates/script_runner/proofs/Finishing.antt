@@ -21,7 +21,7 @@ use Rattle.script_runner.proofs.Scening.{told_at}
 use Rattle.script_runner.proofs.Growing.{step_grows}
 use Rattle.script_runner.proofs.Running.{turns_same, settles_feed, settles_last, short_feed, short_last, completes, short_closing}
 
--- what ends a script ends it beside its turns
+-- what ends a script ends it outside its turns
 ends_beside : (fault : Fault) (journal : List Item) (said : List Said) (turns : List Turn) (over : Option Turn) (next : Next) → EndsAt fault journal said turns over next → EndsBeside turns over next
 ends_beside fault journal said turns None next e = tt
 ends_beside fault journal said turns (Some turn) next e = (fault, e.fault_is, e.turns_are, e.over_is)

@@ -20,7 +20,7 @@ pub record Alike (r : Run) (turns : List Turn) (journal : List Item) : Type 0 wh
   pub turns_are : r.turns ≡ turns
   pub journal_is : r.journal ≡ journal
 
--- ---- among machines nothing happens at nodes, and nothing is noted
+-- ---- among state machines nothing happens at nodes, and nothing is noted
 
 abbrev IsMachines : Stage → Type 0
 IsMachines (AtNodes stage) = ⊥
@@ -76,7 +76,7 @@ quiet (AtMachines usage fleet) number (line ∷ lines) is =
 
 -- ---- among nodes
 
--- a line leads as in the run of nodes; or to machines, where the run of nodes ends with nothing
+-- a line leads as in the run of nodes; or to state machines, if the run of nodes ends with nothing
 pub data Twin (next : Next) (other : nodes.Next) : Type 0 where
   Same : next ≡ at_nodes other → Twin next other
   Parted : IsMachines next.stage → (fault : Fault) (outcomes : List Outcome) → other ≡ nodes.stops (nodes.Opening outcomes) fault → Twin next other

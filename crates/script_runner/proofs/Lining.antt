@@ -47,7 +47,7 @@ pub nothing_behind : (ahead rest : List ℕ) → ahead ++ rest ≡ [] → (ahead
 nothing_behind [] rest e = (refl, e)
 nothing_behind (b ∷ ahead) rest e = absurd cc
 
--- where nothing is to come, the source has nothing left
+-- if nothing is to come, the source has nothing left
 pub end_left : (cursor : Cursor) (left : Option (List ℕ)) → IsAtEnd (to_come cursor left) → IsAtEnd left
 end_left cursor None e = tt
 end_left cursor (Some rest) e = (nothing_behind cursor.ahead rest e).1

@@ -30,14 +30,14 @@ module _ {X : Type 0} (line : X → List ℕ) where
   pub printed_so_far : (a b : Option (List ℕ)) (said : List X) (i : ℕ) → Appends a b (flat_map line (take i said)) → AppendsFront a b (flat_map line said)
   printed_so_far a b said i h = (flat_map line (take i said), flat_map line (drop i said), text_split said i, h)
 
-  -- so it is where the next line was printed in part
+  -- this holds if the next line was printed in part
   pub printed_in_part : (a b c : Option (List ℕ)) (said : List X) (i : ℕ) (say : X) → i < length said → say ≡ get_or said i say
       → Appends a b (flat_map line (take i said)) → AppendsFront b c (line say) → AppendsFront a c (flat_map line said)
   printed_in_part a b c said i say lt is so_far part =
       let front = AppendsFront-then a b c (flat_map line (take i said)) (line say) so_far part in
       rw (text_split_at said i say lt is) at (AppendsFront-longer a c (flat_map line (take i said) ++ line say) (flat_map line (drop (i + 1) said)) front)
 
--- ---- of nodes and of machines
+-- ---- of nodes and of state machines
 
 pub nodes_printed : (said : List NodeSaid) → text_of (map OfNodes said) ≡ nodes_text.printed said
 nodes_printed [] = refl

@@ -57,7 +57,7 @@ stops_so stage fault next e = subst (EndsAt fault (journal_at stage) [] (turns_a
 said_twice : (a b : List Said) (r : Run) → said_before a (said_before b r) ≡ said_before (a ++ b) r
 said_twice a b r = ap (λ (s : List Said). record { said = s; fault = r.fault; turns = r.turns; over = r.over; journal = r.journal }) (sym (append_assoc a b r.said))
 
--- what was said before stands in front
+-- what was said before is in front
 run_behind : (a b : List Said) (fault : Option Fault) (journal : List Item) (turns : List Turn) (over : Option Turn) (r whole : Run) → whole ≡ said_before a r → IsRun b fault journal turns over r → IsRun (a ++ b) fault journal turns over whole
 run_behind a b fault journal turns over r whole e is =
     subst (IsRun (a ++ b) fault journal turns over) (sym e) (record { said_is = ap (λ (s : List Said). a ++ s) is.said_is; fault_is = is.fault_is; journal_is = is.journal_is; turns_are = is.turns_are; over_is = is.over_is })
@@ -88,7 +88,7 @@ onward_front a b go next (Some fault) front = front
 step_front : (a b : Option (List ℕ)) (stage : Stage) (number : ℕ) (line : List ℕ) (lines : List (List ℕ)) → AppendsFront a b (text_of (step stage number line).said) → AppendsFront a b (text_of (run_from stage number (line ∷ lines)).said)
 step_front a b stage number line lines front = onward_front a b (λ (s : Stage). run_from s (suc number) lines) (step stage number line) (step stage number line).fault front
 
--- the run of a line and of those behind it begins where the line has led
+-- the run of a line and of those after it begins where the line has led
 onward_begins : (go : Stage → Run) (next : Next) (fault : Option Fault) (turns : List Turn) → ((s : Stage) → BeginWith (go s).turns (turns_at s)) → BeginWith (turns_at next.stage) turns → BeginWith (onward go next fault).turns turns
 onward_begins go next None turns grows b = begin_then (go next.stage).turns (turns_at next.stage) turns (grows next.stage) b
 onward_begins go next (Some fault) turns grows b = b
@@ -97,12 +97,12 @@ step_begins : (stage : Stage) (number : ℕ) (line : List ℕ) (lines : List (Li
 step_begins stage number line lines turns b =
     onward_begins (λ (s : Stage). run_from s (suc number) lines) (step stage number line) (step stage number line).fault turns (λ s. run_grows s (suc number) lines) b
 
--- what was said before doesn't matter to what was done beside a run
+-- what was said before doesn't matter to what was done outside a run
 behind_beside : (turns : List Turn) (over : Option Turn) (said : List Said) (r : Run) → IsBeside turns over r → IsBeside turns over (said_before said r)
 behind_beside turns None said r b = tt
 behind_beside turns (Some turn) said r b = b
 
--- a line behind which something was done beside the run ends it
+-- a line after which something was done outside the run ends it
 line_beside : (turns : List Turn) (over : Option Turn) (stage : Stage) (number : ℕ) (line : List ℕ) (lines : List (List ℕ)) → EndsBeside turns over (step stage number line) → IsBeside turns over (run_from stage number (line ∷ lines))
 line_beside turns None stage number line lines e = tt
 line_beside turns (Some turn) stage number line lines e =
@@ -115,7 +115,7 @@ pub reached_start : {P : Type 0} (knows : Knowing P) (left written : Option (Lis
 reached_start knows left written = record { read = []; outcomes = []; turns = []; said = []; taken = starts left; told = Appends-nothing written; goes_on = λ more later. refl; know = tt; uses = refl }
 
 module _ {P : Type 0} (knows : Knowing P) (first now written printed_now : Option (List ℕ)) (at : Holds P) (number : ℕ) (r : Reached knows first now written printed_now at number) where
-  -- what comes of later lines stands behind
+  -- what comes of later lines follows
   joined : (came later : List Outcome) (bytes : List ℕ) → run bytes ((r.outcomes ++ came) ++ later) ≡ run bytes (r.outcomes ++ (came ++ later))
   joined came later bytes = ap (run bytes) (append_assoc r.outcomes came later)
 
@@ -260,7 +260,7 @@ module _ {P : Type 0} (knows : Knowing P) (first now written printed_now : Optio
       (record { said_is = kept.said_is; fault_is = kept.fault_is; journal_is = kept.journal_is ∙ journal_same at r.turns later; turns_are = kept.turns_are ∙ turns_same at r.turns later; over_is = kept.over_is ∙ over_none at r.turns later }))
       (Appends-nothing printed_now) (told_at knows at r.turns r.know) refl
 
-  -- Nothing is left behind the last line that a script may have.
+  -- Nothing is left after the last line that a script may have.
   pub whole_past : (cursor : Cursor) (left : Option (List ℕ)) → Keeps now (to_come cursor left) → IsAtEnd (to_come cursor left) → ReadWhole knows first left written printed_now at
   whole_past cursor left kept end = whole_none cursor left [] (record { taken = Consumes-none now (to_come cursor left) kept; no_feed = tt }) end refl
 

@@ -1,4 +1,4 @@
--- What a line does in either mode, from what nodes or machines did.
+-- What a line does in either mode, from what nodes or state machines did.
 use Rattle.std.proofs.Common.{◌≡◌, ℕ, ◌≤◌, Bool, true, false, cond, List, [], ◌∷◌, ◌++◌, map, Option, Some, None, Result, Ok, Err, refl, sym, ap, subst, ◌∙◌}
 use Rattle.std.proofs.lemmas.Bool.{le-leb}
 use Rattle.script_grammar.specs.ScriptSize.{line_count_limit}
@@ -32,7 +32,7 @@ use Rattle.script_runner.proofs.Steps as steps
 
 -- ---- among nodes
 
--- a line that opens no machines does what it does in the run of nodes
+-- a line that opens no state machines does what it does in the run of nodes
 other_step : (at : nodes.Stage) (number : ℕ) (line : ScriptLine) → machines_in line ≡ None → line_step (run.AtNodes at) number line ≡ at_nodes (nodes.line_step at number line)
 unfolding line_step
 other_step at number says.Blank e = refl
@@ -91,7 +91,7 @@ module _ {P : Type 0} (knows : Knowing P) where
   nodes_done number line result old new before told none e d =
       nodes_do number line result old new told e (subst (λ (b : List NodeSaid). stages.DoesLine knows number (λ (s : nodes.Stage). nodes.line_step s number line) result old new b told) none d)
 
--- ---- among machines
+-- ---- among state machines
 
 module _ {P : Type 0} (knows : Knowing P) where
   -- a line leads on there
@@ -172,7 +172,7 @@ pub as_line : {P T : Type 0} (knows : Knowing P) (number : ℕ) (line other : Sc
     → DoesLine knows number (λ (s : Stage). line_step s number other) result old new now → DoesLine knows number (λ (s : Stage). line_step s number line) result old new now
 as_line knows number line other result old new now is d = subst (λ (l : ScriptLine). DoesLine knows number (λ (s : Stage). line_step s number l) result old new now) (sym is) d
 
--- ---- the mode line of machines
+-- ---- the mode line of state machines
 
 module _ {P : Type 0} (see : P → Place) (knows : Knowing P) (x : ScriptMode P) where
   -- what a line does where the scene is this
@@ -219,7 +219,7 @@ module _ {P : Type 0} (see : P → Place) (knows : Knowing P) (x : ScriptMode P)
       subst (λ (h : Holds P). Ends knows (λ (s : Stage). line_step s number (says.Pages machines)) (Line number) h h []) (sym is)
       (pages_refused knows number usage fleet (says.Pages machines) machines [] refl refl)
 
--- a line that opens so many machines
+-- a line that opens this many state machines
 pub is_pages : (line : ScriptLine) (machines : ℕ) → machines_in line ≡ Some machines → line ≡ says.Pages machines
 is_pages says.Blank machines e = absurd cc
 is_pages (says.Nodes voters spare) machines e = absurd cc
@@ -250,14 +250,14 @@ turns_same (Nodes AtStart) earlier later = refl
 turns_same (Nodes (AtNodes h)) earlier later = refl
 turns_same (Machines usage fleet) earlier later = refl
 
--- nothing was done there beside the run
+-- nothing was done there outside the run
 pub over_none : {P : Type 0} (at : Holds P) (earlier : List Turn) (later : List Outcome) → run.over_at (stage_of at earlier later) ≡ None
 over_none (Nodes AtStart) earlier later = refl
 over_none (Nodes (AtNodes h)) earlier later = refl
 over_none (Machines usage fleet) earlier later = refl
 
 module _ {P : Type 0} (knows : Knowing P) where
-  -- the same of another way to say it
+  -- the same for another way to say it
   does_as : {T : Type 0} (number : ℕ) (go way : Stage → Next) (result : Result T EventFault) (old new : Holds P) (now : List Said) → ((s : Stage) → go s ≡ way s)
       → DoesLine knows number way result old new now → DoesLine knows number go result old new now
   does_as number go way (Ok x) old new now same d = record { outcomes = d.outcomes; turns = d.turns; goes = λ earlier later. same _ ∙ d.goes earlier later; know = d.know; uses = d.uses }

@@ -79,7 +79,7 @@ halts_so : (number : ℕ) (why : Halt) (journal : List Item) (said : List Cluste
 halts_so number why journal said turns over went at =
     record { fault_is = ap (option_map (fault_by number)) at.halt; said_is = at.said_is; journal_is = at.journal_is; turns_are = at.turns_are; over_is = at.over_is }
 
--- the outcomes of turns, and of more behind them
+-- the outcomes of turns, and of more after them
 outcomes_join : (turns more : List Turn) → outcomes_in (turns ++ more) ≡ outcomes_in turns ++ outcomes_in more
 outcomes_join [] more = refl
 outcomes_join (turn ∷ turns) more = ap (λ (outcomes : List Outcome). outcomes_of turn ++ outcomes) (outcomes_join turns more) ∙ sym (append_assoc (outcomes_of turn) (outcomes_in turns) (outcomes_in more))

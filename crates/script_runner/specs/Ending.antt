@@ -15,7 +15,7 @@ use Rattle.script_runner.specs.declared.run.Outcome.TheVariants as outcome
 use Rattle.script_runner.specs.Run.{Said, Run, Stage, Next, run, run_from, said_before, ends_at, turns_at, over_at, text_of, printed}
 use Rattle.script_runner.specs.Scenes.{Holds, Known, Goes, Ends, stage_of, closing_of, turns_of}
 
--- These bytes may follow those that were read: none where the source is at its end or tells nothing.
+-- These bytes may follow those that were read: none if the source is at its end or tells nothing.
 abbrev pub MayFollow : Option (List ℕ) → List ℕ → Type 0
 MayFollow left more = IsAtEnd left → more ≡ []
 
@@ -23,7 +23,7 @@ MayFollow left more = IsAtEnd left → more ≡ []
 abbrev pub Anything : List ℕ → Type 0
 Anything more = ⊤
 
--- a run that said this, ended so, noted this, and has these turns, and this one beside them
+-- a run that said this, ended so, noted this, and has these turns, and this one besides them
 pub record IsRun (said : List Said) (fault : Option Fault) (journal : List Item) (turns : List Turn) (over : Option Turn) (r : Run) : Type 0 where
   pub said_is : r.said ≡ said
   pub fault_is : r.fault ≡ fault
@@ -31,12 +31,12 @@ pub record IsRun (said : List Said) (fault : Option Fault) (journal : List Item)
   pub turns_are : r.turns ≡ turns
   pub over_is : r.over ≡ over
 
--- where a node did something beside these turns, they are those of the run, and it is what a node did beside the run
+-- if a node did something besides these turns, they are those of the run, and it is what a node did outside the run
 abbrev pub IsBeside : List Turn → Option Turn → Run → Type 0
 IsBeside turns None r = Unit {0}
 IsBeside turns (Some turn) r = (r.turns ≡ turns) × (r.over ≡ Some turn)
 
--- where a node did something beside these turns, a line ends the script behind them
+-- if a node did something besides these turns, a line ends the script after them
 abbrev pub EndsBeside : List Turn → Option Turn → Next → Type 0
 EndsBeside turns None next = Unit {0}
 EndsBeside turns (Some turn) next = (fault : Fault) × (next.fault ≡ Some fault) × (turns_at next.stage ≡ turns) × (over_at next.stage ≡ Some turn)
@@ -90,7 +90,7 @@ pub record Settles {P : Type 0} (knows : Knowing P) (fault : Option Fault) (jour
   pub led : Told knows turns over
   pub uses : outcomes_in turns ++ outcomes_over over ≡ outcomes
 
--- Whichever bytes of `follows` stand behind those read, a front of what the run says was printed: so nothing of a line that was read
+-- Whichever bytes of `follows` follow those read, a front of what the run says was printed: so nothing of a line that was read
 -- in part. The run begins with these turns, by which places were led to.
 pub record StopsShort {P : Type 0} (knows : Knowing P) (follows : List ℕ → Type 0) (left left' written written' : Option (List ℕ)) : Type 0 where
   pub read : List ℕ
@@ -129,7 +129,7 @@ pub record Prints {P : Type 0} (knows : Knowing P) (fault : Option Fault) (journ
   pub led : Told knows turns over
   pub uses : outcomes_in turns ++ outcomes_over over ≡ outcomes
 
--- Whichever bytes of `follows` stand behind those read, a front of the run's text was printed; and the run begins with these turns, by which
+-- Whichever bytes of `follows` follow those read, a front of the run's text was printed; and the run begins with these turns, by which
 -- places were led to.
 pub record PrintsFront {P : Type 0} (knows : Knowing P) (follows : List ℕ → Type 0) (left left' written written' : Option (List ℕ)) : Type 0 where
   pub read : List ℕ
@@ -204,7 +204,7 @@ fault_line outcome.ReadFault = []
 fault_line outcome.WriteFault = []
 fault_line outcome.NoMemory = []
 
--- a script that ended so has such a line
+-- a script that ended so has a line of its fault
 abbrev pub HasLine : Outcome → Type 0
 HasLine outcome.Done = ⊥
 HasLine (outcome.Script number) = Unit {0}

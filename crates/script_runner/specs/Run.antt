@@ -17,12 +17,12 @@ use Rattle.script_machines.specs.declared.machine_line.MachineLine.{MachineLine 
 use Rattle.script_machines.specs.Machines.{Fleet, idle_fleet, applies, standing_of, standings}
 use Rattle.script_machines.specs.Printed as pages_text
 
--- what is said: of nodes and their clients, or of machines
+-- what is said: of nodes and their clients, or of state machines
 pub data Said : Type 0 where
   OfNodes : NodeSaid → Said
   OfMachines : MachineSaid → Said
 
--- where a script is: before its mode line or among nodes; or among machines, after so many events
+-- if a script is: before its mode line or among nodes; or among state machines, after this many events
 pub data Stage : Type 0 where
   AtNodes : nodes.Stage → Stage
   AtMachines : Usage → Fleet → Stage
@@ -43,17 +43,17 @@ stops stage fault = record { stage = stage; said = []; fault = Some fault }
 abbrev pub at_nodes : nodes.Next → Next
 at_nodes next = record { stage = AtNodes next.stage; said = map OfNodes next.said; fault = next.fault }
 
--- so many machines are opened, before any mode line
+-- this many state machines are opened, before any mode line
 abbrev pub opens : nodes.Stage → ℕ → ℕ → Next
 opens (nodes.Opening outcomes) number machines = stays (AtMachines no_usage (idle_fleet machines)) []
 opens (nodes.Within w) number machines = stops (AtNodes (nodes.Within w)) (Line number)
 
--- how a machine stands is shown, where it is there
+-- how a state machine stands is shown, if it is there
 abbrev pub shows : Usage → Fleet → ℕ → Option MachineSaid → Next
 shows usage fleet number None = stops (AtMachines usage fleet) (Line number)
 shows usage fleet number (Some say) = stays (AtMachines usage fleet) (OfMachines say ∷ [])
 
--- an event at machines is one more, where there may be one
+-- an event at state machines is one more, if there may be one
 abbrev pub counts : Usage → Fleet → Fleet × List MachineSaid → Option Usage → Next
 counts usage fleet next None = stops (AtMachines usage fleet) Large
 counts usage fleet next (Some more) = stays (AtMachines more next.0) (map OfMachines next.1)
@@ -84,8 +84,8 @@ said_step stage number (Some line) = line_step stage number line
 unfoldable pub step : Stage → ℕ → List ℕ → Next
 step stage number line = if nat_le number line_count_limit then said_step stage number (line_of line) else stops stage Large
 
--- A run: what is said, in order; the fault at which it ends, where it has one; what happened at its nodes, and what a node did that isn't
--- in it, as it says too much; and what is noted that the script doesn't say. Among machines nothing happens at nodes, and nothing is noted.
+-- A run: what is said, in order; the fault at which it ends, if it has one; what happened at its nodes, and what a node did that isn't
+-- in it, as it says too much; and what is noted that the script doesn't say. Among state machines nothing happens at nodes, and nothing is noted.
 pub record Run : Type 0 where
   pub said : List Said
   pub fault : Option Fault

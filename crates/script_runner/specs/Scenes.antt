@@ -18,7 +18,7 @@ use Rattle.script_runner.specs.Stages.{Stands, stands}
 use Rattle.script_cluster.specs.Run.{Fault, Line, Large}
 use Rattle.script_runner.specs.Run.{Said, OfNodes, OfMachines, Stage, AtNodes, AtMachines, Next, closing, journal_at, turns_at, over_at}
 
--- what is held of a script: of its nodes, or of its machines
+-- what is held of a script: of its nodes, or of its state machines
 pub data Holds (P : Type 0) : Type 0 where
   Nodes : Stands P → Holds P
   Machines : Usage → Fleet → Holds P
@@ -41,11 +41,11 @@ journal_of (Machines usage fleet) = []
 abbrev pub closing_of : {P : Type 0} → Holds P → List Said
 closing_of h = closing (stage_of h [] [])
 
--- the turns of a run that is here, behind these
+-- the turns of a run that is here, after these
 abbrev pub turns_of : {P : Type 0} → Holds P → List Turn → List Turn
 turns_of h earlier = turns_at (stage_of h earlier [])
 
--- each place has been led to by the turns of its node among these; among machines there is none
+-- each place has been led to by the turns of its node among these; among state machines there is none
 abbrev pub Known : {P : Type 0} → Knowing P → Holds P → List Turn → Type 0
 Known knows (Nodes s) turns = stages.Known knows s turns
 Known knows (Machines usage fleet) turns = Unit {0}
@@ -55,7 +55,7 @@ abbrev pub said_in : LineSaid → List Said
 said_in (said.Nodes all) = map OfNodes all.items
 said_in (said.Machines all) = map OfMachines all.items
 
--- how many machines a line opens, if it is the mode line of machines
+-- how many state machines a line opens, if it is the mode line of state machines
 abbrev pub machines_in : ScriptLine → Option ℕ
 machines_in says.Blank = None
 machines_in (says.Nodes voters spare) = None
@@ -73,7 +73,7 @@ pub record Goes {P : Type 0} (knows : Knowing P) (go : Stage → Next) (old new 
   pub know : (earlier : List Turn) → Known knows old earlier → Known knows new (turns earlier)
   pub uses : (earlier : List Turn) → outcomes_in (turns_of new (turns earlier)) ≡ outcomes_in (turns_of old earlier) ++ outcomes
 
--- it ended there for this fault, behind these turns, when this was noted, and this said
+-- it ended there for this fault, after these turns, when this was noted, and this said
 pub record EndsAt (fault : Fault) (journal : List Item) (said : List Said) (turns : List Turn) (over : Option Turn) (next : Next) : Type 0 where
   pub fault_is : next.fault ≡ Some fault
   pub said_is : next.said ≡ said
@@ -89,7 +89,7 @@ pub record Ends {P : Type 0} (knows : Knowing P) (go : Stage → Next) (fault : 
   pub told : (earlier : List Turn) → Known knows old earlier → Told knows (turns earlier) over
   pub uses : (earlier : List Turn) → outcomes_in (turns earlier) ++ outcomes_over over ≡ outcomes_in (turns_of old earlier) ++ outcomes
 
--- what a line of this number did by its answer; after out of memory nothing is told
+-- what a line of this number did by its answer; after out of memory nothing is reported
 abbrev pub DoesLine : {P T : Type 0} → Knowing P → ℕ → (Stage → Next) → Result T EventFault → Holds P → Holds P → List Said → Type 0
 DoesLine knows number go (Ok x) old new now = Goes knows go old new now
 DoesLine knows number go (Err faults.NotThere) old new now = Ends knows go (Line number) old new now

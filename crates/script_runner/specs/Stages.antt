@@ -16,7 +16,7 @@ use Rattle.script_cluster.specs.Run.{Fault, Line, Large, Next, closing, journal_
 use Rattle.script_runner.specs.declared.node_script.NodeScript.{NodeScript}
 use Rattle.script_runner.specs.declared.node_script.NodeScript.TheVariants as stage
 
--- what is held of a script: nothing before its mode line; or its nodes and what is beside them
+-- what is held of a script: nothing before its mode line; or its nodes and what is besides them
 pub data Stands (P : Type 0) : Type 0 where
   AtStart : Stands P
   AtNodes : Held P → Stands P
@@ -30,7 +30,7 @@ abbrev pub stage_of : {P : Type 0} → Stands P → List Turn → List Outcome �
 stage_of AtStart turns outcomes = run.Opening outcomes
 stage_of (AtNodes h) turns outcomes = run.Within (world_of h turns outcomes)
 
--- the turns of a run that is here, behind these
+-- the turns of a run that is here, after these
 abbrev pub turns_of : {P : Type 0} → Stands P → List Turn → List Turn
 turns_of at earlier = turns_at (stage_of at earlier [])
 
@@ -65,7 +65,7 @@ pub record Goes {P : Type 0} (knows : Knowing P) (go : run.Stage → Next) (old 
   pub know : (earlier : List Turn) → Known knows old earlier → Known knows new (turns earlier)
   pub uses : (earlier : List Turn) → outcomes_in (turns_of new (turns earlier)) ≡ outcomes_in (turns_of old earlier) ++ outcomes
 
--- it ended there for this fault, behind these turns, when this was noted, and this said
+-- it ended there for this fault, after these turns, when this was noted, and this said
 pub record EndsAt (fault : Fault) (journal : List Item) (said : List ClusterLine) (turns : List Turn) (over : Option Turn) (next : Next) : Type 0 where
   pub fault_is : next.fault ≡ Some fault
   pub said_is : next.said ≡ said
@@ -88,7 +88,7 @@ abbrev pub MayOpen : ScriptLine → Type 0
 MayOpen (says.Nodes voters spare) = IsVoterCount voters
 MayOpen line = Unit {0}
 
--- what a line of this number did by its answer; after out of memory nothing is told
+-- what a line of this number did by its answer; after out of memory nothing is reported
 abbrev pub DoesLine : {P T : Type 0} → Knowing P → ℕ → (run.Stage → Next) → Result T EventFault → Stands P → Stands P → List ClusterLine → List ClusterLine → Type 0
 DoesLine knows number go (Ok x) old new before now = Goes knows go old new before now
 DoesLine knows number go (Err faults.NotThere) old new before now = Ends knows go (Line number) old new before now

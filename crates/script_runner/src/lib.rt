@@ -1,4 +1,4 @@
-//! Runs a script from its bytes to the text that it prints: of nodes, or of machines that apply one list of commands.
+//! Runs a script from its bytes to the text that it prints: of nodes, or of state machines that apply one list of commands.
 #![tactic(auto)]
 
 mod laws;

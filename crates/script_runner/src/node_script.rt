@@ -12,7 +12,7 @@ use std::alloc::{AllocError, Global};
 /// Where a script is.
 #[derive(Drop)]
 pub(crate) enum NodeScript<P: NodePlace> {
-    /// Before its mode line. Nodes stand at places like this one.
+    /// Before its mode line. Nodes are at places like this one.
     Opening { place: P },
     /// Among its nodes.
     Within(Cluster<P>),
@@ -32,7 +32,7 @@ impl<P: NodePlace> NodeScript<P> {
         }
     }
 
-    /// Opens a cluster of so many voters and further nodes, all of which start.
+    /// Opens a cluster of this many voters and further nodes, all of which start.
     fn open_nodes(
         &mut self,
         alloc: Global,
@@ -86,7 +86,7 @@ impl<P: NodePlace> NodeScript<P> {
         }
     }
 
-    /// Does what a line says, and puts what is said behind the rest. A fault ends the script.
+    /// Does what a line says, and puts what is said after the rest. A fault ends the script.
     pub(crate) fn take_line(
         &mut self,
         alloc: Global,
@@ -116,7 +116,7 @@ impl<P: NodePlace> NodeScript<P> {
         }
     }
 
-    /// The journal of the run, which is empty where no node was opened.
+    /// The journal of the run, which is empty if no node was opened.
     pub(crate) fn into_journal(self, alloc: Global) -> ClusterJournal
         ensures { result ≡ journal_of (stands P.shows self) }
     {

@@ -60,7 +60,7 @@ fn print_nodes<K: Sink>(alloc: Global, said: &[NodeSaid], sink: &mut K) -> Resul
     Ok(())
 }
 
-/// The same of machines.
+/// Prints what state machines say.
 fn print_machines<K: Sink>(
     alloc: Global,
     said: &[MachineSaid],

@@ -107,7 +107,7 @@ fn run_line<P: NodePlace, K: Sink>(
     }
 }
 
-/// Reads the next line and does what it says. Answers whether the script may go on: it has ended where it may not.
+/// Reads the next line and does what it says. Answers whether the script may continue: it has ended where it must not.
 fn run_next<P: NodePlace, S: Source, K: Sink>(
     alloc: Global,
     lines: &mut LineReader,
@@ -146,7 +146,7 @@ fn run_next<P: NodePlace, S: Source, K: Sink>(
     }
 }
 
-/// Reads what stands behind the last line that a script may have: nothing may.
+/// Reads what follows the last line that a script may have: nothing may.
 fn run_past<P: NodePlace, S: Source>(lines: &mut LineReader, source: &mut S) -> Result<(), Outcome>
     ensures goes { (first written printed : Option (List ℕ)) (at : _) →
         Reached P.knows first (to_come lines.old (S.left source.old)) written printed at (line_count_limit + 1) →
@@ -205,7 +205,7 @@ fn close<P: NodePlace, K: Sink>(
     print(alloc, &said, sink)
 }
 
-/// Runs the lines of a script in order, and shows how all stand at its end.
+/// Runs the lines of a script in order, and shows how all are at its end.
 fn run_whole<P: NodePlace, S: Source, K: Sink>(
     alloc: Global,
     lines: &mut LineReader,
@@ -231,7 +231,7 @@ fn run_whole<P: NodePlace, S: Source, K: Sink>(
     }
 }
 
-/// Prints the line of a script's fault, where it has one. After `Err` a front of it is printed.
+/// Prints the line of a script's fault, if it has one. After `Err` a front of it is printed.
 fn print_fault<K: Sink>(alloc: Global, outcome: Outcome, sink: &mut K) -> Result<(), PrintFault>
     ensures ok { OnOk result (Appends (K.written sink.old) (K.written sink.new) (fault_line outcome)) }
     ensures err { OnErr result (AppendsFront (K.written sink.old) (K.written sink.new) (fault_line outcome)) }
@@ -253,7 +253,7 @@ fn print_fault<K: Sink>(alloc: Global, outcome: Outcome, sink: &mut K) -> Result
     }
 }
 
-/// Runs the script that the source gives, over nodes at places like this one or over machines, and prints to the sink what the script's
+/// Runs the script that the source gives, over nodes at places like this one or over state machines, and prints to the sink what the script's
 /// run says. The journal is that of this run afterwards; what it held before is dropped.
 ///
 /// The input is read in pieces. Held are one piece, one line, and what the script makes. It returns on every input, as far as the calls
@@ -262,10 +262,10 @@ fn print_fault<K: Sink>(alloc: Global, outcome: Outcome, sink: &mut K) -> Result
 /// - `Done`: the script was read to its end, it has no fault, and its text was printed.
 /// - `Script(line)`: that line is the first that isn't in the grammar or that names what isn't there; the text of the run was printed,
 ///   with `error line` and its number at the end.
-/// - `Large`: the line behind the millionth, an event behind the twenty thousandth, or an event whose messages have too many bytes is
+/// - `Large`: the line after the millionth, an event after the twenty thousandth, or an event whose messages have too many bytes is
 ///   the first fault; the text of the run was printed, with `error large` at the end.
 /// - `ReadFault`, `WriteFault`: the source, the sink failed, and its count of faults rose; a front of the run's text was printed. So it
-///   is after `NoMemory`, which has no such cause.
+///   is after `NoMemory`, which has no count as its cause.
 ///
 /// What was read, and what came of the events at nodes, decides this: unless the source is at its end, the fault and the text are those
 /// of every script that begins with the bytes read. So nothing was printed of a line that was read in part.

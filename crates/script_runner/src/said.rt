@@ -9,7 +9,7 @@ use std::alloc::Global;
 pub(crate) enum LineSaid {
     /// By nodes, and to their clients.
     Nodes(Vec<NodeSaid>),
-    /// By machines.
+    /// By state machines.
     Machines(Vec<MachineSaid>),
 }
 

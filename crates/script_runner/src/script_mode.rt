@@ -19,11 +19,11 @@ use std::alloc::{AllocError, Global};
 pub(crate) enum ScriptMode<P: NodePlace> {
     /// Before its mode line, or among nodes.
     Nodes(NodeScript<P>),
-    /// Among machines, with how much of what it may have it used.
+    /// Among state machines, with how much of what it may have it used.
     Machines { machines: Machines, usage: Usage },
 }
 
-/// How many machines a line opens, if it is the mode line of machines.
+/// How many state machines a line opens, if it is the mode line of state machines.
 fn machines_in(line: &ScriptLine) -> Option<u32>
     ensures { result ≡ machines_in line.now }
 {
@@ -36,7 +36,7 @@ fn machines_in(line: &ScriptLine) -> Option<u32>
     }
 }
 
-/// Does what a line says among nodes that opens no machines, and tells what is said.
+/// Does what a line says among nodes that opens no state machines, and returns what is said.
 fn take_at_nodes<P: NodePlace>(
     stage: &mut NodeScript<P>,
     alloc: Global,
@@ -54,7 +54,7 @@ fn take_at_nodes<P: NodePlace>(
     done
 }
 
-/// Shows how a machine stands.
+/// Shows how a state machine stands.
 fn show_machine<P: NodePlace>(
     alloc: Global,
     machines: &Machines,
@@ -77,7 +77,7 @@ fn show_machine<P: NodePlace>(
     }
 }
 
-/// Has an event happen at machines, which is counted.
+/// Has an event happen at state machines, which is counted.
 fn happen_at_machines<P: NodePlace>(
     alloc: Global,
     machines: &mut Machines,
@@ -102,7 +102,7 @@ fn happen_at_machines<P: NodePlace>(
     }
 }
 
-/// Does what a line says among machines, and tells what is said.
+/// Does what a line says among state machines, and returns what is said.
 fn take_at_machines<P: NodePlace>(
     alloc: Global,
     machines: &mut Machines,
@@ -129,7 +129,7 @@ impl<P: NodePlace> ScriptMode<P> {
     ghost use Rattle.script_runner.specs.Run.{step};
     ghost use Rattle.script_runner.specs.Scenes.{closing_of, holds, journal_of};
 
-    /// Opens so many machines, which have applied nothing of an empty list.
+    /// Opens this many state machines, which have applied nothing of an empty list.
     fn open_machines(&mut self, alloc: Global, count: u32) -> Result<(), EventFault>
         ensures { (number : ℕ) → DoesLine P.knows number (λ (s : Shown). line_step s number (ScriptLine.Pages count)) result
             (holds P.shows self.old) (holds P.shows self.new) [] }
@@ -150,7 +150,7 @@ impl<P: NodePlace> ScriptMode<P> {
         }
     }
 
-    /// Does what a line says, and tells what is said. A fault ends the script.
+    /// Does what a line says, and returns what is said. A fault ends the script.
     fn take_line(
         &mut self,
         alloc: Global,
@@ -173,7 +173,7 @@ impl<P: NodePlace> ScriptMode<P> {
         }
     }
 
-    /// Does what the bytes of a line say, and tells what is said. A fault ends the script.
+    /// Does what the bytes of a line say, and returns what is said. A fault ends the script.
     pub(crate) fn take(
         &mut self,
         alloc: Global,
@@ -202,7 +202,7 @@ impl<P: NodePlace> ScriptMode<P> {
         }
     }
 
-    /// The journal of the run, which is empty where no node was opened.
+    /// The journal of the run, which is empty if no node was opened.
     pub(crate) fn into_journal(self, alloc: Global) -> ClusterJournal
         ensures { result ≡ journal_of (holds P.shows self) }
     {

@@ -6,7 +6,7 @@ use Rattle.session_spec.specs.Engines.{Answer}
 use Rattle.session_statements.specs.Running.{TellsAll}
 use Rattle.script_safety.specs.Slots.{has_told}
 
--- one that has lost none at the end had lost none before, and has these behind the others
+-- one that has lost none at the end had lost none before, and has these after the others
 Grew : List Answer → Option Told → Option Told → Type 0
 Grew xs (Some t) (Some u) = u.cut ≡ false → (t.cut ≡ false) × (u.answers ≡ t.answers ++ xs)
 Grew xs None now = Unit {0}

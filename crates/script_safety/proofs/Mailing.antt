@@ -1,4 +1,4 @@
--- Messages that are among letters stay so, and join.
+-- Messages that are among peer messages stay so, and join.
 use Rattle.std.proofs.Common.{◌≡◌, ◌⊎◌, inl, inr, ⊎_elim, ℕ, zero, suc, List, [], ◌∷◌, ◌++◌, ap, ◌∙◌}
 use Rattle.std.specs.Prelude.{Some, slice_get}
 use Rattle.raft_messages.specs.declared.message.RaftMessage.{RaftMessage}

@@ -35,7 +35,7 @@ stands_weaker : (P Q : Kept → Type 0) (d : NodeDisk) → ((kept : Kept) → P 
 stands_weaker P Q d f s = record { crash = λ g left fair. weaker P Q f _ (s.crash g left fair); seen = s.seen }
 
 module _ (m : Meaning) (kind : EngineKind) (setup : Setup) (n : ℕ) where
-  -- a path goes on by one turn
+  -- a path continues by one turn
   path_on : (old mid new : Seat) (turns : List Turn) (turn : Turn) → SlotPath m kind setup n old turns mid → SlotTurn m kind setup n mid turn new → SlotPath m kind setup n old (turns ++ turn ∷ []) new
   path_on old mid new [] turn p t = (new, subst (λ z. SlotTurn m kind setup n z turn new) (sym p) t, refl)
   path_on old mid new (first ∷ turns) turn p t = (p.0, p.1, path_on p.0 mid new turns turn p.2 t)
@@ -100,7 +100,7 @@ module _ (m : Meaning) (kind : EngineKind) where
     falls_short ending ends leaves =
         stands_weaker _ _ (folder e) (λ kept h. path_on m kind (setup_of voters) n _ (Rests kept) (Rests kept) turns _ h (ends kept)) (left_so start.DiskFault leaves)
 
-    -- over a snapshot that is none of a node
+    -- over a snapshot that isn't a node's
     reads_none : (index : ℕ) → StartLeaves (Err (start.Snapshot index)) d e → Goes Unreadable
     reads_none index leaves =
         let u : SnapshotUnread index d = leaves.0 in

@@ -1,4 +1,4 @@
--- A snapshot that is spelled as one of a node reads as one.
+-- A snapshot that is encoded as one of a node reads as one.
 use Rattle.std.proofs.Common.{ℕ, List, length, drop, Result, refl, ap, ◌∙◌}
 use Rattle.std.proofs.lemmas.List.{drop_at}
 use Rattle.raft_spec.specs.Node.{Server}

@@ -38,7 +38,7 @@ use Rattle.script_safety.proofs.Answering.{told_are}
 use Rattle.script_safety.proofs.Mailing.{among_none, among_join}
 use Rattle.script_safety.proofs.Reading.{snapshots_read}
 
--- the run's place is this seat, of a node without links
+-- the run's place is this seat, of a node without peer connections
 SeatIs : ℕ → Seat → Place → Type 0
 SeatIs n (Runs node) place = (place ≡ Up (seen node)) × ((seen node).raft.id ≡ n) × (node.has_links ≡ false)
 SeatIs n (Rests kept) place = place ≡ Down kept
@@ -146,7 +146,7 @@ module _ (m : Meaning) (kind : EngineKind) (setup : Setup) (r : Run) (n : ℕ) w
       fails_bring : (doing : Doing) (left : Kept) → Brought n doing (StartFails n left ∷ [])
       fails_bring doing left = record { starts = λ k none. tt; joined = λ k conn none. tt; asks = λ k conn none. refl }
 
-      -- a snapshot that is kept reads as one of a node, as it is spelled so
+      -- a snapshot that is kept reads as one of a node, as it is encoded so
       all_read : (kept : Kept) → r.places n ≡ Down kept → IsUnreadable kept → ⊥
       all_read kept down bad =
           let c = cluster setup acts in
@@ -214,7 +214,7 @@ module _ (m : Meaning) (kind : EngineKind) (setup : Setup) where
   -- ---- all turns
 
   module _ (n : ℕ) (old : Seat) (turn : Turn) (turns : List Turn) (end : Seat) where
-    -- the seat behind the turn, where it is one of the node's
+    -- the seat after the turn, if it is one of the node's
     nexts : (b : Bool) → SlotPath m kind setup n old (cond b (turn ∷ turns) turns) end → Seat
     nexts true p = p.0
     nexts false p = old
@@ -297,7 +297,7 @@ module _ (m : Meaning) (kind : EngineKind) (setup : Setup) where
   abbrev front_events : (turns more : List Turn) (r : Run) → AreRun m kind setup r (turns ++ more) → List Event
   front_events turns more r is = events_of m kind setup r turns (front_of turns more r is)
 
-  -- what is left of the run, with its events behind those of the front
+  -- what is left of the run, with its events after those of the front
   record Left (turns more : List Turn) (r : Run) (is : AreRun m kind setup r (turns ++ more)) : Type 0 where
     pub rest : AreRun m kind setup (run_from r (front_events turns more r is)) more
     pub events : events_of m kind setup r (turns ++ more) is ≡ front_events turns more r is ++ events_of m kind setup (run_from r (front_events turns more r is)) more rest

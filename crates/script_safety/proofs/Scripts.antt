@@ -26,7 +26,7 @@ turns_join n [] rest = refl
 turns_join n (turn ∷ front) rest =
     ap (λ (turns : List Turn). cond (actor turn == n) (turn ∷ turns) turns) (turns_join n front rest) ∙ one_joins (actor turn == n) turn (turns_at n front) (turns_at n rest)
 
--- a turn that needs no message comes behind all that were sent
+-- a turn that needs no message comes after all that were sent
 sent_last : (sent : List RaftMessage) (turns : List Turn) (turn : Turn) → ((more : List RaftMessage) → SentTo more turn) → AllSentTo sent turns →
     AllSentTo sent (turns ++ turn ∷ [])
 sent_last sent [] turn any all = (any sent, tt)
@@ -54,7 +54,7 @@ module _ (m : Meaning) (kind : EngineKind) (setup : Setup) where
   asks_start n (Rests kept) doing answers (Runs node) ends = absurd ends
   asks_start n (Runs node) doing answers new ends = absurd ends
 
-  -- ---- behind the turns of a script
+  -- ---- after the turns of a script
 
   module _ (turns : List Turn) (turn : Turn) (ends : ℕ → Seat) (paths : (n : ℕ) → SlotPath m kind setup n (Rests nothing_kept) (turns_at n turns) (ends n))
       (seat : Seat) (last : SlotPath m kind setup (actor turn) (Rests nothing_kept) (turns_at (actor turn) turns ++ turn ∷ []) seat) where
@@ -69,7 +69,7 @@ module _ (m : Meaning) (kind : EngineKind) (setup : Setup) where
     path_on n false is =
         subst (λ (ts : List Turn). SlotPath m kind setup n (Rests nothing_kept) ts (ends n)) (sym (at_last n false is ∙ append-nil (turns_at n turns))) (paths n)
 
-    -- where it needs no message, whole nodes did all of these, and so no load failed
+    -- if it needs no message, whole nodes did all of these, and so no load failed
     last_loads : AllSentTo [] turns → ((more : List RaftMessage) → SentTo more turn) → HasLoaded turn
     last_loads sent any =
         all_last turns turn

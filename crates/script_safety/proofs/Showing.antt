@@ -22,13 +22,13 @@ use Rattle.script_safety.specs.Turns.{actor, EndShows, TurnShows, TurnRuns, AreR
 use Rattle.script_safety.proofs.Contents.{same_contents}
 use Rattle.script_safety.proofs.Running.{run_on, runs_hold_hold}
 
--- a place where a node stands so
+-- a place where a node is so
 pub record Stood (place : Place) (a : Standing) : Type 0 where
   pub node : Node
   pub up : place ≡ Up node
   pub so : SlotShowsNode node a
 
--- it does, where a standing is known
+-- it does, if a standing is known
 abbrev pub IsShown : Place → Option Standing → Type 0
 IsShown place None = Unit {0}
 IsShown place (Some a) = Stood place a

@@ -91,9 +91,9 @@ all_read : (turns : List Turn) → AllCanHold turns → (k : ℕ) (m : RaftMessa
 all_read [] h k m e = absurd (nowhere k m e)
 all_read (t ∷ turns) h k m e = one_reads (messages_in t) (sent_in turns) k m h.0 (λ j f. all_read turns h.1 j m f) e
 
--- ---- letters
+-- ---- peer messages
 
--- a letter except for whether it has arrived
+-- a peer message except for whether it has arrived
 abbrev strip : Letter → ℕ × List ℕ
 strip l = (l.to, l.bytes)
 
@@ -112,7 +112,7 @@ strip_letters : (ms : List RaftMessage) → map strip (letters_of ms) ≡ map wr
 strip_letters [] = refl
 strip_letters (m ∷ ms) = ap (λ z. written m ∷ z) (strip_letters ms)
 
--- where a letter lies, a message was sent of which it is
+-- where a peer message lies, a message was sent of which it is
 found : (mail : List Letter) (ms : List RaftMessage) (place : ℕ) (l : Letter) → map strip mail ≡ map written ms → slice_get mail place ≡ Some l → (k : ℕ) × (m : RaftMessage) × (slice_get ms k ≡ Some m) × (written m ≡ strip l)
 found [] ms place l e is = absurd (no place is)
   where
@@ -192,7 +192,7 @@ turned w v turn h turns mail came = record {
       ];
 }
 
--- what goes on from such worlds leads to such worlds
+-- what continues from worlds of this kind leads to worlds of this kind
 abbrev Goes : (World → Went) → Type 0
 Goes go = (w : World) → Mailed w → Mailed (go w).world
 
@@ -205,7 +205,7 @@ then_mailed go went g h = on_mailed go went went.halt g h
 
 -- ---- what comes of an event at a node
 
--- where it didn't halt
+-- if it didn't halt
 abbrev Unhalted : Went → Option Halt → Type 0
 Unhalted went None = Mailed went.world
 Unhalted went (Some why) = Unit {0}

@@ -24,6 +24,6 @@ IsComplete m kind setup turns safe =
     IsOpen (new.sessions.session conn) → joins_in came ≢ Some conn →
     (old : Node) × ((run events).places n ≡ Up old) × Completed conn old new came replies
 
--- So it is in each script that is safe.
+-- This holds in each script that is safe.
 abbrev pub ScriptsAreComplete : Meaning → EngineKind → Type 0
 ScriptsAreComplete m kind = (setup : Setup) (turns : List Turn) (safe : IsSafe m kind setup turns) → IsComplete m kind setup turns safe

@@ -33,7 +33,7 @@ pub record IsSafe (m : Meaning) (kind : EngineKind) (setup : Setup) (turns : Lis
 abbrev pub NodesAreSafe : Meaning → EngineKind → Type 0
 NodesAreSafe m kind = (setup : Setup) (turns : List Turn) → NodesDo m kind setup turns → IsSafe m kind setup turns
 
--- So it is at each moment, and at a later one: what was chosen and said stays, and the rest of what holds of a run at two moments.
+-- This holds at each moment, and at a later one: what was chosen and said stays, and the rest of what holds of a run at two moments.
 pub record IsSafeLater (m : Meaning) (kind : EngineKind) (setup : Setup) (turns more : List Turn) : Type 0 where
   pub is : AreRun m kind setup first_run turns
   pub rest : AreRun m kind setup (run_from first_run (events_of m kind setup first_run turns is)) more
@@ -55,7 +55,7 @@ NoneJoins k conn turns = AllByRecursion (λ turn. k ≡ actor turn → joins_of 
 abbrev pub NoneAsk : ℕ → ℕ → List Turn → Type 0
 NoneAsk k conn turns = AllByRecursion (λ turn. k ≡ actor turn → asks_of turn ≢ Some conn) turns
 
--- So it is in their run: what holds of a node that isn't started meanwhile, and of a connection that stays, holds of the script's.
+-- This holds in their run: what holds of a node that isn't started meanwhile, and of a connection that stays, holds of the script's.
 abbrev pub TurnsBring : Meaning → EngineKind → Type 0
 TurnsBring m kind =
     (setup : Setup) (r : Run) (turns : List Turn) (is : AreRun m kind setup r turns) (k : ℕ) →

@@ -12,7 +12,7 @@ use Rattle.script_safety.specs.Laws.{IsSafe}
 use Rattle.script_safety.specs.Slots.{Seat, Rests, SlotPath}
 use Rattle.script_safety.specs.Turns.{actor, turns_at, AllSentTo, AllLoad}
 
--- In a script, whatever came of its events, a node receives only messages that were sent to it; up to any moment, where the wire could
+-- In a script, whatever came of its events, a node receives only messages that were sent to it; up to any moment, if the wire could
 -- hold what was sent until then.
 abbrev pub MailIsSent : Type 0
 MailIsSent =
@@ -25,7 +25,7 @@ pub record ByNodes (m : Meaning) (kind : EngineKind) (setup : Setup) (turns : Li
   pub paths : (n : ℕ) → SlotPath m kind setup n (Rests nothing_kept) (turns_at n turns) (ends n)
   pub hold : AllCanHold turns
 
--- And what a node did behind them, which isn't among them.
+-- And what a node did after them, which isn't among them.
 abbrev pub OverByNode : Meaning → EngineKind → Setup → List Turn → Option Turn → Type 0
 OverByNode m kind setup turns None = Unit {0}
 OverByNode m kind setup turns (Some turn) =
@@ -37,7 +37,7 @@ ScriptsAreSafe m kind =
     (setup : Setup) (script : List ℕ) (outcomes : List Outcome) (front rest : List Turn) → (run script outcomes).turns ≡ front ++ rest →
     ByNodes m kind setup front → IsSafe m kind setup front
 
--- And no load fails in it until then, nor in what a node did behind that: no start finds `Damaged`, `Gap`, `NoMeta` or `Snapshot`.
+-- And no load fails in it until then, nor in what a node did after that: no start finds `Damaged`, `Gap`, `NoMeta` or `Snapshot`.
 abbrev pub LoadsNeverFail : Meaning → EngineKind → Type 0
 LoadsNeverFail m kind =
     (setup : Setup) (script : List ℕ) (outcomes : List Outcome) (front rest : List Turn) (over : Option Turn) →

@@ -40,8 +40,8 @@ IsLeft P Damaged = ⊥
 IsLeft P NoMeta = ⊥
 IsLeft P (Gap first last) = ⊥
 
--- The node that runs at a place was led there by its turns, and its disk keeps what it has kept. Where none runs, whatever a crash leaves
--- of the disk was left by them, where no checksum matches by chance.
+-- The node that runs at a place was led there by its turns, and its disk keeps what it has kept. If none runs, whatever a crash leaves
+-- of the disk was left by them, if no checksum matches by chance.
 abbrev pub IsPlaced : Meaning → EngineKind → Setup → ℕ → List Turn → Disk Text → Option Running → Type 0
 IsPlaced m kind setup n turns d (Some node) = Led m kind setup n turns (Runs node) × HasNew node.replica.store (kept_of node.replica) (folder d)
 IsPlaced m kind setup n turns d None = StandsFor (IsLeft (λ kept. Led m kind setup n turns (Rests kept))) (folder d)
@@ -103,7 +103,7 @@ StartsOn m kind =
     StartDone voters n (kept_by node) (kept_by node) node.running answers standing →
     IsPlaced m kind (setup_of voters) n (turns ++ does n (Start voters) aim answers (Starts (kept_by node) standing) ∷ []) e (Some node.running)
 
--- a start finds what doesn't load: files with a fault (`NoMeta`, `Damaged`, `Gap`), or a snapshot that is none of a node
+-- a start finds what doesn't load: files with a fault (`NoMeta`, `Damaged`, `Gap`), or a snapshot that isn't a node's
 abbrev pub LoadsNothing : StartFault → Type 0
 LoadsNothing (start.Damaged fault) = Unit {0}
 LoadsNothing (start.Snapshot index) = Unit {0}
@@ -118,8 +118,8 @@ IsNoStart why Unreadable = LoadsNothing why
 IsNoStart why (Steps outs standing) = ⊥
 IsNoStart why (Starts kept standing) = ⊥
 
--- So such a start leads on. Where nothing is read by chance it never finds that files have a fault, so one that didn't load found a snapshot
--- that is none of a node (`EndsSo`).
+-- So such a start leads on. If nothing is read by chance it never finds that files have a fault, so one that didn't load found a snapshot
+-- that isn't a node's (`EndsSo`).
 abbrev pub StartsFail : Meaning → EngineKind → Type 0
 StartsFail m kind =
     (voters n : ℕ) (turns : List Turn) (d e : Disk Text) (why : StartFault) (aim : FaultTarget) (answers : List Answer) (ending : Ending) →

@@ -7,7 +7,7 @@ use Rattle.cluster_safety.specs.Runs.{first_run}
 use Rattle.script_cluster.specs.Outcomes.{Standing, Ending, Steps, Starts, Stops, Fails, Unreadable, Turn, Does, Crashes}
 use Rattle.script_safety.specs.Turns.{actor, AreRun}
 
--- how a node stands behind what ended so; it is down where that didn't end well
+-- how a node is after what ended so; it is down where that didn't end well
 abbrev pub standing_by : Ending → Option Standing
 standing_by (Steps outs standing) = Some standing
 standing_by (Starts kept standing) = Some standing
@@ -19,7 +19,7 @@ abbrev pub standing_in : Turn → Option Standing
 standing_in (Does n doing aim outcome) = standing_by outcome.ending
 standing_in (Crashes n pick) = None
 
--- how it stands behind these turns, where it stood so before
+-- how it is after these turns, if it was so before
 abbrev pub stands_from : ℕ → Option Standing → List Turn → Option Standing
 stands_from n before [] = before
 stands_from n before (turn ∷ turns) = stands_from n (cond (actor turn == n) (standing_in turn) before) turns

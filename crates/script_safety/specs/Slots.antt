@@ -27,7 +27,7 @@ use Rattle.script_cluster.specs.Outcomes.{Standing, Outs, Ending, Steps, Starts,
 
 -- ---- the cluster of a script
 
--- so many voters, those of the lowest numbers, each at the address of its number
+-- this many voters, those of the lowest numbers, each at the address of its number
 abbrev pub setup_of : ℕ → Setup
 setup_of voters = read_setup (voters_from voters 1)
 
@@ -38,7 +38,7 @@ pub data Seat : Type 0 where
   Runs : (node : Running) → Seat
   Rests : (kept : Kept) → Seat
 
--- the node stands so
+-- the node is so
 pub record SlotShowsNode (v : Node) (standing : Standing) : Type 0 where
   pub term : standing.term ≡ v.raft.term
   pub role : standing.role ≡ v.raft.role
@@ -62,7 +62,7 @@ has_told answers = Some (record { answers = answers; cut = false })
 abbrev pub outs_of : core_outs.StepOutputs → Outs
 outs_of outs = record { replies = outs.replies.items; closed = outs.closed.items; messages = outs.messages.items }
 
--- A step ended well: it said this, its engine answered this, and the node stands so.
+-- A step ended well: it said this, its engine answered this, and the node is so.
 pub record StepDone (m : Meaning) (kind : EngineKind) (setup : Setup) (old new : Running) (doing : Doing) (answers : List Answer) (outs : Outs)
     (standing : Standing) : Type 0 where
   pub event : core.Event
@@ -72,7 +72,7 @@ pub record StepDone (m : Meaning) (kind : EngineKind) (setup : Setup) (old new :
   pub steps : AccountsForStep m kind setup old new event said (has_told before) (has_told (before ++ answers))
   pub outs_are : outs ≡ outs_of said
   pub stands : SlotShowsNode (seen new) standing
-  -- By these answers its core became that of the node behind it, and by no others.
+  -- By these answers its core became that of the node after it, and by no others.
   pub exact : Answered (has_told before) (has_told (before ++ answers)) (StepsExactly m kind event (core_of old) (core_of new) said)
   pub files : standing.databases ≡ contents_in (core_of new).files
 
@@ -82,7 +82,7 @@ pub record StopDone (m : Meaning) (kind : EngineKind) (setup : Setup) (old : Run
   pub is : EventIs doing event
   pub stops : AccountsForStop m kind setup old event kept
 
--- A start ended well, over what was kept, in a cluster that was opened with so many voters, of a node without links, as a script's
+-- A start ended well, over what was kept, in a cluster that was opened with this many voters, of a node without peer connections, as a script's
 -- connections are clients' alone. Its engine was asked nothing.
 pub record StartDone (voters n : ℕ) (kept loaded : Kept) (new : Running) (answers : List Answer) (standing : Standing) : Type 0 where
   pub loads : loaded ≡ kept
@@ -101,13 +101,13 @@ pub record AsksStart (setup : Setup) (doing : Doing) : Type 0 where
   pub is : doing ≡ Start voters
   pub opens : setup ≡ setup_of voters
 
--- The snapshot that is kept, of an index above 0, is none of a node: its bytes don't read as one.
+-- The snapshot that is kept, of an index above 0, isn't a node's: its bytes don't read as one.
 pub record IsUnreadable (kept : Kept) : Type 0 where
   pub some : 0 < kept.snap.index
   pub unread : snapshot_in kept.snap.bytes ≡ None
 
 -- What a node did at its place, and how that ended. A start doesn't load only over such a snapshot. In no run of a script is one kept, so
--- nothing is said of what is kept behind it.
+-- nothing is said of what is kept after it.
 abbrev pub SlotEnds : Meaning → EngineKind → Setup → ℕ → Seat → Doing → List Answer → Ending → Seat → Type 0
 SlotEnds m kind setup n (Runs old) doing answers (Steps outs standing) (Runs new) = StepDone m kind setup old new doing answers outs standing
 SlotEnds m kind setup n (Runs old) doing answers (Stops keeps) (Rests kept) = StopDone m kind setup old doing kept

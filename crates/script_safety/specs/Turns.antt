@@ -34,7 +34,7 @@ abbrev pub SentTo : List RaftMessage → Turn → Type 0
 SentTo sent (Does n doing aim outcome) = WasSent sent n doing
 SentTo sent (Crashes n pick) = Unit {0}
 
--- so of each turn, where these were sent before
+-- so of each turn, if these were sent before
 abbrev pub AllSentTo : List RaftMessage → List Turn → Type 0
 AllSentTo sent [] = Unit {0}
 AllSentTo sent (turn ∷ turns) = SentTo sent turn × AllSentTo (sent ++ messages_in turn) turns
@@ -47,7 +47,7 @@ pub record NodesDo (m : Meaning) (kind : EngineKind) (setup : Setup) (turns : Li
 
 -- ---- their run
 
--- A step: what it sends is of the run, and what it says to clients; its engine answered what the run's node uses, which stands so.
+-- A step: what it sends is of the run, and what it says to clients; its engine answered what the run's node uses, which is so.
 pub record StepShows (answers : List Answer) (outs : Outs) (standing : Standing) (place : Place) (letters : List Letter)
     (replies : List (ℕ × Reply)) (used : List Answer) : Type 0 where
   pub node : Node
@@ -145,7 +145,7 @@ events_of m kind setup r (turn ∷ turns) is = is.0.leads.events ++ events_of m 
 -- ---- loads
 
 -- A start found on its node's disk what loads. What doesn't has damaged entries (`Damaged`), a gap between its files (`Gap`), entries
--- without metadata (`NoMeta`), or a snapshot that is none of a node (`Snapshot`); each of these four ends a start as `Unreadable`.
+-- without metadata (`NoMeta`), or a snapshot that isn't a node's (`Snapshot`); each of these four ends a start as `Unreadable`.
 abbrev pub HasLoaded : Turn → Type 0
 HasLoaded (Does n doing aim outcome) = outcome.ending ≢ Unreadable
 HasLoaded (Crashes n pick) = Unit {0}

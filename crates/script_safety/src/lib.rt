@@ -10,10 +10,10 @@ ghost use Rattle.script_safety.specs.Showing.{ShownAlike};
 
 use sql_engine::Engine;
 
-/// Where each node of a script does in its turns what whole nodes do, and receives only messages that were sent to it, the turns are a
+/// If each node of a script does in its turns what whole nodes do, and receives only messages that were sent to it, the turns are a
 /// run: each is events of it whose clauses hold, at its node alone, and shows what the run's node then is and has said. So the run is
 /// safe, at each moment and at a later one, and whatever holds of every run holds of it. In it a node starts, a connection comes, and one
-/// asks something only where it does in a turn.
+/// asks something only if it does in a turn.
 pub fn turns_are_runs<E: Engine>()
     ensures runs { (kind : _) → TurnsAreRuns (E.meaning kind) kind }
     ensures hold { (kind : _) → RunsHold (E.meaning kind) kind }
@@ -24,7 +24,7 @@ pub fn turns_are_runs<E: Engine>()
 
 /// A place begins over a disk without files, and each call of a node leads its turns on, together with the disk: a step that ended well,
 /// by what it shows and what its disk keeps; one that failed or was stopped, by what may be found on its disk; a crash; and a start, as it
-/// finds what the disk stands for. That nothing is read by chance is a premise where a disk crashes behind a stop, and where a node starts.
+/// finds what the disk represents. That nothing is read by chance is a premise where a disk crashes after a stop, and where a node starts.
 pub fn places_lead_on<E: Engine>()
     ensures begins { (kind : _) → PlacesBegin (E.meaning kind) kind }
     ensures steps { (kind : _) → StepsOn (E.meaning kind) kind }
@@ -38,7 +38,7 @@ pub fn places_lead_on<E: Engine>()
 
 /// In a script, whatever came of its events, a node receives only messages that were sent to it, as bytes that are read back; the wire has
 /// to be able to hold what is sent. So each script is safe whose nodes do at their places what whole nodes do; and up to any moment, where
-/// they did so until then. No load fails in it: no start finds damaged files, a gap, no metadata, or a snapshot that is none of a node.
+/// they did so until then. No load fails in it: no start finds damaged files, a gap, no metadata, or a snapshot that isn't a node's.
 pub fn scripts_are_safe<E: Engine>()
     ensures mail { MailIsSent }
     ensures safe { (kind : _) → ScriptsAreSafe (E.meaning kind) kind }

@@ -7,7 +7,7 @@ use std::test::Fail;
 #[derive(Clone, Copy)]
 enum Script {
     Text(&'static str),
-    /// A line of so many bytes, without its LF.
+    /// A line of this many bytes, without its LF.
     Long(usize),
 }
 
@@ -40,7 +40,7 @@ fn line_at(
     Ok((end, lines.line().len()))
 }
 
-/// The same of a script whose read of a number fails, as text.
+/// How the line at a place ends, as text, of a script whose read of a number fails.
 fn ended(alloc: Global, script: Script, failing: u64, place: u32) -> Result<String, AllocError> {
     let mut source = source_of(alloc, script, failing)?;
     let ended = line_at(alloc, &mut source, place);
@@ -59,7 +59,7 @@ const ROWS: &[Row] = &[
     (Script::Text("\n"), 0, 0, "Ok((Feed, 0))"),
     (Script::Text(""), 0, 0, "Ok((Input, 0))"),
     (Script::Text("a"), 1, 0, "Err(Source)"),
-    // The first read gives the byte, and the second is to tell that the input has ended.
+    // The first read gives the byte, and the second is to say that the input has ended.
     (Script::Text("a"), 2, 0, "Err(Source)"),
     (Script::Text("a\n"), 2, 0, "Ok((Feed, 1))"),
     // A line of several pieces, and one with a byte too many.

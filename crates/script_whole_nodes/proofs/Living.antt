@@ -1,4 +1,4 @@
--- How the life of a node at its place goes on, and that it leads where its turns do.
+-- How the life of a node at its place continues, and that it leads where its turns do.
 use Rattle.std.proofs.Common.{inl, inr, ◌≡◌, ◌⊎◌, ◌≤◌, ℕ, zero, suc, Bool, true, false, leb, List, [], ◌∷◌, ◌++◌, length, take, drop, Option, Some, None, refl, sym, ap, subst, ◌∙◌, arith}
 use Rattle.std.proofs.lemmas.List.{append_assoc, append-nil, length-append, take_all, drop_at}
 use Rattle.std.proofs.lemmas.Bool.{leb-true, le-leb, true≢false}
@@ -110,7 +110,7 @@ module _ (m : Meaning) (kind : EngineKind) (setup : Setup) (n : ℕ) where
   seat_of turns d (Some node) stands = (Runs node, stands.0)
   seat_of turns d None stands = left_seat turns (kept_in (folder d).read) (stands.0.crash (folder d).read stands.0.seen stands.1)
 
-  -- ---- a life goes on
+  -- ---- a life continues
 
   pub life_begins : (states : Disk Text → Type 0) → states no_files → Lives m kind setup n zero states [] None
   life_begins states told = (no_files, told, (places_begin_hold m kind setup n, rest_is_fair no_files none_rests))
@@ -168,7 +168,7 @@ module _ (m : Meaning) (kind : EngineKind) (setup : Setup) (n : ℕ) where
       let few : length front ≤ length find.earlier = omega (arith, count, far) in
       cut_front find.earlier (find.turn ∷ to.0) front begins.0 (sym (append_assoc find.earlier (find.turn ∷ []) to.0) ∙ sym to.1 ∙ begins.1) few
 
-  -- A front of the turns leads to a seat, where no checksum matched by chance within it.
+  -- A front of the turns leads to a seat, if no checksum matched by chance within it.
   pub life_leads : (finds : ℕ) (states : Disk Text → Type 0) (turns : List Turn) (node : Option Running) (life : Lives m kind setup n finds states turns node) (front : List Turn) → Begins front turns
       → IsFairWithin m kind setup n finds states turns node (length front) life → (seat : Seat) × Led m kind setup n front seat
   life_leads zero states turns node life front begins fair = let whole = seat_of turns life.0 node life.2 in begins_leads front turns whole.0 begins whole.1

@@ -71,7 +71,7 @@ event_is (event.Bytes conn bytes) = refl
 event_is (event.Hangup conn) = refl
 event_is (event.Peer message) = refl
 
--- ---- the life of a node goes on
+-- ---- the life of a node continues
 
 module _ (kind : EngineKind) (voters n finds : ℕ) (turns : List Turn) (old new : Disk Text → Type 0) where
   step_on : (was now : Running) (doing : Doing) (aim : FaultTarget) (answers : List Answer) (outs : Outs) (standing : _) → StepDone (any_meaning kind) kind (setup_of voters) was now doing answers outs standing

@@ -11,7 +11,7 @@ use Rattle.raft_spec.specs.Node.{Server, voters}
 use Rattle.raft_messages.specs.Servers.{Ascend, IsServer, IsConfiguration}
 use Rattle.script_cluster.specs.Voters.{IsVoterCount, voter, voters_from}
 
--- one voter more stands behind the others
+-- one voter more follows the others
 voters_more : (count n : ℕ) → voters_from (suc count) n ≡ voters_from count n ++ voter (n + count) ∷ []
 voters_more zero n = ap (λ (id : ℕ). voter id ∷ []) (omega arith)
 voters_more (suc count) n =
@@ -62,7 +62,7 @@ is_configuration count h = record {
   few_voters = (let few : count ≤ 7 = h.1 in omega (arith, few, all_vote count 1));
 }
 
--- all of them, behind the last one
+-- all of them, after the last one
 pub opened : (result items : List Server) (place count number voters : ℕ) → result ≡ items → items ≡ voters_from place 1 → count ≤ place → place ≤ count → count ≡ number → number ≡ voters → IsVoterCount voters
     → IsConfiguration result
 opened result items place count number voters is made past within counted told range =

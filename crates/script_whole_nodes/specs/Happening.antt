@@ -1,4 +1,4 @@
--- What happens at a node that stands at a place.
+-- What happens at a node that is at a place.
 use Rattle.node_core.specs.declared.event.Event.{Event}
 use Rattle.node_core.specs.declared.event.Event.TheVariants as core
 use Rattle.script_cluster.specs.declared.place.NodeEvent.{NodeEvent}

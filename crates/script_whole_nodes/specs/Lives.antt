@@ -1,4 +1,4 @@
--- What the turns of a node have led to at its place, as long as no checksum matches by chance in what a start finds on its disk.
+-- What the turns of a node have led to at its place, while no checksum matches by chance in what a start finds on its disk.
 use Rattle.std.specs.Prelude.{◌≡◌, ◌≤◌, ℕ, zero, suc, List, [], ◌∷◌, ◌++◌, length, Option, Some, None}
 use Rattle.sql_engine.specs.declared.kind.EngineKind.{EngineKind}
 use Rattle.sql_engine.specs.Meanings.{Meaning}
@@ -32,7 +32,7 @@ FoundBy Unreadable before found = found ≡ before
 FoundBy (Steps outs standing) before found = ⊥
 FoundBy (Starts kept standing) before found = ⊥
 
--- so by a turn that ended so; behind a crash no node fell
+-- so by a turn that ended so; after a crash no node fell
 abbrev pub IsFoundAfter : Turn → Disk Text → Disk Text → Type 0
 IsFoundAfter (Does n doing aim outcome) before found = FoundBy outcome.ending before found
 IsFoundAfter (Crashes n pick) before found = ⊥
@@ -45,8 +45,8 @@ IsFairFind find = NoChance node_format (folder find.before) (folder find.found).
 abbrev pub Begins : List Turn → List Turn → Type 0
 Begins front turns = (rest : List Turn) × (turns ≡ front ++ rest)
 
--- Whole nodes come to such a find: by the turns before, which are of these, and this one the disk stands for what the node left; and it is
--- found as such a turn has it.
+-- Whole nodes reach a find of this kind: by the turns before, which are of these, and this one the disk represents what the node left; and it is
+-- found as the turn has it.
 pub record ReachesSlot (m : Meaning) (kind : EngineKind) (setup : Setup) (n : ℕ) (turns : List Turn) (find : Find) : Type 0 where
   pub begins : Begins (turns_to find) turns
   pub seat : Seat
@@ -59,7 +59,7 @@ abbrev pub Stands : Meaning → EngineKind → Setup → ℕ → List Turn → D
 Stands m kind setup n turns d (Some node) = IsPlaced m kind setup n turns d (Some node)
 Stands m kind setup n turns d None = IsPlaced m kind setup n turns d None × IsFair d
 
--- What a fall leaves by this turn, behind these: the disk as it was then, and as it is found, which it may be said to be.
+-- What a fall leaves by this turn, after these: the disk as it was then, and as it is found, which it may be said to be.
 pub record LeavesFound (m : Meaning) (kind : EngineKind) (setup : Setup) (n : ℕ) (states : Disk Text → Type 0) (turns : List Turn)
     (turn : Turn) : Type 0 where
   pub before : Disk Text
@@ -68,14 +68,14 @@ pub record LeavesFound (m : Meaning) (kind : EngineKind) (setup : Setup) (n : �
   pub left : IsPlaced m kind setup n (turns ++ turn ∷ []) before None
   pub came : IsFoundAfter turn before found
 
--- The life of a node at a place, behind so many finds: one after another, each where no checksum matches by chance in the one before. Behind
+-- The life of a node at a place, after this many finds: one after another, each where no checksum matches by chance in the one before. After
 -- the last one some state of these, in which the disk may be said to be, is what the turns have led to.
 abbrev pub Lives : Meaning → EngineKind → Setup → ℕ → ℕ → (Disk Text → Type 0) → List Turn → Option Running → Type 0
 Lives m kind setup n zero states turns node = (d : Disk Text) × states d × Stands m kind setup n turns d node
 Lives m kind setup n (suc finds) states turns node =
     (find : Find) × ReachesSlot m kind setup n turns find × (IsFairFind find → Lives m kind setup n finds states turns node)
 
--- no checksum matches by chance in what was found within so many turns of it
+-- no checksum matches by chance in what was found within this many turns of it
 abbrev pub IsFairWithin : (m : Meaning) (kind : EngineKind) (setup : Setup) (n finds : ℕ) (states : Disk Text → Type 0) (turns : List Turn)
     (node : Option Running) → ℕ → Lives m kind setup n finds states turns node → Type 0
 IsFairWithin m kind setup n zero states turns _ count life = Unit {0}

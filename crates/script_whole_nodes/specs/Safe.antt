@@ -13,7 +13,7 @@ use Rattle.script_safety.specs.Mails.{ByNodes, OverByNode}
 use Rattle.script_whole_nodes.specs.Lives.{Lives, IsFairWithin}
 use Rattle.script_whole_nodes.specs.Turns.{Knows, states_in}
 
--- The life of a node, behind these turns of it: so many finds, and what its disk holds now.
+-- The life of a node, after these turns of it: this many finds, and what its disk holds now.
 pub record NodeLife (kind : EngineKind) (voters n : ℕ) (turns : List Turn) : Type 0 where
   pub finds : ℕ
   pub disk : Contents
@@ -28,7 +28,7 @@ pub data LifeOf (kind : EngineKind) (voters n : ℕ) (turns : List Turn) : Type 
 abbrev pub AllLive : EngineKind → ℕ → List Turn → Type 0
 AllLive kind voters turns = (n : ℕ) → LifeOf kind voters n (turns_at n turns)
 
--- no checksum matches by chance in what was found within so many turns of a node
+-- no checksum matches by chance in what was found within this many turns of a node
 abbrev pub IsFairLife : (kind : EngineKind) (voters n : ℕ) (turns : List Turn) → ℕ → LifeOf kind voters n turns → Type 0
 IsFairLife kind voters n turns count (idle none) = Unit {0}
 IsFairLife kind voters n turns count (lived one) =
@@ -38,7 +38,7 @@ IsFairLife kind voters n turns count (lived one) =
 abbrev pub IsFairTo : (kind : EngineKind) (voters : ℕ) (turns : List Turn) → AllLive kind voters turns → List Turn → Type 0
 IsFairTo kind voters turns lives front = (n : ℕ) → IsFairLife kind voters n (turns_at n turns) (length (turns_at n front)) (lives n)
 
--- the life of a node with what it did behind these turns, which isn't among them
+-- the life of a node with what it did after these turns, which isn't among them
 abbrev pub OverLives : EngineKind → ℕ → List Turn → Option Turn → Type 0
 OverLives kind voters turns None = Unit {0}
 OverLives kind voters turns (Some turn) = NodeLife kind voters (actor turn) (turns_at (actor turn) turns ++ turn ∷ [])
@@ -49,8 +49,8 @@ IsFairOver kind voters turns (Some turn) life =
     IsFairWithin (any_meaning kind) kind (setup_of voters) (actor turn) life.finds (states_in life.disk) (turns_at (actor turn) turns ++ turn ∷ []) life.node
     (length (turns_at (actor turn) turns ++ turn ∷ [])) life.life
 
--- These turns are those of whole nodes, each over a disk of its own, in a cluster that was opened with so many voters: up to any of them, whole
--- nodes did this, where no checksum matched by chance in what was found until then. So it is of what a node did that isn't among them.
+-- These turns are those of whole nodes, each over its own disk, in a cluster that was opened with this many voters: up to any of them, whole
+-- nodes did this, if no checksum matched by chance in what was found until then. This holds for what a node did that isn't among them.
 pub record AreOfNodes (kind : EngineKind) (turns : List Turn) (over : Option Turn) : Type 0 where
   pub voters : ℕ
   pub lives : AllLive kind voters turns
@@ -61,11 +61,11 @@ pub record AreOfNodes (kind : EngineKind) (turns : List Turn) (over : Option Tur
 
 -- ---- the laws
 
--- so it is where the places of whole nodes know the turns
+-- this holds if the places of whole nodes know the turns
 abbrev pub PlacesTell : EngineKind → Type 0
 PlacesTell kind = (turns : List Turn) (over : Option Turn) → Told (Knows kind) turns over → AreOfNodes kind turns over
 
--- Whatever script it was, and whatever came of its events: up to any turn it is safe, where nothing was found by chance until then.
+-- Whatever script it was, and whatever came of its events: up to any turn it is safe, if nothing was found by chance until then.
 abbrev pub WholeScriptsAreSafe : EngineKind → Type 0
 WholeScriptsAreSafe kind =
     (script : List ℕ) (outcomes : List Outcome) (over : Option Turn) (of : AreOfNodes kind (run script outcomes).turns over) (front rest : List Turn) →

@@ -16,15 +16,15 @@ use Rattle.script_cluster.specs.Outcomes.{Standing}
 use Rattle.script_cluster.specs.World.{Place}
 use Rattle.script_whole_nodes.specs.declared.node_slot.NodeSlot.{NodeSlot}
 
--- A node that runs well with an engine that knows this: it isn't down, is sound, no number stands for two images at it and the engine, and
--- it has no links.
+-- A node that runs well with an engine that knows this: it isn't down, is sound, no number represents two images at it and the engine, and
+-- it has no peer connections.
 pub record RunsWell (known : List Known) (node : Node) : Type 0 where
   pub up : IsUp node
   pub sound : IsSound node
   pub agrees : Agrees known node
   pub links : has_links node ≡ false
 
--- Where a node runs, it does so well, and no call of the disk has stopped or failed since it started.
+-- If a node runs, it does so well, and no call of the disk has stopped or failed since it started.
 abbrev pub SitsWell : List Known → Bool → Option Node → Type 0
 SitsWell known has_failed None = Unit {0}
 SitsWell known has_failed (Some node) = RunsWell known node × (has_failed ≡ false)
@@ -44,7 +44,7 @@ IsSeated seat = Sits seat × IsQuiet seat.engine seat.node × (any_kind seat.eng
 abbrev pub standing_of : Node → Standing
 standing_of node = record { term = (raft_of node).term; role = (raft_of node).role; applied = applied_of node; databases = contents_of (databases_of node) }
 
--- the line of a node in this term and role, which has applied so many entries, with this digest of its files
+-- the line of a node in this term and role, which has applied this many entries, with this digest of its files
 abbrev pub line_with : ℕ → RaftRole → ℕ → List ℕ → NodeLine
 line_with term role applied sum = record { term = term; role = role; applied = applied; digest = sum }
 

@@ -48,7 +48,7 @@ running_in None = None
 abbrev pub states_in : Contents → Disk Text → Type 0
 states_in contents = Holds (memory_of contents)
 
--- These turns of the node of this number, in a cluster that was opened with so many voters, have led to this seat.
+-- These turns of the node of this number, in a cluster that was opened with this many voters, have led to this seat.
 abbrev pub Knows : EngineKind → NodeSlot → ℕ → ℕ → List Turn → Type 0
 Knows kind seat node voters turns =
     (finds : ℕ) × Lives (any_meaning kind) kind (setup_of voters) node finds (states_in seat.disk.contents) turns (running_in seat.node)
@@ -61,7 +61,7 @@ MadeActs engine engine_now was now event outs = (opening : List Server) →
     AccountsForStep (any_meaning (any_kind engine.engine)) (any_kind engine.engine) (read_setup opening) was.running now.running event outs
     (Some (told_by engine.noted engine.cut)) (Some (told_by engine_now.noted engine_now.cut))
 
--- By the answers that the engine told its core became that of the node behind it.
+-- By the answers that the engine told its core became that of the node after it.
 abbrev pub ActsExactly : Noting AnyEngine → Noting AnyEngine → Node → Node → Event → CoreOuts → Type 0
 ActsExactly engine engine_now was now event outs =
     Answered (Some (told_by engine.noted engine.cut)) (Some (told_by engine_now.noted engine_now.cut))
@@ -71,12 +71,12 @@ ActsExactly engine engine_now was now event outs =
 abbrev pub ShowsFiles : Node → Type 0
 ShowsFiles node = contents_of (databases_of node) ≡ contents_in (core_of node.running).files
 
--- The disk keeps what the node is, where it did so before; and all that is committed is applied.
+-- The disk keeps what the node is, if it did so before; and all that is committed is applied.
 pub record KeepsUp (disk disk_now : Contents) (was now : Node) : Type 0 where
   pub stored : IsKept true (states_in disk) (replica_of was) → IsKept true (states_in disk_now) (replica_of now)
   pub applied : applied_of now ≡ (raft_of now).commit
 
--- A step that failed or was stopped leaves on the disk what the acts of the rules leave, where the disk kept what the node was.
+-- A step that failed or was stopped leaves on the disk what the acts of the rules leave, if the disk kept what the node was.
 abbrev pub LeavesShort : Noting AnyEngine → Contents → Contents → Node → Event → Type 0
 LeavesShort engine disk disk_now was event = (opening : List Server) → IsKept true (states_in disk) (replica_of was) →
     Finds true (states_in disk_now) (AccountsForStop (any_meaning (any_kind engine.engine)) (any_kind engine.engine) (read_setup opening) was.running event)
@@ -108,7 +108,7 @@ abbrev pub IsFound : Bool → Contents → Contents → Type 0
 IsFound true old new = IsFoundBy (Stops 0) old new
 IsFound false old new = IsFoundBy (Fails 0) old new
 
--- so by how an event ended by which a node fell, when so many things were kept whole
+-- so by how an event ended by which a node fell, when this many things were kept whole
 abbrev pub FallsTo : ℕ → Contents → Contents → EventEnd → Type 0
 FallsTo keeps old new (ended.Stopped told) = (told ≡ keeps) × IsFound true old new
 FallsTo keeps old new (ended.Failed told) = (told ≡ keeps) × IsFound false old new
@@ -118,8 +118,8 @@ FallsTo keeps old new ended.Unreadable = ⊥
 
 -- ---- starts
 
--- A node has started over a disk: it stands for each node of Raft that had stored what was kept, in the cluster of these voters, by this
--- number; and it has no links.
+-- A node has started over a disk: it represents each node of Raft that had stored what was kept, in the cluster of these voters, by this
+-- number; and it has no peer connections.
 pub record NodeStarted (number voters : ℕ) (disk disk_now : Contents) (node : Node) : Type 0 where
   pub starts : CompletesStart (read_setup (voters_from voters 1)) (kept_by node) (node_of node) (servers_told node)
   pub id : (replica_of node).raft.id ≡ number
@@ -138,7 +138,7 @@ pub record RunsNow (number voters : ℕ) (old new : NodeSlot) (loaded : Option K
   pub unasked : new.engine.noted ≡ []
   pub started : NodeStarted number voters old.disk.contents new.disk.contents node
 
--- So it is where a node that has started is put there; the disk stays.
+-- This holds if a node that has started is put there; the disk stays.
 pub record IsStartedIn (old new : NodeSlot) (node : Node) (ended : StartEnd) : Type 0 where
   pub loaded : Option Kept
   pub ended_is : ended ≡ ends.Runs loaded

@@ -28,7 +28,7 @@ use store_format::Kept;
 /// Why a node fell in a step.
 #[derive(Clone, Copy)]
 pub(crate) enum Fell {
-    /// Its disk stopped or a call of it failed, when so many things were kept whole.
+    /// Its disk stopped or a call of it failed, when this many things were kept whole.
     DiskFault(u64),
     /// There is not enough memory.
     NoMemory,
@@ -37,11 +37,11 @@ pub(crate) enum Fell {
 /// How a start ended.
 #[derive(Drop)]
 pub(crate) enum StartEnd {
-    /// A node runs. It tells what it has loaded, where a call of the disk stopped or failed since the last start that ended well.
+    /// A node runs. It says what it has loaded, if a call of the disk stopped or failed since the last start that ended well.
     Runs(Option<Kept>),
     /// The disk stopped, or a call of it failed.
     DiskFault,
-    /// What lies on the disk doesn't load, which comes in a script only where a checksum matches by chance.
+    /// What lies on the disk doesn't load, which comes in a script only if a checksum matches by chance.
     Unreadable,
 }
 
@@ -77,7 +77,7 @@ fn take_aim(disk: &mut MemDisk, aim: FaultTarget)
 }
 
 #[tactic(auto, using(crate::proofs::Seating::runs_well, crate::proofs::Seating::not_down))]
-/// A step of a node. Where it ends well nothing is aimed at any more.
+/// A step of a node. If it ends well nothing is aimed at any more.
 fn step_in(
     node: &mut Node,
     event: CoreEvent,
@@ -107,7 +107,7 @@ fn step_in(
 }
 
 #[tactic(auto, using(crate::proofs::Seating::none_sits))]
-/// A step of the node that runs, while a line aims at a call of its disk. Where it falls no node runs any more.
+/// A step of the node that runs, while a line aims at a call of its disk. If it falls no node runs any more.
 pub(crate) fn step_node(
     seat: &mut NodeSlot,
     event: NodeEvent,
@@ -134,7 +134,7 @@ pub(crate) fn step_node(
     }
 }
 
-/// What a node has loaded, where that is to be told.
+/// What a node has loaded, if that is to be sent.
 fn loaded_by(node: &Node, is_told: bool) -> Result<Option<Kept>, AllocError>
     requires sound { IsSound node.now }
     requires up { IsUp node.now }
@@ -170,7 +170,7 @@ fn seat_node(seat: &mut NodeSlot, node: Node) -> Result<StartEnd, AllocError>
     Ok(StartEnd::Runs(loaded))
 }
 
-/// What a node is made of: it has this number, no links, no readers, and no limit of steps.
+/// What a node is made of: it has this number, no peer connections, no readers, and no limit of steps.
 fn spec_of(alloc: Global, node: u64, voters: VoterCount) -> Result<NodeSpec, AllocError>
     ensures servers { IfOk result (λ spec. spec.servers ≡ voters_from voters 1) }
     ensures configuration { IfOk result (λ spec. IsConfiguration spec.servers) }

@@ -146,7 +146,7 @@ fn find(disk: &mut MemDisk) -> Result<bool, AllocError>
     Ok(false)
 }
 
-/// How an event ended by which a node fell, when so many things of it were kept whole: its disk stopped, and takes the outcome of the
+/// How an event ended by which a node fell, when this many things of it were kept whole: its disk stopped, and takes the outcome of the
 /// stop's pick; or a call of it failed.
 fn fall(seat: &mut NodeSlot, keeps: u64) -> Result<EventEnd, AllocError>
     requires { seat.old.node ≡ None }
@@ -189,7 +189,7 @@ pub(crate) fn step(
 }
 
 #[tactic(auto, using(crate::proofs::Seating::is_start_well, crate::proofs::Seating::is_start_fallen, crate::proofs::Seating::is_start_unread, crate::proofs::Seating::none_seated))]
-/// A node starts over the disk, with an engine that knows nothing, where none runs.
+/// A node starts over the disk, with an engine that knows nothing, if none runs.
 pub(crate) fn start(
     seat: &mut NodeSlot,
     node: u64,

@@ -21,7 +21,7 @@ fn voter(alloc: Global, id: u64) -> Result<Server, AllocError>
     })
 }
 
-/// The servers with which a cluster of so many voters is opened: those of the lowest numbers, each at the address of its number.
+/// The servers with which a cluster of this many voters is opened: those of the lowest numbers, each at the address of its number.
 #[tactic(auto, using(crate::proofs::Voting::one_more, crate::proofs::Voting::is_configuration))]
 pub(crate) fn opening_servers(alloc: Global, voters: VoterCount) -> Result<Servers, AllocError>
     ensures servers { IfOk result (λ servers. servers ≡ voters_from voters 1) }

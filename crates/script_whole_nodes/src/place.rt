@@ -48,8 +48,8 @@ impl EngineChoice for CellChoice {
     }
 }
 
-/// The place of a whole node: its disk in memory, and the node that runs over it with its engine, if one does. Such a node isn't
-/// down, and no number stands for two images at it and its engine.
+/// The place of a whole node: its disk in memory, and the node that runs over it with its engine, if one does. The node isn't
+/// down, and no number represents two images at it and its engine.
 #[derive(Drop)]
 pub struct WholePlace<C: EngineChoice> {
     seat: NodeSlot,

@@ -104,7 +104,7 @@ module _ {E : Type 0} (tells : Bool) (before after : Disk Text → Type 0) (s no
       (subst (λ (n : ℕ). Known tells before (IsFree (file_name (Segment n))) → Went (begin_calls (file_name (Segment n)) segment_word (batch_bytes b)) before after result) is_number
       (λ free. subst (λ (x : List ℕ). Went (begin_calls (file_name (Segment number)) segment_word x) before after result) is (went free)))
 
--- where nothing was called the old state is there
+-- if nothing was called the old state is there
 pub none_appended : {E : Type 0} (tells : Bool) (states : Disk Text → Type 0) (s now : Open) (k new : Kept) (fault : E) → s.next ≤ 10000000000000000 → Keeps tells states states s now k new (Err fault)
 none_appended tells states s now k new fault small = none_keeps tells states s now k new fault small
 

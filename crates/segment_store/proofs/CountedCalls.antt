@@ -33,7 +33,7 @@ file_is is_there b e = ap (λ (c : Bool). cond c 4 3) e
 pub batch_is : (room o : Option ℕ) → room ≡ o → batch_count room ≡ batch_count o
 batch_is room o e = ap batch_count e
 
--- one call more behind others, which failed, and which was Ok
+-- one call more after others, which failed, and which was Ok
 pub err_after : {S T E F : Type 0} (a all old mid now : ℕ) (x : S) (y : F) → a + 1 ≤ all → MakesCalls {T = S} {E = E} a old mid (Ok x) → now ≡ one_more mid → MakesCalls {T = T} {E = F} all old now (Err y)
 err_after a all old mid now x y l c e = record {
   made = a + 1;

@@ -26,7 +26,7 @@ settled_none top e s = record { none = λ j h. (s.above j h, s.segment j) }
 none_left : (top : ℕ) (e : NodeDisk) → NoneFrom top e → (g : NodeFiles) → Leaves e g → (j : ℕ) → top ≤ j → (g (Segment j)).there ≡ false
 none_left top e s g left j h = let z = s.none j h in ap (λ (x : Found). x.there) (rest_only _ _ _ z.1 (left.each (Segment j))) ∙ z.0
 
--- so the greatest bound says the same of each crash's files
+-- so the greatest bound says the same for each crash's files
 pub kept_top : (top : ℕ) (e : NodeDisk) → NoneFrom top e → top ≤ 10000000000000000 → (g : NodeFiles) → Leaves e g → kept node_format 10000000000000000 g ≡ kept node_format top g
 kept_top top e s small g left = kept_of node_format top 10000000000000000 g (segments_up top 10000000000000000 g (none_left top e s g left) small)
 

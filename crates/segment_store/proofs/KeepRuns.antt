@@ -22,7 +22,7 @@ cut_standing : (b : Bool) (h : Held) → (cond b (after_cut 0 h) h).standing ≡
 cut_standing true h = refl
 cut_standing false h = refl
 
--- a file that was cut may be written
+-- a file that was truncated may be written
 pub cut_may_write : (n : Text) (tells : Bool) (old mid : Disk Text → Type 0) (x : Unit {0}) → Known tells old (MayWrite n 0) → Steps (CutTo n 0) old mid (Ok x) → Known tells mid (MayWrite n 0)
 cut_may_write n tells old mid x known steps = known_steps (CutTo n 0) old mid (Ok x) tells (MayWrite n 0) (MayWrite n 0) known steps (λ d e may z. record {
   within = omega arith;
@@ -51,7 +51,7 @@ pub file_may : (p : KeepPlan) (tells : Bool) (old : Disk Text → Type 0) → Kn
 file_may p tells old known = known_map tells old (MayKeep p) (MayWrite p.snapshot.name 0) known (λ d m. m.file)
 
 module _ (p : KeepPlan) (tells : Bool) (old mid : Disk Text → Type 0) (known : Known tells old (MayKeep p)) where
-  -- the segment isn't there behind the snapshot's file
+  -- the segment isn't there after the snapshot's file
   free_behind : (x : Unit {0}) → Ran (snapshot_plan_calls p.snapshot) old mid (Ok x) → Known tells mid (IsFree p.segment.name)
   free_behind x ran = known_ran (snapshot_plan_calls p.snapshot) old mid (Ok x) tells (MayKeep p) (IsFree p.segment.name) known ran (λ d e m z.
       let so = file_else p.snapshot.name p.snapshot.is_there (file_bytes p.snapshot) d e z.0 in

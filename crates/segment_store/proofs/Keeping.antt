@@ -48,7 +48,7 @@ cause_disk before now disk.NoMemory h = record { never_falls = h.never_falls; fa
 pub cause_ok : {S T : Type 0} (before now : ℕ) (x : S) (y : T) → HasCause before now (Ok x) → DiskCause before now (Ok y)
 cause_ok before now x y h = record { never_falls = h.never_falls; failed = λ q. absurd cc }
 
--- a fault of the disk is counted, and so is a want
+-- a fault of the disk is counted, and the same holds for a want
 pub counted : {T D : Type 0} (was now : D) (faults faults_after wants wants_after : ℕ) (x : DiskFaultOf) → HasCause {T = T} faults faults_after (Err x) → HasWant {T = T} wants wants_after (Err x)
     → (now ≡ was) ⊎ (Rose faults faults_after ⊎ Rose wants wants_after)
 counted was now faults faults_after wants wants_after disk.Failed cause want = inr (inl (cause.failed refl))
@@ -56,7 +56,7 @@ counted was now faults faults_after wants wants_after disk.NoMemory cause want =
 
 -- ---- an open store
 
--- where nothing was called the old state is there
+-- if nothing was called the old state is there
 pub nothing_called : (s : Open) (k new : Kept) → s.next ≤ 10000000000000000 → (d : Disk Text) → IsOpen s k (folder d) → OldOrNew k new (folder d)
 nothing_called s k new small d o = record {
   crash = λ g left fair. inl (kept_top s.next (folder d) (settled_none s.next (folder d) o.settled) small g left ∙ settled_images node_format s.next (folder d) o.settled g left ∙ o.reads);
@@ -94,7 +94,7 @@ pub as_noted : {E : Type 0} (tells : Bool) (before after : Disk Text → Type 0)
 as_noted tells before after s now then k new (Err x) e keeps = keeps
 as_noted tells before after s now then k new (Ok x) e keeps = λ known. let z = keeps known in (subst (λ (o : Open). Known tells after (λ d. HasNew o new (folder d))) (sym e) z.0, tt)
 
--- the same of a call that noted the write after it
+-- the same for a call that noted the write after it
 pub set_meta_kept : {E : Type 0} (tells : Bool) (before after : Disk Text → Type 0) (s now : Open) (k : Kept) (m : Metadata) (size : Option ℕ) (result : Result Unit E)
     → s.next ≤ 10000000000000000 → m.version ≡ suc s.version → m.version < 2 ^ 64 → m.term < 2 ^ 64 → m.vote < 2 ^ 64 → size ≡ size_for m.version s → OnOk result (now ≡ with_version m.version s)
     → (Known tells before (MayWrite (file_name (file_of (m.version % 2 == 1))) 0) → Went (block_calls (file_name (file_of (m.version % 2 == 1))) (block_bytes m) size) before after result)

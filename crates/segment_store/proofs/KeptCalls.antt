@@ -1,4 +1,4 @@
--- The calls that keep a snapshot are those of the law, with their names spelled.
+-- The calls that keep a snapshot are those of the law, with their names encoded.
 use Rattle.std.proofs.Common.{◌≡◌, ℕ, zero, suc, ◌+◌, Bool, true, false, cond, List, [], ◌∷◌, ◌++◌, refl, sym, ap, ◌∙◌, arith}
 use Rattle.disk_model.specs.Calls.{Call, Remove, SyncNames}
 use Rattle.disk_model.specs.Trait.{Text}
@@ -15,7 +15,7 @@ use Rattle.segment_store.specs.Keeping.{file_calls, removal_calls, loose_removal
 
 -- ---- the segments that are there go
 
--- one segment, where it is there
+-- one segment, if it is there
 abbrev one : NodeFiles → ℕ → List NodeCall
 one r m = cond (r (Segment m)).there (Remove (Segment m) ∷ SyncNames ∷ []) []
 
@@ -43,7 +43,7 @@ all_removed r zero = refl
 all_removed r (suc n) =
     last_removed r 0 n n (omega arith) ∙ ap (λ (l : List NodeCall). l ++ one r n) (all_removed r n) ∙ sym (each_last (segment_numbers n r) n (r (Segment n)).there)
 
--- ---- names spelled
+-- ---- names encoded
 
 spelled_both : (cs ds : List NodeCall) → all_spelled file_name (cs ++ ds) ≡ all_spelled file_name cs ++ all_spelled file_name ds
 spelled_both [] ds = refl

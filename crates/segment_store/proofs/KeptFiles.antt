@@ -1,4 +1,4 @@
--- What stands in the files once a snapshot is kept.
+-- What is in the files once a snapshot is kept.
 use Rattle.std.proofs.Common.{◌≡◌, inl, inr, ℕ, zero, suc, ◌+◌, ◌<◌, ◌≤◌, Bool, true, false, cond, List, [], ◌∷◌, ◌++◌, length, refl, sym, ap, ◌∙◌, subst, arith}
 use Rattle.std.specs.Prelude.{◌==◌, ◌||◌, ◌&&◌, nat_lt}
 use Rattle.std.specs.List.{filter}
@@ -78,7 +78,7 @@ file_there n false bytes d e done = there_then n bytes d e done
 abbrev Agree : NodeFiles → ℕ → ℕ → NodeDisk → Type 0
 Agree r a m d = (j : ℕ) → a ≤ j → j < a + m → (d.read (Segment j)).there ≡ (r (Segment j)).there
 
--- what holds of a segment behind the first one, once that one is dealt with
+-- what holds of a segment after the first one, once that one is dealt with
 abbrev Later : NodeFiles → ℕ → ℕ → NodeDisk → ℕ → Type 0
 Later r a m e j = (p : NodeDisk) → Agree r (suc a) m p → Done (remove_from r (suc a) m) p e → suc a ≤ j → (e.read (Segment j)).there ≡ false
 
@@ -157,7 +157,7 @@ kept_and_new : (l : Bool) → cond (l && false) false l ≡ (l && true)
 kept_and_new true = refl
 kept_and_new false = refl
 
--- one file of another snapshot, where the older ones of those that were listed are gone
+-- one file of another snapshot, if the older ones of those that were listed are gone
 listed_after : (index j : ℕ) (js : List ℕ) (before now : Bool) → (j ≡ index → ⊥) → before ≡ is_listed j js → now ≡ cond (is_listed j (older_than index js)) false before → now ≡ is_listed j (index ∷ later_than index js)
 listed_after index j js before now ne was is =
     let l = is_listed j js in

@@ -122,7 +122,7 @@ module _ (k : Kept) (s : Snap) (new : Log) (can : CanKeep k s new) (fits : Fits 
         seen = (seen_holds node_format was.next D o.settled).snapshot was.next s.index absent (omega (arith, newer_than_files was k s.index d o can.past)) bytes segment_word batch older (folder e) v;
       }
 
--- where nothing was called the old state is there
+-- if nothing was called the old state is there
 none_kept : (was : Open) (k : Kept) (s : Snap) (new : Log) → was.next ≤ 10000000000000000 → (d : Disk Text) → IsOpen was k (folder d) → OldOrKept k s new (folder d)
 none_kept was k s new small d o = record {
   crash = λ g left fair. inl (kept_top was.next (folder d) (settled_none was.next (folder d) o.settled) small g left ∙ settled_images node_format was.next (folder d) o.settled g left ∙ o.reads);

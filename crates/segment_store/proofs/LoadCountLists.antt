@@ -1,4 +1,4 @@
--- How often the files of a folder are read, and how many calls follow.
+-- How many times the files of a folder are read, and how many calls follow.
 use Rattle.std.proofs.Common.{◌≡◌, inl, inr, ℕ, zero, suc, ◌+◌, ◌<◌, ◌≤◌, Bool, true, false, cond, List, [], ◌∷◌, ◌++◌, length, take, drop, get_or, Option, Ok, Err, refl, sym, ap, ◌∙◌, arith, length-append}
 use Rattle.std.specs.Prelude.{◌==◌, max}
 use Rattle.std.specs.Global.{Vec}
@@ -344,7 +344,7 @@ settles_as l r first second d listed all = λ i.
     suc (files_are l d listed i)
     + (repair_count (all.segments.last i) + cond (is_stale (all.snap i) (all.segments.log i)) 5 0)
 
--- the calls that empty a log, where the snapshot drops it whole
+-- the calls that empty a log, if the snapshot drops it whole
 abbrev pub stale_count : Bool → ℕ
 stale_count b = cond b 5 0
 

@@ -37,7 +37,7 @@ then_ok a b all before mid now x z y is c d =
     let second : d.made ≡ b = d.all in
     record { made = c.made + d.made; within = omega (arith, first, second, is); counted = d.counted ∙ ap (after_calls d.made) c.counted ∙ sym (after_more c.made d.made before); all = omega (arith, first, second, is) }
 
--- ---- the same by what stood on the disk
+-- ---- the same by what was on the disk
 
 pub counts_refused : {T E : Type 0} (c : Disk Text → ℕ) (s : Disk Text → Type 0) (made : ℕ) (y : E) → Counts {T = T} c s made made (Err y)
 counts_refused c s made y = record { each = λ d b. record { made = 0; within = omega arith; counted = refl; all = tt } }
@@ -98,7 +98,7 @@ piece_some all before into now n at here read some =
     inside zero e ne = absurd (ne refl)
     inside (suc k) e ne = omega (arith, e)
 
--- so many reads were made, and the bytes are as many as they give
+-- this many reads were made, and the bytes are as many as they give
 pub record Piecewise (name : Text) (old : Disk Text → Type 0) (bytes : List ℕ) (made now : ℕ) : Type 0 where
   pub reads : ℕ
   pub counted : now ≡ after_calls reads made

@@ -1,4 +1,4 @@
--- A whole load of a folder whose files stand for a state.
+-- A whole load of a folder whose files represent a state.
 use Rattle.std.proofs.Common.{◌≡◌, inl, inr, ℕ, suc, ◌^◌, ◌<◌, ◌≤◌, Bool, true, false, cond, List, [], ◌∷◌, ◌++◌, sym, ap, ◌∙◌, subst, arith, append_assoc}
 use Rattle.std.specs.Prelude.{nat_lt}
 use Rattle.std.proofs.lemmas.List.{append-nil}
@@ -184,7 +184,7 @@ module _ (D : NodeDisk) (seen : IsSeen D) (ns : List Name) (listed : Names D ns)
   none_above : (e : NodeDisk) → Done front D e → (e.read (Segment (suc k))).there ≡ false
   none_above e u = ((load_holds node_format is_lawful k D loadable ns listed).1 e u).still.above (suc k) (omega arith)
 
-  -- where no batch was written, the number of the last segment is enough
+  -- if no batch was written, the number of the last segment is enough
   pub front_ends : (e : NodeDisk) → stale ≡ false → Done front D e → Comes node_format (suc k) e new
   front_ends e f u =
       let c = at_end e (subst (λ (cs : List NodeCall). Done cs D e) (sym (fresh_calls f)) u) in

@@ -1,4 +1,4 @@
--- What was read says what the files stand for, and what the last segment wants.
+-- What was read says what the files represent, and what the last segment wants.
 use Rattle.std.proofs.Common.{◌≡◌, inl, inr, ℕ, zero, suc, ◌+◌, ◌-◌, ◌<◌, ◌≤◌, Bool, true, false, cond, not, List, [], ◌∷◌, ◌++◌, length, take, drop, Option, Some, None, refl, sym, ap, ◌∙◌, subst, arith, length-append, length-drop}
 use Rattle.std.specs.Prelude.{◌&&◌, ◌==◌, nat_lt, is_some}
 use Rattle.std.proofs.lemmas.List.{append-nil, take_at}
@@ -25,7 +25,7 @@ use Rattle.segment_store.specs.Settling.{left_after}
 use Rattle.segment_store.proofs.LoadNumbers.{one_more, numbers_next}
 use Rattle.segment_store.proofs.LoadRooms.{EndsWith, ends_with, numbers_up}
 
--- ---- what the files stand for
+-- ---- what the files represent
 
 turned : (a : Bool) (d : Option Damage) (b c : Outcome) → cond a NoMeta (cond (not (is_some d)) b c) ≡ cond a NoMeta (cond (is_some d) c b)
 turned true d b c = refl
@@ -45,7 +45,7 @@ judged_is D r first second all =
     (λ i. form (sym all.meta i) (sym all.snap i) (sym all.segments.any i) (sym all.segments.log i) (all.segments.sound i)) in
     path ∙ turned (lacks r) r.segments.damage _ _
 
--- where they stand for a state, there is no damage
+-- if they represent a state, there is no damage
 no_damage : (z : Bool) (d : Option Damage) (gap : Bool) (x y : ℕ) (k n : Kept) → cond z NoMeta (cond (is_some d) Damaged (cond gap (Gap x y) (Loaded k))) ≡ Loaded n → is_some d ≡ false
 no_damage true d gap x y k n e = absurd cc
 no_damage false None gap x y k n e = refl

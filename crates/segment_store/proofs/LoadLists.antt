@@ -217,7 +217,7 @@ names_more : (ts : List Text) (t : Text) → AllNames ts → IsName t → AllNam
 names_more [] t a h = (h, tt)
 names_more (x ∷ ts) t a h = (a.0, names_more ts t a.1 h)
 
--- a text is the name of a file exactly where that is the file
+-- a text is the name of a file exactly if that is the file
 alike : (t : Text) (file : File) (n : Name) → t ≡ file_name (name_of file) → bytes_eq t (file_name n) ≡ same_name (name_of file) n
 alike t file n e = same_test _ _
     (λ q. let same : name_of file ≡ n = no_two_alike (name_of file) n (sym e ∙ (bytes_eq-Decides t (file_name n)).0 q) in ap (same_name (name_of file)) (sym same) ∙ same_self (name_of file))

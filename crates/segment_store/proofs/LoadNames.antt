@@ -58,7 +58,7 @@ then_some : (rest : ℕ → Option ℕ) (o : Option ℕ) (n : ℕ) → then_digi
 then_some rest None n e = absurd cc
 then_some rest (Some m) n e = (m, (refl, e))
 
--- what digits spell, they are the digits of
+-- what digits encode, they are the digits of
 pub digits_spell : (cs : List ℕ) (acc n : ℕ) → read_digits acc cs ≡ Some n → (acc ≡ n / ten (length cs)) × (cs ≡ spelled (length cs) n)
 unfolding read_digits
 digits_spell [] acc n e = (let z : acc ≡ n = some_is acc n e in z ∙ sym (by_one n), refl)
@@ -78,7 +78,7 @@ digits_spell (c ∷ cs) acc n e =
       λ i. (l.1 ∙ ap (λ (x : ℕ). 48 + x % 10) m) i ∷ rest.1 i,
     )
 
--- a number stays below so many tens
+-- a number stays below this many tens
 last_below : (cs : List ℕ) (acc n : ℕ) → acc < 10000000000000000 → read_digits acc cs ≡ Some n → n < 10000000000000000
 unfolding read_digits
 last_below [] acc n small e = let z : acc ≡ n = cc in omega (arith, z, small)
@@ -114,14 +114,14 @@ sixteen_reads n h = ap (read_digits 0) (sixteen_is n) ∙ ap (λ (a : ℕ). read
 behind_is : (kind x y : List ℕ) → kind ++ x ≡ kind ++ y → x ≡ y
 behind_is kind x y e = sym (drop_at kind x (length kind) refl) ∙ ap (drop (length kind)) e ∙ drop_at kind y (length kind) refl
 
--- a number behind a kind, from sixteen digits that read as it
+-- a number after a kind, from sixteen digits that read as it
 pub number_reads : (kind text rest : List ℕ) (n : ℕ) → text ≡ kind ++ rest → length rest ≡ 16 → read_digits 0 rest ≡ Some n → (n < 10000000000000000) × (text ≡ kind ++ number_text n)
 number_reads kind text rest n e long reads =
     let small : n < 10000000000000000 = last_below rest 0 n (omega arith) reads in
     let is : rest ≡ number_text n = (digits_spell rest 0 n reads).1 ∙ ap (λ (k : ℕ). spelled k n) long ∙ sym (sixteen_is n) ∙ sym (small_number n small) in
     (small, e ∙ ap (λ (x : List ℕ). kind ++ x) is)
 
--- none where the text has another length, or doesn't read
+-- none if the text has another length, or doesn't read
 pub not_sixteen : (kind text rest : List ℕ) → text ≡ kind ++ rest → (length rest ≡ 16 → ⊥) → (n : ℕ) → n < 10000000000000000 → text ≡ kind ++ number_text n → ⊥
 not_sixteen kind text rest e other n small is =
     let same : rest ≡ sixteen n = behind_is kind rest (number_text n) (sym e ∙ is) ∙ small_number n small in
@@ -158,7 +158,7 @@ pub digits_end : (n : ℕ) (xs : List ℕ) (i : ℕ) → length xs ≤ i → rea
 unfolding read_digits
 digits_end n xs i h = ap (read_digits n) (drop_of_length-le xs h)
 
--- what stands behind a kind
+-- what follows a kind
 pub not_front : (text kind front : List ℕ) → front ≡ take (length kind) text → bytes_eq front kind ≡ false → (rest : List ℕ) → text ≡ kind ++ rest → ⊥
 not_front text kind front is other rest e =
     let same : front ≡ kind = is ∙ ap (take (length kind)) e ∙ take_at kind rest (length kind) refl in

@@ -21,7 +21,7 @@ pub numbers_next : (n : ℕ) (g : NodeFiles) → segment_numbers (suc n) g ≡ s
 unfolding segment_numbers
 numbers_next n g = refl
 
--- the last segment is there after its repair, where it was and has its first word
+-- the last segment is there after its repair, if it was and has its first word
 repaired : (k : ℕ) (p e : NodeDisk) → Done (repair_calls node_format k (p.read (Segment k))) p e → (e.read (Segment k)).there ≡ ((p.read (Segment k)).there && opens node_format (p.read (Segment k)).bytes)
 unfolding repair_calls
 repaired k p e u = which (p.read (Segment k)).there (opens node_format (p.read (Segment k)).bytes) (is_whole node_format (p.read (Segment k)).bytes) _ refl u

@@ -42,7 +42,7 @@ module _ (l : FolderList) (r : FilesRead) (first second : Option ℕ) (fits : r.
     each = λ d b seen listed all ok. let z = (by_last before after (Err x) went).each d b in (z.0, (z.1.0, (tt, front_fails l r first second d seen listed all ok fits z.0 z.1.1.1)));
   }
 
-  -- or something behind them, without a call
+  -- or something after them, without a call
   pub settle_stops : (before after : Disk Text → Type 0) (u : Unit {0}) (y : StoreFault) → Went {E = StoreFault} calls before after (Ok u) → Settles l r first second before after {E = StoreFault} (Err y)
   settle_stops before after u y went = record {
     each = λ d b seen listed all ok. let z = (by_last before after (Ok u) went).each d b in (z.0, (z.1.0, (tt, front_stops l r first second d seen listed all ok fits z.0 z.1.1.0)));

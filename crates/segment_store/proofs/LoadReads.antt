@@ -58,7 +58,7 @@ pub reads_folder : (s0 s1 s2 : Disk Text → Type 0) (l : FolderList) (r : Files
     → Sees {T = FolderList × (Option ℕ × Option ℕ)} {E = StoreFault} s0 s2 (Ok (l, sizes)) (λ d x. IsListed x.0 (folder d) × (IsPlain (folder d) → ReadsAll (folder d) r x.1.0 x.1.1))
 reads_folder s0 s1 s2 l r sizes a b = record { each = λ d y. let z = a.each d y in let w = b.each d z.0 in (w.0, (z.1, λ plain. w.1 z.1 plain)) }
 
--- ---- where a call fails behind others
+-- ---- where a call fails after others
 
 pub record Stays (old new : Disk Text → Type 0) : Type 0 where
   pub each : (d : Disk Text) → old d → new d

@@ -95,7 +95,7 @@ module _ (l : FolderList) (r : FilesRead) (first second : Option ℕ) (d : Disk 
   snapshots : (e : NodeDisk) → ((j : ℕ) → e.read (Snapshot j) ≡ D.read (Snapshot j)) → HasSnapshots l.snapshots e.read
   snapshots e same j h = ap (λ (x : Found). x.there) (same j) ∙ listed.there (Snapshot j) h
 
-  -- the store, where the log isn't emptied
+  -- the store, if the log isn't emptied
   pub front_opens : (version : ℕ) → next_stamp r.meta ≡ suc (suc version) → is_stale r.snap r.segments.log ≡ false → (e : Disk Text) → Done (all_spelled file_name (front_calls l r.segments.last)) d e
       → HasNew (record { version = version; first = first; second = second; next = suc k; size = None; segments = left_after r.segments.last l.segments; snapshots = l.snapshots }) (kept_by r) (folder e)
   front_opens version v fresh e u =

@@ -20,7 +20,7 @@ tens : ℕ → ℕ
 tens zero = 1
 tens (suc k) = tens k * 10
 
--- so many last digits
+-- this many last digits
 digits : ℕ → ℕ → List ℕ
 digits zero n = []
 digits (suc k) n = digit n (tens k) ∷ digits k n
@@ -29,7 +29,7 @@ all_digits : (n : ℕ) → sixteen n ≡ digits 16 n
 unfolding sixteen tens digits
 all_digits n = refl
 
--- what is beyond so many last digits and each of these digits make the number
+-- what is beyond this many last digits and each of these digits make the number
 same_last : (k n m : ℕ) → n / tens k ≡ m / tens k → digits k n ≡ digits k m → n / 1 ≡ m / 1
 unfolding tens digits
 same_last zero n m above e = above
@@ -62,7 +62,7 @@ numbers_alike n m e =
         let more : length (replicate {A = ℕ} (n / 10000000000000000) 0) ≡ n / 10000000000000000 = length-replicate (n / 10000000000000000) 0 in
         length-append (sixteen n) (replicate (n / 10000000000000000) 0) ∙ (λ i. sixteen_long n i + more i)
 
--- the first two letters tell the kinds apart, and the last one the two files of metadata
+-- the first two peer messages tell the kinds apart, and the last one the two files of metadata
 pub no_two_alike : (m n : Name) → file_name m ≡ file_name n → m ≡ n
 no_two_alike First First e = refl
 no_two_alike First Second e = let z : 49 ≡ 50 = ap (λ (l : List ℕ). get_or l 8 0) e in absurd (omega (arith, z))

@@ -1,4 +1,4 @@
--- A start after calls and starts that were stopped or failed finds what the files stand for.
+-- A start after calls and starts that were stopped or failed finds what the files represent.
 use Rattle.std.proofs.Common.{◌≡◌, inl, inr, ◌⊎◌, ℕ, zero, suc, [], Result, Ok, Err, refl, sym, ap, ◌∙◌, subst}
 use Rattle.disk_model.specs.Disk.{Disk, Leaves}
 use Rattle.disk_model.specs.Rest.{AfterCrash}

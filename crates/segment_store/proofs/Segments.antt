@@ -31,7 +31,7 @@ until_front (c ∷ cs) ds d e (inl q) = inl q
 until_front (c ∷ cs) ds d e (inr (inl broke)) = inr (inl broke)
 until_front (c ∷ cs) ds d e (inr (inr (m, (did, u)))) = inr (inr (m, (did, until_front cs ds m e u)))
 
--- one list of calls behind another
+-- one list of calls after another
 pub ran_both : (cs ds : List (Call Text)) (old mid new : Disk Text → Type 0) (x : Unit {0}) (result : Result Unit DiskFault) → Ran cs old mid (Ok x) → Ran ds mid new result → Ran (cs ++ ds) old new result
 ran_both cs ds old mid new x (Ok y) first second = record { each = λ d z. let a = first.each d z in let b = second.each a.0 a.1.0 in (b.0, (b.1.0, (done_both cs ds d a.0 b.0 a.1.1.0 b.1.1.0, tt))) }
 ran_both cs ds old mid new x (Err y) first second = record { each = λ d z. let a = first.each d z in let b = second.each a.0 a.1.0 in (b.0, (b.1.0, (tt, until_both cs ds d a.0 b.0 a.1.1.0 b.1.1.1))) }
@@ -39,7 +39,7 @@ ran_both cs ds old mid new x (Err y) first second = record { each = λ d z. let 
 pub ran_front : (cs ds : List (Call Text)) (old new : Disk Text → Type 0) (x y : DiskFault) → Ran {T = Unit {0}} cs old new (Err x) → Ran {T = Unit {0}} (cs ++ ds) old new (Err y)
 ran_front cs ds old new x y first = record { each = λ d z. let a = first.each d z in (a.0, (a.1.0, (tt, until_front cs ds d a.0 a.1.1.1))) }
 
--- the batch may be written behind the word
+-- the batch may be written after the word
 word_stands : (n : Text) (word : List ℕ) (d e : Disk Text) → IsFree n d → Done (replace_calls n word false) d e → MayWrite n (length word) e
 word_stands n word d e free done =
     let empty : (d.read n).bytes ≡ [] = free.rest.empty free.not_there in

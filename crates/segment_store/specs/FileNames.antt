@@ -16,7 +16,7 @@ digit n power = 48 + n / power % 10
 unfoldable pub sixteen : ℕ → List ℕ
 sixteen n = map (digit n) powers
 
--- A number in sixteen digits. What a greater number, which no file has, is beyond them stands behind them as so many
+-- A number in sixteen digits. What a greater number, which no file has, is beyond them follows them as this many
 -- NULs, which no name has, so that no two numbers are alike.
 unfoldable pub number_text : ℕ → List ℕ
 number_text n = sixteen n ++ replicate (n / 10000000000000000) 0

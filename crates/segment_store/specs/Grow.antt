@@ -20,12 +20,12 @@ pub record IsFree (n : Text) (d : Disk Text) : Type 0 where
   pub not_there : (d.read n).there ≡ false
   pub rest : Rest (d.held n) (d.read n)
 
--- the segment that is there, where it isn't full: it has fewer than 8,388,608 bytes
+-- the segment that is there, if it isn't full: it has fewer than 8,388,608 bytes
 abbrev pub room_in : Option ℕ → Option ℕ
 room_in None = None
 room_in (Some n) = cond (nat_lt n 8388608) (Some n) None
 
--- the store after a batch of so many bytes: in the segment that had room, or in a new one
+-- the store after a batch of this many bytes: in the segment that had room, or in a new one
 abbrev pub appended_to : Option ℕ → ℕ → Open → Open
 appended_to (Some n) count s = record { version = s.version; first = s.first; second = s.second; next = s.next; size = Some (n + count); segments = s.segments; snapshots = s.snapshots }
 appended_to None count s = record { version = s.version; first = s.first; second = s.second; next = suc s.next; size = Some (8 + count); segments = s.segments ++ s.next ∷ []; snapshots = s.snapshots }

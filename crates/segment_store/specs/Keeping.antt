@@ -70,7 +70,7 @@ with_kept index count s = record {
 abbrev pub snap_value : SnapshotValue → Snap
 snap_value s = record { index = s.index; term = s.term; bytes = s.bytes }
 
--- a snapshot may be kept with this log behind it: a term is kept, the snapshot is newer than the kept one, and the log is
+-- a snapshot may be kept with this log after it: a term is kept, the snapshot is newer than the kept one, and the log is
 -- what stays of the kept one
 pub record CanKeep (k : Kept) (s : Snap) (new : Log) : Type 0 where
   pub has_term : k.term ≢ 0
@@ -85,7 +85,7 @@ pub record OldOrKept (old : Kept) (s : Snap) (new : Log) (d : NodeDisk) : Type 0
   pub crash : (g : NodeFiles) → Leaves d g → NoChance node_format d g → BeforeOrLonger node_format 10000000000000000 old s new g
   pub seen : Leaves d d.read
 
--- Where the store was open over a disk with the old state, it is so over the new one after Ok; after an Err the disk has
+-- If the store was open over a disk with the old state, it is so over the new one after Ok; after an Err the disk has
 -- the old state or the new snapshot, whatever a crash leaves.
 abbrev pub KeepsSnapshot : {E : Type 0} → Bool → (Disk Text → Type 0) → (Disk Text → Type 0) → Open → Open → Kept → Snap → Log → Result Unit E → Type 0
 KeepsSnapshot tells before after was now old s new result =

@@ -28,14 +28,14 @@ pub record HasNew (s : Open) (new : Kept) (d : NodeDisk) : Type 0 where
   pub is_open : IsOpen s new d
   pub crash : (g : NodeFiles) → Leaves d g → kept node_format 10000000000000000 g ≡ Loaded new
 
--- Where the store was open over a disk with the old state, it is so over the new one after Ok; after an Err the disk has
+-- If the store was open over a disk with the old state, it is so over the new one after Ok; after an Err the disk has
 -- the old state or the new one, whatever a crash leaves.
 abbrev pub Keeps : {E : Type 0} → Bool → (Disk Text → Type 0) → (Disk Text → Type 0) → Open → Open → Kept → Kept → Result Unit E → Type 0
 Keeps tells before after was now old new result =
     Known tells before (λ d. IsOpen was old (folder d))
     → OnOk result (Known tells after (λ d. HasNew now new (folder d))) × OnErr result (Known tells after (λ d. OldOrNew old new (folder d)))
 
--- a list of calls, of a function with faults of its own: all were made where the answer is Ok, else a part of them
+-- a list of calls, of a function with its own faults: all were made where the answer is Ok, else a part of them
 pub record Went {E : Type 0} (calls : List (Call Text)) (before after : Disk Text → Type 0) (result : Result Unit E) : Type 0 where
   pub each : (d : Disk Text) → before d → (e : Disk Text) × (after e × (OnOk result (Done calls d e) × OnErr result (Until calls d e)))
 
@@ -43,7 +43,7 @@ pub record Went {E : Type 0} (calls : List (Call Text)) (before after : Disk Tex
 abbrev pub over_calls : Text → List ℕ → List (Call Text)
 over_calls n block = WriteAt n 0 block ∷ Sync n ∷ CutTo n 40 ∷ Sync n ∷ []
 
--- and over one of this size, or where there is none
+-- and over one of this size, or without one
 abbrev pub block_calls : Text → List ℕ → Option ℕ → List (Call Text)
 block_calls n block None = replace_calls n block false
 block_calls n block (Some size) = cond (nat_lt 40 size) (over_calls n block) (replace_calls n block true)

@@ -11,11 +11,11 @@ use Rattle.segment_store.specs.declared.names.File.TheVariants as files
 use Rattle.segment_store.specs.FileNames.{file_name, name_of, number_of}
 use Rattle.segment_store.specs.Open.{is_listed, segment_numbers, snapshot_numbers}
 
--- one digit more behind a number of fewer than sixteen
+-- one digit more after a number of fewer than sixteen
 abbrev pub digits_in : ℕ → ℕ → Option ℕ
 digits_in n c = cond (nat_lt n 1000000000000000 && (nat_le 48 c && nat_le c 57)) (Some (n * 10 + (c - 48))) None
 
--- digits behind a number
+-- digits after a number
 abbrev pub then_digits : (ℕ → Option ℕ) → Option ℕ → Option ℕ
 then_digits rest None = None
 then_digits rest (Some n) = rest n

@@ -16,13 +16,13 @@ use Rattle.segment_store.specs.Keeps.{folder}
 use Rattle.segment_store.specs.Listed.{FolderList}
 use Rattle.segment_store.specs.Loading.{IsSeen}
 
--- The number of calls goes by what stood on the disk: so many were made after Ok, and no more after an Err.
+-- The number of calls goes by what was on the disk: this many were made after Ok, and no more after an Err.
 pub record Counts {T E : Type 0} (count : Disk Text → ℕ) (before : Disk Text → Type 0) (made now : ℕ) (result : Result T E) : Type 0 where
   pub each : (d : Disk Text) → before d → MakesCalls (count d) made now result
 
 -- ---- reading
 
--- a file of so many bytes is read in pieces of 65,536 bytes, and one read more finds its end
+-- a file of this many bytes is read in pieces of 65,536 bytes, and one read more finds its end
 abbrev pub reads_for : ℕ → ℕ
 reads_for size = suc ((size + 65535) / 65536)
 
@@ -91,7 +91,7 @@ snapshots_there (suc n) g = snapshots_there n g + one_if (g (Snapshot n))
 abbrev pub files_there : NodeFiles → ℕ
 files_there g = one_if (g First) + (one_if (g Second) + (segments_there 10000000000000000 g + snapshots_there 10000000000000000 g))
 
--- a last segment without its first word goes, and a torn tail is cut off: a call and a sync
+-- a last segment without its first word goes, and a torn tail is truncated: a call and a sync
 abbrev pub repair_count : Option LastSegment → ℕ
 repair_count None = 0
 repair_count (Some x) = cond (x.good == 0) 2 (cond (x.good == x.size) 0 2)

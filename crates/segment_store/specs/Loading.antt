@@ -13,7 +13,7 @@ use Rattle.segment_store.specs.declared.load_fault.LoadFault.TheVariants as faul
 use Rattle.segment_store.specs.Open.{Open}
 use Rattle.segment_store.specs.Keeps.{folder, HasNew}
 
--- what the files of a node stand for: numbers of segments have sixteen digits
+-- what the files of a node represent: numbers of segments have sixteen digits
 abbrev pub kept_in : NodeFiles → Outcome
 kept_in g = kept node_format 10000000000000000 g
 
@@ -25,19 +25,19 @@ damage_in g = damage node_format 10000000000000000 g
 abbrev pub IsSeen : NodeDisk → Type 0
 IsSeen d = Leaves d d.read
 
--- Each crash leaves what stands for the same as some files that a crash might have left before, of which no checksum
+-- Each crash leaves what represents the same as some files that a crash might have left before, of which no checksum
 -- matches by chance where none did of what was read; and what is read is what a crash may leave, so that the disk may be
 -- loaded again.
 pub record StaysSeen (d e : NodeDisk) : Type 0 where
   pub crash : (g : NodeFiles) → Leaves e g → NoChance node_format e g → (was : NodeFiles) × (Leaves d was × ((kept_in g ≡ kept_in was) × (NoChance node_format d d.read → NoChance node_format d was)))
   pub seen : IsSeen e
 
--- The store is open with what the files stood for, and each crash leaves that.
+-- The store is open with what the files represented, and each crash leaves that.
 pub record IsLoaded (s : Open) (k : Kept) (d e : NodeDisk) : Type 0 where
   pub reads : kept_in d.read ≡ Loaded k
   pub has : HasNew s k e
 
--- nothing changed, and this is what the files stand for
+-- nothing changed, and this is what the files represent
 abbrev pub Refused : Outcome → Disk Text → Disk Text → Type 0
 Refused outcome d e = (e ≡ d) × (kept_in (folder d).read ≡ outcome)
 
@@ -76,6 +76,6 @@ pub record LoadCause {T : Type 0} (before now : ℕ) (result : Result T LoadFaul
   pub never_falls : before ≤ now
   pub failed : result ≡ Err fault.DiskFault → Rose before now
 
--- a call that only reads, of a function with faults of its own
+-- a call that only reads, of a function with its own faults
 pub record Sees {T E : Type 0} (before after : Disk Text → Type 0) (result : Result T E) (Shows : Disk Text → T → Type 0) : Type 0 where
   pub each : (d : Disk Text) → before d → after d × IfOk result (Shows d)

@@ -14,7 +14,7 @@ use Rattle.segment_store.specs.Keeps.{folder, Went, block_calls}
 use Rattle.segment_store.specs.Grow.{grow_calls, begin_calls}
 use Rattle.segment_store.specs.Keeping.{older_than}
 
--- Where the store was open over its disk all of these calls were made after Ok, in this order and no others; after an Err a
+-- If the store was open over its disk all of these calls were made after Ok, in this order and no others; after an Err a
 -- front of them, of which the last may have been done in any part.
 abbrev pub Makes : {E : Type 0} → Bool → (Disk Text → Type 0) → (Disk Text → Type 0) → Open → Kept → List (Call Text) → Result Unit E → Type 0
 Makes tells before after was k calls result = Known tells before (λ d. IsOpen was k (folder d)) → Went calls before after result
@@ -30,7 +30,7 @@ batch_calls_in None s batch = begin_calls (file_name (Segment s.next)) segment_w
 
 -- ---- how many they are
 
--- to write a block over a file of this size, or where there is none
+-- to write a block over a file of this size, or without one
 abbrev pub block_count : Option ℕ → ℕ
 block_count None = 3
 block_count (Some size) = cond (nat_lt 40 size) 4 2

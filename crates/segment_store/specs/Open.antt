@@ -10,7 +10,7 @@ use Rattle.store_laws.specs.Snapshots.{AllBelow}
 use Rattle.store_format.specs.Words.{format_in}
 use Rattle.store_format.specs.NodeFormat.{node_format}
 
--- The newest version of the metadata, 0 for none; how long each of its two files is, where it is there; the number of the
+-- The newest version of the metadata, 0 for none; how long each of its two files is, if it is there; the number of the
 -- next new segment; how long the one before it is, where batches may still be added to it; the numbers of the segments
 -- that are there, ascending; and the indices of the snapshots' files that are there, be they whole or not.
 pub record Open : Type 0 where
@@ -59,7 +59,7 @@ is_listed j ms = list_any (λ m. m == j) ms
 abbrev pub HasSnapshots : List ℕ → NodeFiles → Type 0
 HasSnapshots ms g = (j : ℕ) → j < 10000000000000000 → (g (Snapshot j)).there ≡ is_listed j ms
 
--- the store is open over a disk whose files stand for this
+-- the store is open over a disk whose files represent this
 pub record IsOpen (s : Open) (k : Kept) (d : NodeDisk) : Type 0 where
   pub settled : Settled node_format s.next d
   pub reads : kept node_format s.next d.read ≡ Loaded k

@@ -40,7 +40,7 @@ pub record MayKeep (p : KeepPlan) (d : Disk Text) : Type 0 where
   pub free : IsFree p.segment.name d
   pub apart : p.segment.name ≡ p.snapshot.name → ⊥
 
--- the plan of a store for a snapshot and a log behind it
+-- the plan of a store for a snapshot and a log after it
 pub record IsPlan (s : Open) (x : Snap) (new : Log) (p : KeepPlan) : Type 0 where
   pub number : s.next < 10000000000000000
   pub index : x.index < 10000000000000000

@@ -11,7 +11,7 @@ use Rattle.store_format.specs.SegmentLog.{all_read, IsRead}
 use Rattle.store_format.specs.FilesRead.{FilesRead, with_meta}
 use Rattle.segment_store.specs.Open.{HasSize, is_listed}
 
--- more bytes of a file were read behind a front of it, or there are no more
+-- more bytes of a file were read after a front of it, or there are no more
 abbrev pub ReadsOn : List ℕ → List ℕ → List ℕ → Bool → Type 0
 ReadsOn all before after true = before ≡ take (length before) all → after ≡ take (length after) all
 ReadsOn all before after false = (after ≡ before) × (before ≡ take (length before) all → before ≡ all)
@@ -21,7 +21,7 @@ abbrev pub ReadsPiece : ℕ → List ℕ → List ℕ → List ℕ → Bool → 
 ReadsPiece room all before after true = (length after ≡ length before + min room (length all - length before)) × (length before < length all)
 ReadsPiece room all before after false = length all ≤ length before
 
--- a file of metadata was read, where it is there
+-- a file of metadata was read, if it is there
 abbrev pub ReadsMeta : Bool → Bool → NodeDisk → FilesRead → FilesRead → Option ℕ → Type 0
 ReadsMeta first there d old new size =
     (d.read (file_of first)).there ≡ there → ((d.read (file_of first)).there ≡ false → (d.read (file_of first)).bytes ≡ [])

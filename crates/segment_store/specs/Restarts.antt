@@ -16,7 +16,7 @@ use Rattle.segment_store.specs.Keeps.{folder, OldOrNew, HasNew}
 use Rattle.segment_store.specs.Keeping.{OldOrKept}
 use Rattle.segment_store.specs.Loading.{kept_in, IsSeen, StaysSeen, LoadLeaves}
 
--- The files stand for such a state, whatever a crash leaves of them; and what is read is what a crash may leave.
+-- The files represent a state of this kind, whatever a crash leaves of them; and what is read is what a crash may leave.
 pub record StandsFor (P : Outcome → Type 0) (d : NodeDisk) : Type 0 where
   pub crash : (g : NodeFiles) → Leaves d g → NoChance node_format d g → P (kept_in g)
   pub seen : IsSeen d
@@ -26,12 +26,12 @@ pub record Begins (d e : Disk Text) : Type 0 where
   pub came : (e ≡ d) ⊎ AfterCrash d e
   pub fair : NoChance node_format (folder d) (folder e).read
 
--- so many starts, one after another, whose loads were stopped or failed
+-- this many starts, one after another, whose loads were stopped or failed
 abbrev pub FailedStarts : ℕ → Disk Text → Disk Text → Type 0
 FailedStarts zero d e = e ≡ d
 FailedStarts (suc n) d e = (m : Disk Text) × ((f : Disk Text) × (Begins d m × (StaysSeen (folder m) (folder f) × FailedStarts n f e)))
 
--- what a load answers and leaves then: such a state, or another start finds one
+-- what a load answers and leaves then: a state of this kind, or another start finds one
 abbrev pub Finds : (Outcome → Type 0) → Result (Open × Kept) LoadFault → Disk Text → Type 0
 Finds P (Ok x) f = P (Loaded x.1) × HasNew x.0 x.1 (folder f)
 Finds P (Err fault.NoMeta) f = P NoMeta
@@ -60,7 +60,7 @@ OldOrWith old s new Damaged = ⊥
 OldOrWith old s new NoMeta = ⊥
 OldOrWith old s new (Gap first last) = ⊥
 
--- what some files stand for that a crash might have left, in which no checksum matches by chance
+-- what some files represent that a crash might have left, in which no checksum matches by chance
 pub record MayHave (d : NodeDisk) (outcome : Outcome) : Type 0 where
   pub files : NodeFiles
   pub left : Leaves d files

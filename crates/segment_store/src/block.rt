@@ -9,7 +9,7 @@ use disk_model::{Disk, DiskFault, replace};
 /// How long a block of metadata is.
 const BLOCK: u64 = 40;
 
-// A longer file is written over and synced before it is cut, so that nothing old comes alive.
+// A longer file is written over and synced before it is truncated, so that nothing old comes alive.
 fn write_over<D: Disk>(disk: &mut D, name: &str, block: &[u8]) -> Result<(), DiskFault>
     requires { IsName name.now }
     ensures ran { Known D.tells (D.states disk.old) (MayWrite name.now 0) → Ran (over_calls name.now block.now) (D.states disk.old) (D.states disk.new) result }
@@ -23,7 +23,7 @@ fn write_over<D: Disk>(disk: &mut D, name: &str, block: &[u8]) -> Result<(), Dis
     disk.sync(name)
 }
 
-/// Writes a block of metadata whole into the file of this name, which has this size, where it is there.
+/// Writes a block of metadata whole into the file of this name, which has this size, if it is there.
 pub(crate) fn write_block<D: Disk>(
     disk: &mut D,
     name: &str,

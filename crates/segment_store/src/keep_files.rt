@@ -30,7 +30,7 @@ fn write_new<D: Disk>(
     disk.sync_names()
 }
 
-// The same over an old file, which is cut to nothing.
+// Writes a file over an old one, which is truncated to nothing.
 fn write_anew<D: Disk>(
     disk: &mut D,
     name: &str,

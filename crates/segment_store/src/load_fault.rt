@@ -9,7 +9,7 @@ use thiserror::Error;
 /// nothing was changed.
 #[derive(Clone, Copy, Debug, PartialEq, Eq, Error)]
 pub enum LoadFault {
-    /// A batch or a snapshot stands without valid metadata.
+    /// A batch or a snapshot is without valid metadata.
     #[error("a batch or a snapshot stands without metadata")]
     NoMeta,
     /// The segment of the first number isn't the last one, and nothing reads in it from the place of the second on.

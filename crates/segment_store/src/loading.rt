@@ -81,7 +81,7 @@ fn begin_empty<D: Disk>(
     begin_batch(alloc, disk, number, batch.as_slice())
 }
 
-// The number behind that of the last segment.
+// The number after that of the last segment.
 fn next_number(last: Option<LastSegment>) -> u64
     requires { FitsNumber last }
     ensures next { result ≡ suc (last_number last) }
@@ -108,7 +108,7 @@ fn left_after(segments: Vec<u64>, last: Option<LastSegment>) -> Vec<u64>
     segments
 }
 
-// The numbers with one more behind them.
+// The numbers with one more after them.
 fn with_number(numbers: Vec<u64>, number: u64) -> Result<Vec<u64>, AllocError>
     requires { number < 10000000000000000 }
     ensures all { IfOk result (λ all. all.items ≡ numbers.items ++ number ∷ []) }
@@ -119,7 +119,7 @@ fn with_number(numbers: Vec<u64>, number: u64) -> Result<Vec<u64>, AllocError>
     Ok(numbers)
 }
 
-// Empties the log by a batch in a new segment of this number, and puts the number behind those of the segments.
+// Empties the log by a batch in a new segment of this number, and puts the number after those of the segments.
 fn empty_log<D: Disk>(
     alloc: Global,
     disk: &mut D,
@@ -141,7 +141,7 @@ fn empty_log<D: Disk>(
     Ok(all)
 }
 
-// Leaves the disk at rest with what the files stand for, and opens the store.
+// Leaves the disk at rest with what the files represent, and opens the store.
 fn settle<D: Disk>(
     alloc: Global,
     disk: &mut D,
@@ -173,9 +173,9 @@ impl Store {
     /// Opens the store of a node over a disk, and answers what is kept: a folder without files has term 0 and no entry.
     ///
     /// Lists the folder and reads each file of a node once, except for snapshots of a smaller index than one that is whole. It judges first: after
-    /// `NoMeta`, `Damaged` and `Gap` the disk is as it was. Then it syncs all files of a node and the names, cuts off a torn tail of the last segment,
-    /// or removes that segment where its first word says no format, and where the snapshot drops the whole log it empties that log by a batch in a new
-    /// segment. So what it answers stands after each crash. The store's first batch begins a segment. Inside the call a crash leaves what a load of the
+    /// `NoMeta`, `Damaged` and `Gap` the disk is as it was. Then it syncs all files of a node and the names, truncates a torn tail of the last segment,
+    /// or removes that segment where its first word says no format, and if the snapshot drops the whole log it empties that log by a batch in a new
+    /// segment. So what it answers is after each crash. The store's first batch begins a segment. Inside the call a crash leaves what a load of the
     /// files before may give. After `DiskFault` and `NoMemory` the disk may be loaded again.
     ///
     /// Other names in the folder are left alone. Takes memory for the entries, the newest snapshot, and one file at a
@@ -198,7 +198,7 @@ impl Store {
         Ok((store, read.into_kept()))
     }
 
-    /// What the files of a node stand for. Only lists and reads: the disk stays as it is. Its faults are those of `load`.
+    /// What the files of a node represent. Only lists and reads: the disk stays as it is. Its faults are those of `load`.
     pub fn look<D: Disk>(alloc: Global, disk: &mut D) -> Result<Kept, LoadFault>
         ensures looks { LooksAt (D.states disk.old) (D.states disk.new) result }
         ensures starts { IfOk result (λ kept. CanStart kept) }

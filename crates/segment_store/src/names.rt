@@ -69,7 +69,7 @@ fn push_digits(text: &mut String, number: u64, powers: &[u64]) -> Result<(), All
     Ok(())
 }
 
-// The number in sixteen digits behind a text.
+// The number in sixteen digits after a text.
 #[tactic(auto, unfolding(crate::specs::FileNames::sixteen))]
 fn push_number(text: &mut String, number: u64) -> Result<(), AllocError>
     ensures { OnOk result (string_bytes text.new ≡ string_bytes text.old ++ sixteen number) }

@@ -33,17 +33,17 @@ use std::marker::Model;
 use store_format::{Metadata, batch_bytes, metadata_bytes};
 
 /// What a node keeps in its folder: a term with a vote, a log in segments, and a snapshot. A store is open over the disk
-/// that it was loaded from, which nobody else changes.
+/// that it was loaded from, which no one else changes.
 ///
 /// After an `Err` of a call the store has to be loaded again. What was kept is then the state before the call or the one
-/// after it, also where a crash came inside the call. Where no call of the disk answered an `Err` the disk is as it was:
+/// after it, also if a crash came inside the call. If no call of the disk answered an `Err` the disk is as it was:
 /// all memory of the store's own is there before the first of them.
 #[derive(Drop)]
 pub struct Store {
     alloc: Global,
     // the newest version of the metadata; 0 for none
     version: u64,
-    // how long the files of metadata are, where they are there
+    // how long the files of metadata are, if they are there
     first: Option<u64>,
     second: Option<u64>,
     // the number of the next new segment
@@ -56,7 +56,7 @@ pub struct Store {
     snapshots: Vec<u64>,
 }
 
-/// A segment of so many bytes or more takes no batch any more.
+/// A segment of this many bytes or more takes no batch any more.
 const MAX_SEGMENT_LENGTH: u64 = 8_388_608;
 
 impl Model for Store {
@@ -69,7 +69,7 @@ impl Model for Store {
     ghost invariant = { λ s. HaveDigits s.next s.segments.items s.snapshots.items };
 }
 
-// Writes metadata into the file of its version, which has this size, where it is there.
+// Writes metadata into the file of its version, which has this size, if it is there.
 fn write_metadata<D: Disk>(
     alloc: Global,
     disk: &mut D,
@@ -133,7 +133,7 @@ pub(crate) fn begin_batch<D: Disk>(
     Ok(())
 }
 
-// The numbers with one more behind them.
+// The numbers with one more after them.
 fn with_number(alloc: Global, numbers: &[u64], number: u64) -> Result<Vec<u64>, AllocError>
     ensures { IfOk result (λ all. all.items ≡ numbers.now ++ number ∷ []) }
 {
@@ -238,7 +238,7 @@ impl Store {
         self.next.saturating_sub(1)
     }
 
-    // The number of a new segment, where one is left.
+    // The number of a new segment, if one is left.
     fn new_number(&self) -> Option<u64>
         ensures { MatchOption result (Unit {0}) (λ number. (number ≡ self.now.next) × (number < 10000000000000000)) }
     {
@@ -450,10 +450,10 @@ impl Store {
         self.size = Some(8 + batch.len() as u64);
     }
 
-    /// Keeps a snapshot with the log behind it: the entries `rest` from the index `first` on. A term is kept, the
+    /// Keeps a snapshot with the log after it: the entries `rest` from the index `first` on. A term is kept, the
     /// snapshot's index is above the kept one's, `first` is at least 1 and at most one past the snapshot's index, and the
-    /// given log is what stays of the kept one behind the snapshot: its part from `first` on, where it has the snapshot's
-    /// entry or begins right past it, and else nothing. Where that isn't so nothing is said of what is kept.
+    /// given log is what stays of the kept one after the snapshot: its part from `first` on, if it has the snapshot's
+    /// entry or begins right past it, and else nothing. If that isn't so nothing is said of what is kept.
     ///
     /// After `Ok` exactly the snapshot with this log is kept. After an `Err` it is that or what was kept before, or the
     /// snapshot with an end of the log that was kept, from an earlier index on; the store has to be loaded again.

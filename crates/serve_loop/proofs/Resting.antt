@@ -55,7 +55,7 @@ newest_stands : (works : List Known) (databases : List Database) (name : List �
 newest_stands works databases name number image newest =
     found_stands works databases (named name databases) number image (found_in (has_name name) databases) newest.numbered newest.shown
 
--- ---- no number stands for two images where an engine is told of one that stands
+-- ---- no number represents two images where an engine is informed of one that stands
 
 beside : (known works : List Known) (next : ℕ) (bases : List Numbered) (number : ImageNumber) (image : Image)
     (a : Agree known (record { number = number; image = image } ∷ works) next bases) (k : Known) → MayKnowBeside image number known k
@@ -81,18 +81,18 @@ module _ (known works : List Known) (next : ℕ) (databases lent : List Database
   it_stands : Stands works (map numbered databases) number image
   it_stands = newest_stands works databases name number image (subst (λ (ds : List Database). IsNewest name ds number image) is newest)
 
-  -- an engine may be told of the newest image of a database by its number
+  -- an engine may be informed of the newest image of a database by its number
   pub may_tell : All (Knows number image) known
   may_tell = (may_run known works next (map numbered databases) number image a it_stands).before
 
-  -- and no number stands for two images then
+  -- and no number represents two images then
   pub agrees_told : (now : List Known) → All (MayKnowBeside image number known) now → Agree now works next (map numbered databases)
   agrees_told now more =
       told_agrees known now works next (map numbered databases) number image (joined known works next (map numbered databases) number image a it_stands) more
 
 -- ---- what a step made stays so
 
--- a step that led to what is lent leads to what is lent behind it, with the same answers told
+-- a step that led to what is lent leads to what is lent after it, with the same answers told
 pub leads_still : {A B : Type 0} (m : Meaning) (kind : EngineKind) (first old new : Lent A B) (told_before told_old told_new : Option Told) (tells : Bool)
     (before after : Disk Text → Type 0) (a b : Node) (event : Event Read) (said : StepReport) → StaysLent old new → told_new ≡ told_old
     → StaysLent first old × StepsByRules m kind told_before told_old tells before after a b event said

@@ -93,7 +93,7 @@ ends_keep breaks kept none each last now before after events budget DiskFault en
 ends_keep breaks kept none each last now before after events budget NoMemory ends = each last now ends.event ends.broken
 ends_keep breaks kept none each last now before after events budget Unfit ends = each last now ends.event ends.broken
 
--- what is lent stays so, where nothing is done, and in one step behind another
+-- what is lent stays so, if nothing is done, and in one step after another
 lent_same : {A B : Type 0} (a : Lent A B) → StaysLent a a
 lent_same a = record { disk = refl; engine = refl; faults = omega arith; stays = record { kind = refl; openings = omega arith } }
 
@@ -110,7 +110,7 @@ lent_then a b c first more =
       stays = record { kind = more.stays.kind ∙ first.stays.kind; openings = omega arith };
     }
 
--- so it does in a loop, also where a step fails
+-- so it does in a loop, also if a step fails
 pub loop_lends : {S A B T O : Type 0} (see : S → Lent A B) (makes : S → Event T → O → S → Type 0) (breaks : S → Event T → S → Type 0)
     (was now : S) (before after : Taken T) (said said_after : Option (List O)) (budget : ℕ) (end : LoopEnd)
     → Loops makes breaks was now before after said said_after budget end
@@ -145,7 +145,7 @@ stops_short m kind tells before after old new event e is down stops = record {
   stops = λ opening keeps. subst (λ (z : core.Event). Finds tells after (AccountsForStop m kind (read_setup opening) old.running z)) is (stops opening keeps);
 }
 
--- of all links none is to be shut but the one of the piece
+-- of all connections none is to be shut but the one of the piece
 pub shuts_own : (event : Event Read) (piece shut : Option ℕ) → piece ≡ speaker_of event → (shut ≡ None) ⊎ (shut ≡ piece) → MayShut event shut
 shuts_own event piece shut own (inl none) = inl none
 shuts_own event piece shut own (inr is) = inr (is ∙ own)

@@ -30,7 +30,7 @@ pub record Seat (D E : Type 0) : Type 0 where
   pub disk : D
   pub engine : E
 
--- It may make a step: it is up and rests, and no number stands for two images.
+-- It may make a step: it is up and rests, and no number represents two images.
 pub record CanStep (known : List Known) (n : Node) : Type 0 where
   pub sound : IsSound n
   pub up : IsUp n
@@ -62,14 +62,14 @@ pub record StaysLent {A B : Type 0} (old new : Lent A B) : Type 0 where
 
 -- ---- one step
 
--- What a step leaves that ended well: where the disk kept what Raft was it keeps what Raft is, all that is committed is applied, and how
--- the node stands then is told.
+-- What a step leaves that ended well: if the disk kept what Raft was it keeps what Raft is, all that is committed is applied, and how
+-- the node is then is told.
 pub record StepsWell (tells : Bool) (before after : Disk Text → Type 0) (old new : Node) (state : NodeState) : Type 0 where
   pub stored : IsKept tells before (replica_of old) → IsKept tells after (replica_of new)
   pub applied : applied_of new ≡ (raft_of new).commit
   pub told : IsStateOf state new
 
--- It makes the acts of the rules, whatever the servers are with which the cluster was opened, and says what they say; and of all links it
+-- It makes the acts of the rules, whatever the servers are with which the cluster was opened, and says what they say; and of all connections it
 -- has none shut but that of the connection whose bytes the event brought.
 pub record StepsByRules (m : Meaning) (kind : EngineKind) (told_before told_now : Option Told) (tells : Bool) (before after : Disk Text → Type 0)
     (old new : Node) (event : Event Read) (said : StepReport) : Type 0 where
@@ -77,7 +77,7 @@ pub record StepsByRules (m : Meaning) (kind : EngineKind) (told_before told_now 
   pub well : StepsWell tells before after old new said.state
   pub shuts : MayShut event said.shut
 
--- What a step leaves that failed: the node is down, and where the disk kept what Raft was, a load finds what the acts of the rules left.
+-- What a step leaves that failed: the node is down, and if the disk kept what Raft was, a load finds what the acts of the rules left.
 pub record StopsByRules (m : Meaning) (kind : EngineKind) (tells : Bool) (before after : Disk Text → Type 0) (old new : Node) (event : Event Read)
     : Type 0 where
   pub down : IsDown new

@@ -1,4 +1,4 @@
--- Of which newest images an engine is told ahead.
+-- Of which newest images an engine is informed in advance.
 use Rattle.std.specs.Prelude.{◌≡◌, ℕ, ◌==◌, ◌&&◌, Bool, List, Some}
 use Rattle.std.specs.Option.{option_map}
 use Rattle.dq_base.specs.declared.images.Image.{Image}

@@ -1,4 +1,4 @@
--- Whose link is shut where a node holds too much of what its clients have said.
+-- Whose connection is shut where a node holds too much of what its clients have said.
 use Rattle.std.specs.Prelude.{◌≡◌, ◌⊎◌, ℕ, Option, Some, None}
 use Rattle.session_outcomes.specs.declared.job.Read.{Read}
 use Rattle.serve_traits.specs.declared.event.Event.{Event}
@@ -15,6 +15,6 @@ speaker_of (loops.Hangup conn) = None
 speaker_of (loops.Peer message) = None
 speaker_of (loops.ReadDone conn read) = None
 
--- behind an event the link of the connection whose bytes it brought is to be shut, or none
+-- after an event the socket of the connection whose bytes it brought is to be shut, or none
 abbrev pub MayShut : Event Read → Option ℕ → Type 0
 MayShut event shut = (shut ≡ None) ⊎ (shut ≡ speaker_of event)

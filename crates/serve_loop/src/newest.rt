@@ -1,4 +1,4 @@
-//! Of which newest images an engine is told ahead.
+//! Of which newest images an engine is informed in advance.
 
 ghost use Rattle.std.specs.Prelude.{◌≡◌, true, IfSome};
 ghost use Rattle.std.specs.Arc.{arc_value};
@@ -13,14 +13,14 @@ use sql_engine::Engine;
 use std::alloc::Global;
 use std::sync::Arc;
 
-/// Of how many databases an engine is told at most: as many as a node has. SQLite's engine keeps four images more open than these.
+/// Of how many databases an engine is informed at most: as many as a node has. SQLite's engine keeps four images more open than these.
 const MAX_TOLD_NAMES: usize = 16;
 
-/// The most pages of an image of which an engine is told: 4 MiB. The next event is taken only once it is open, which takes 25 to 75
-/// microseconds a page where it isn't open yet, and a comparison, 0.2 to 0.4 microseconds a page, where a commit of the node's own led to it.
+/// The most pages of an image of which an engine is informed: 4 MiB. The next event is taken only once it is open, which takes 25 to 75
+/// microseconds a page where it isn't open yet, and a comparison, 0.2 to 0.4 microseconds a page, if a commit of the node's own led to it.
 const MAX_PAGES: u64 = 1_024;
 
-/// Of which newest images an engine was told in a term, by the places of their databases.
+/// Of which newest images an engine was informed in a term, by the places of their databases.
 #[derive(Clone, Copy)]
 pub(crate) struct Telling {
     term: u64,
@@ -53,7 +53,7 @@ impl Telling {
         }
     }
 
-    /// The place of the first database whose newest image the engine wasn't told of, which counts as told from here on. Looks for each
+    /// The place of the first database whose newest image the engine wasn't informed of, which counts as told from here on. Looks for each
     /// database once by its name.
     fn first_untold(&mut self, machine: &Machine) -> Option<usize> {
         for place in 0..MAX_TOLD_NAMES {
@@ -66,8 +66,8 @@ impl Telling {
         None
     }
 
-    /// The place of the database of which the engine of a node that stands so is told next: `None` where the node doesn't lead or hasn't
-    /// applied all of its log, and where the engine was told in this term of each newest image.
+    /// The place of the database of which the engine of a node that is so is told next: `None` where the node doesn't lead or hasn't
+    /// applied all of its log, and if the engine was informed in this term of each newest image.
     pub(crate) fn next(&mut self, state: NodeState, machine: &Machine) -> Option<usize>
         ensures { IfSome result (λ _. is_settled state ≡ true) }
     {
@@ -88,8 +88,8 @@ struct NewestImage {
     image: Arc<Image, Global>,
 }
 
-/// The newest image of the database of a name; `None` where there is none of the name, where it has more pages than an engine is told of,
-/// and where memory runs out. Copies it where the machine doesn't keep it whole.
+/// The newest image of the database of a name; `None` if there is none of the name, if it has more pages than an engine is informed of,
+/// and if memory runs out. Copies it if the machine doesn't keep it whole.
 fn newest_of(machine: &Machine, name: &str) -> Option<NewestImage>
     ensures { IfSome result (λ newest. IsNewest name.now machine.now newest.number (arc_value newest.image)) }
 {
@@ -103,7 +103,7 @@ fn newest_of(machine: &Machine, name: &str) -> Option<NewestImage>
     }
 }
 
-/// Tells an engine of the newest image of the database of a name, where it isn't large. Where memory runs out it tells nothing.
+/// Informs an engine of the newest image of the database of a name, if it isn't large. If memory runs out it says nothing.
 fn tell_one<E: Engine>(node: &Node, name: &str, engine: &mut E)
     requires { Agrees (E.known engine.old) node.now }
     ensures agrees { Agrees (E.known engine.new) node.now }
@@ -115,7 +115,7 @@ fn tell_one<E: Engine>(node: &Node, name: &str, engine: &mut E)
     }
 }
 
-/// The same of the database at a place, in the order of their names. Beyond the last one it tells nothing.
+/// Informs an engine of the newest image of the database at a place, in the order of their names. Beyond the last one it does nothing.
 pub(crate) fn tell_at<E: Engine>(node: &Node, place: usize, engine: &mut E)
     requires { Agrees (E.known engine.old) node.now }
     ensures agrees { Agrees (E.known engine.new) node.now }

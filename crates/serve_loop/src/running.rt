@@ -17,7 +17,7 @@ use session_gateway::Read;
 use sql_engine::Engine;
 
 impl<'n, 'd, 'e, D: Disk, E: Engine> ServedNode<'n, 'd, 'e, D, E> {
-    /// Makes steps as long as there are events, until so many were taken.
+    /// Makes steps while there are events, until this many were taken.
     fn run<I: Inbox<Read>, O: Outbox<StepReport>>(
         &mut self,
         inbox: &mut I,
@@ -41,15 +41,15 @@ impl<'n, 'd, 'e, D: Disk, E: Engine> ServedNode<'n, 'd, 'e, D, E> {
     }
 }
 
-/// Has a node make a step for each event that the inbox brings, and hands on what it says, until so many were taken. The disk and the
-/// engine are the node's: those that its start and its steps had before, and nobody else had since.
+/// Has a node make a step for each event that the inbox brings, and hands on what it says, until this many were taken. The disk and the
+/// engine are the node's: those that its start and its steps had before, and no one else had since.
 ///
-/// Where the node is found to hold more than `most` bytes of what its clients have said, the outbox is asked to shut the link of the
+/// If the node is found to hold more than `most` bytes of what its clients have said, the outbox is asked to shut the connection of the
 /// connection whose bytes were taken last, if more than a 64th of these are its own. It is looked at once a 64th of these bytes came since it
-/// was found to hold no more, where each piece counts for 4,096 at least, and then behind each piece as long as it holds too much.
+/// was found to hold no more, if each piece counts for 4,096 at least, and then after each piece while it holds too much.
 ///
-/// `Closed` comes only where the inbox's count of faults rose, `DiskFault` only where the disk's did, `Spent` with the budget, after
-/// so many events. After `DiskFault` and `NoMemory` the last step has failed, and said nothing.
+/// `Closed` comes only if the inbox's count of faults rose, `DiskFault` only if the disk's did, `Spent` with the budget, after
+/// this many events. After `DiskFault` and `NoMemory` the last step has failed, and said nothing.
 pub fn run_node<D: Disk, E: Engine, I: Inbox<Read>, O: Outbox<StepReport>>(
     node: Node,
     disk: &mut D,

@@ -14,7 +14,7 @@ use serve_traits::{Core, Event, StepFault};
 use session_gateway::Read;
 use sql_engine::Engine;
 
-/// A node, the disk and the engine that are lent to its steps, how much it may hold, and of which newest images its engine was told.
+/// A node, the disk and the engine that are lent to its steps, how much it may hold, and of which newest images its engine was informed.
 #[derive(Drop)]
 pub(crate) struct ServedNode<'n, 'd, 'e, D: Disk, E: Engine> {
     pub(crate) node: &'n mut Node,
@@ -71,8 +71,8 @@ impl<'n, 'd, 'e, D: Disk, E: Engine> Core for ServedNode<'n, 'd, 'e, D, E> {
         }
     }
 
-    /// A node that leads and has applied all of its log tells its engine of its databases' newest images, of one behind each step, so
-    /// that the first statements of its term find them open, and that those behind a commit find them by their numbers.
+    /// A node that leads and has applied all of its log informs its engine of its databases' newest images, of one after each step, so
+    /// that the first statements of its term find them open, and that those after a commit find them by their numbers.
     fn rest(&mut self) {
         let state = self.node.state();
         if let Some(place) = self.telling.next(state, self.node.machine()) {

@@ -42,7 +42,7 @@ pub(crate) fn piece_of(event: &Event<Read>) -> Option<PieceCharge>
 }
 
 impl HeldBytes {
-    /// A node may hold so many bytes, and none came so far.
+    /// A node may hold this many bytes, and none came so far.
     pub(crate) fn new(most: u64) -> HeldBytes {
         HeldBytes { most, unseen: 0 }
     }
@@ -52,8 +52,8 @@ impl HeldBytes {
         self.most / SHARES
     }
 
-    /// Whether the node is to be looked at behind so many bytes more: once as many came as a share has. As long as it holds too much it
-    /// is looked at behind each piece.
+    /// Whether the node is to be looked at after this many bytes more: once as many came as a share has. While it holds too much it
+    /// is looked at after each piece.
     fn is_due(&mut self, size: u64) -> bool {
         self.unseen = self.unseen.saturating_add(size.max(PIECE));
         self.unseen >= self.share()
@@ -68,7 +68,7 @@ impl HeldBytes {
         node.held_bytes_of(conn) > self.share()
     }
 
-    /// The connection whose link is to be shut behind a step for this piece, if one is: the one on which the piece came.
+    /// The connection whose socket is to be shut after a step for this piece, if one is: the one on which the piece came.
     pub(crate) fn shuts(&mut self, node: &Node, piece: Option<PieceCharge>) -> Option<u64>
         ensures { (result ≡ None) ⊎ (result ≡ option_map (λ piece. piece.conn) piece) }
     {

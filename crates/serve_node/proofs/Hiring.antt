@@ -1,4 +1,4 @@
--- Workers that are taken one behind another, and the cause of a fault.
+-- Workers that are taken one after another, and the cause of a fault.
 use Rattle.std.proofs.Common.{◌≡◌, ◌+◌, ◌*◌, ℕ, refl, sym, ap, ◌∙◌, arith}
 use Rattle.serve_threads.specs.declared.host_counts.HostCounts.{HostCounts}
 use Rattle.serve_threads.specs.Counts.{one_listen}
@@ -6,7 +6,7 @@ use Rattle.serve_node.specs.declared.fault.CrewFault.{CrewFault}
 use Rattle.serve_node.specs.declared.fault.CrewFault.TheVariants as crew
 use Rattle.serve_node.specs.Crew.{Hires, HasBegun}
 
--- out of memory is none of the host's faults
+-- out of memory is not one of the host's faults
 pub no_host : {P : Type 0} (fault : CrewFault) → fault ≡ crew.NoMemory → fault ≡ crew.Host → P
 no_host fault wants failed = let bad : crew.NoMemory ≡ crew.Host = sym wants ∙ failed in absurd cc
 
@@ -19,7 +19,7 @@ hires_then a b was now next first more =
 pub hires_none : (was : HostCounts) → Hires 0 was was
 hires_none was = record { listens = refl; dials = refl; workers = omega arith }
 
--- two workers more, behind a call that left the host's counts
+-- two workers more, after a call that left the host's counts
 pub pair_more : (n : ℕ) (was now same next : HostCounts) → Hires (2 * n) was now → same ≡ now → Hires 2 same next → Hires (2 * (n + 1)) was next
 pair_more n was now same next first stays more =
     let w : now.workers ≡ was.workers + 2 * n = first.workers in
@@ -44,7 +44,7 @@ all_hired n a b c d e first second third fourth =
       workers = omega arith;
     }
 
--- behind a listen
+-- after a listen
 pub begun : (n : ℕ) (a b c : HostCounts) → b ≡ one_listen a → Hires n b c → HasBegun n a c
 begun n a b c listened h =
     let w : c.workers ≡ b.workers + n = h.workers in

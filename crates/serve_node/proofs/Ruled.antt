@@ -39,7 +39,7 @@ use Rattle.serve_node.specs.Serving.{workers_of, Surroundings, StaysSo, GoesOn, 
 
 -- ---- the node that starts
 
--- it is that of the words, where it was started with their voters
+-- it is that of the arguments, if it was started with their voters
 pub is_node : (words : Serve) (servers : List Server) (id : ℕ) (links : Bool) (r : Result Node StartFault) → servers ≡ voters_of words → id ≡ words.id →
     links ≡ not (length words.peers == 0) → IfOk r (λ node. CompletesStart (read_setup servers) (kept_by node) (node_of node) (servers_told node)) →
     IfOk r (λ node. (replica_of node).raft.id ≡ id) → IfOk r (λ node. has_links node ≡ links) → IfOk r (IsNodeOf words)

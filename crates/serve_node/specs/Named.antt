@@ -1,4 +1,4 @@
--- The voters of a cluster, by the words of one of its nodes.
+-- The voters of a cluster, by the arguments of one of its nodes.
 use Rattle.std.specs.Prelude.{◌==◌, ℕ, zero, suc, cond, List, [], ◌∷◌, ◌++◌, Option, Some, None}
 use Rattle.raft_spec.specs.Node.{Server}
 use Rattle.arguments.specs.declared.invocation.Serve.{Serve}
@@ -13,7 +13,7 @@ address_in id (p ∷ ps) = cond (p.id == id) (Some p.address) (address_in id ps)
 abbrev pub address_of : Serve → ℕ → Option (List ℕ)
 address_of words id = cond (words.id == id) (Some words.listen) (address_in id words.peers)
 
--- a voter of this id, where there is an address
+-- a voter of this id, if there is an address
 abbrev pub voter_at : ℕ → Option (List ℕ) → List Server
 voter_at id None = []
 voter_at id (Some address) = record { id = id; address = address; role = 0 } ∷ []

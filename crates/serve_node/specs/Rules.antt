@@ -24,11 +24,11 @@ use Rattle.serve_node.specs.declared.end.ServeEnd.{ServeEnd}
 use Rattle.serve_node.specs.declared.end.ServeEnd.TheVariants as ends
 use Rattle.serve_node.specs.Named.{voters_of}
 
--- the cluster that the words name was opened with their voters
+-- the cluster that the arguments name was opened with their voters
 abbrev pub setup_of : Serve → Setup
 setup_of words = read_setup (voters_of words)
 
--- It is the node that the words name, as the rules have one start over what was kept; it has links exactly where there are peers.
+-- It is the node that the arguments name, as the rules have one start over what was kept; it has peer connections exactly if there are peers.
 pub record IsNodeOf (words : Serve) (node : Node) : Type 0 where
   pub starts : CompletesStart (setup_of words) (kept_by node) (node_of node) (servers_told node)
   pub id : (replica_of node).raft.id ≡ words.id
@@ -39,7 +39,7 @@ pub record NoNode (before after : Taken Read) (end : ServeEnd) : Type 0 where
   pub took : Took before after []
   pub end_is : (end ≡ ends.Files) ⊎ (end ≡ ends.DiskFault) ⊎ (end ≡ ends.NoMemory)
 
--- How a node ends whose loop ended so. Where the host or memory failed before the loop, that is as where no event came.
+-- How a node ends whose loop ended so. If the host or memory failed before the loop, that is as where no event came.
 abbrev pub EndsFor : LoopEnd → ServeEnd → Type 0
 EndsFor loops.Closed end = (end ≡ ends.HostFault) ⊎ (end ≡ ends.NoMemory)
 EndsFor loops.DiskFault end = end ≡ ends.DiskFault
@@ -47,9 +47,9 @@ EndsFor (loops.Spent count) end = end ≡ ends.Spent
 EndsFor loops.NoMemory end = end ≡ ends.NoMemory
 EndsFor loops.Unfit end = end ≡ ends.NoMemory
 
--- The node of the words was started over a disk that may have been this one, with what its files stood for. It made a step by the rules
+-- The node that the arguments name was started over a disk that may have been this one, with what its files represented. It made a step by the rules
 -- for each event that was taken, in order, and at the end the disk keeps what it has kept, or what the acts of a failed step left. Where
--- there were no files it had kept nothing; and where it has no links too, and the events came in order, that is the run of a node alone,
+-- there were no files it had kept nothing; and if it has no peer connections too, and the events came in order, that is the run of a node alone,
 -- which is safe.
 pub record NodeServed (m : Meaning) (kind : EngineKind) (told : Option Told) (words : Serve) (tells : Bool) (states : Disk Text → Type 0)
     (before after : Taken Read) (end : ServeEnd) (first : Disk Text) : Type 0 where
@@ -59,7 +59,7 @@ pub record NodeServed (m : Meaning) (kind : EngineKind) (told : Option Told) (wo
   pub end_is : EndsFor loop_end end
   pub served : ServedFrom m kind (setup_of words) words.id tells states first node told before after None None loop_end
 
--- So it is for each disk that may have been there, if a start may read its files; or no node was started.
+-- This holds for each disk that may have been there, if a start may read its files; or no node was started.
 abbrev pub IsRunOfRules : Meaning → EngineKind → Option Told → Serve → Bool → (Disk Text → Type 0) → (Disk Text → Type 0) → Taken Read → Taken Read →
     ServeEnd → Type 0
 IsRunOfRules m kind told words tells states states_after before after end =

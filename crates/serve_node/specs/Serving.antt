@@ -16,7 +16,7 @@ use Rattle.serve_node.specs.Crew.{HasBegun}
 use Rattle.serve_node.specs.Ending.{end_of_start, end_of_loop}
 use Rattle.serve_node.specs.Rules.{IsNodeOf}
 
--- how many threads work beside a node: a connection reader and a writer at each of 72 places, a ticker and four readers, and one
+-- how many threads work concurrently with a node: a connection reader and a writer at each of 72 places, a ticker and four readers, and one
 -- for each peer
 abbrev pub workers_of : Serve → ℕ
 workers_of words = 149 + length words.peers
@@ -39,7 +39,7 @@ pub record Unserved {D E : Type 0} (old new : Surroundings D E) (end : ServeEnd)
   pub stays : StaysSo old new
   pub end_is : (end ≡ ends.HostFault) ⊎ (end ≡ ends.NoMemory)
 
--- Behind a host that listened once more and took so many workers more the loop ran, and ended so.
+-- After a host that listened once more and took this many workers more the loop ran, and ended so.
 pub record Looped {H : Type 0} (workers : ℕ) (done : H → HostCounts) (runs : LoopEnd → Type 0) (host : H) (end : ServeEnd) : Type 0 where
   pub begun : H
   pub has_begun : HasBegun workers (done host) (done begun)
@@ -51,13 +51,13 @@ pub record Looped {H : Type 0} (workers : ℕ) (done : H → HostCounts) (runs :
 abbrev pub GoesOn : {D E H : Type 0} → ℕ → (H → HostCounts) → (LoopEnd → Type 0) → H → Surroundings D E → Surroundings D E → ServeEnd → Type 0
 GoesOn workers done runs host old new end = Unserved old new end ⊎ Looped workers done runs host end
 
--- what came behind the answer of a start: the end that a fault of it makes, or how the node went on, whose end says nothing of files
+-- what came after the answer of a start: the end that a fault of it makes, or how the node went on, whose end says nothing of files
 abbrev pub Follows : {D E H : Type 0} → ℕ → (H → HostCounts) → (Node → LoopEnd → Type 0) → Result Node StartFault → H →
     Surroundings D E → Surroundings D E → ServeEnd → Type 0
 Follows workers done runs (Ok node) host old new end = (end ≢ ends.Files) × GoesOn workers done (runs node) host old new end
 Follows workers done runs (Err fault) host old new end = StaysSo old new × (end ≡ end_of_start fault)
 
--- The node that the words name was started over the disk, which then was this one, and this followed.
+-- The node that the arguments name was started over the disk, which then was this one, and this followed.
 pub record Started {D E H : Type 0} (words : Serve) (done : H → HostCounts) (states : D → Disk Text → Type 0) (runs : D → Node → LoopEnd → Type 0)
     (host : H) (old new : Surroundings D E) (end : ServeEnd) : Type 0 where
   pub answer : Result Node StartFault

@@ -1,4 +1,4 @@
-//! The workers beside a served node.
+//! The workers of a served node.
 
 ghost use Rattle.std.specs.Prelude.{◌≡◌, ◌≤◌, ◌<◌, ◌+◌, length, IfErr, OnOk};
 ghost use Rattle.wire_words.specs.Items.{HasNoNul};
@@ -22,10 +22,10 @@ use session_gateway::{Read, ReadJob};
 use sql_engine::Engine;
 use std::alloc::Global;
 
-/// How many readers answer queries beside the node.
+/// How many readers answer queries concurrently with the node.
 const READERS: u64 = 4;
 
-/// The link of a host's listener.
+/// The connection of a host's listener.
 pub(crate) type LinkOf<H> = <<H as Host<Read>>::Door as Door>::Link;
 
 /// Has a connection reader and a writer work at a place, and answers the writer's queue. The connection reader accepts at this
@@ -164,7 +164,7 @@ fn tick<E: Engine + Send + Drop + 'static, H: Host<Read>>(
     Ok(())
 }
 
-/// Has a reader answer queries by an engine of its own. At most one of its answers waits for the node while it makes the next one, so that
+/// Has a reader answer queries by its own engine. At most one of its answers waits for the node while it makes the next one, so that
 /// they don't gather where the node is slower.
 #[tactic(auto, using(crate::proofs::Hiring::no_host))]
 fn read<E: Engine + Send + Drop + 'static, H: Host<Read>>(
@@ -214,7 +214,7 @@ fn read_all<E: Engine + Send + Drop + 'static, H: Host<Read>>(
     Ok(readers)
 }
 
-/// Has all workers work beside the node, and answers the queues to them.
+/// Has all workers work concurrently with the node, and answers the queues to them.
 #[tactic(auto, using(crate::proofs::Hiring::no_host, crate::proofs::Hiring::all_hired))]
 pub(crate) fn crew<E: Engine + Send + Drop + 'static, H: Host<Read>>(
     alloc: Global,

@@ -14,7 +14,7 @@ pub enum ServeEnd {
     DiskFault,
     /// The host failed, and has counted it: it could not listen, or have a worker, or no event came any more.
     HostFault,
-    /// There was not enough memory to go on; or a change of servers may not be proposed, which isn't shown never to come.
+    /// There was not enough memory to continue; or a change of servers must not be proposed, which isn't shown never to come.
     NoMemory,
     /// As many events were taken as were asked for.
     Spent,

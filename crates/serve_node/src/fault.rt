@@ -4,7 +4,7 @@ ghost use Rattle.serve_node.specs.declared.fault.CrewFault.TheVariants as crew;
 use dq_base::Failed;
 use std::alloc::{AllocError, AllocFailed};
 
-/// Why the workers beside a node could not begin.
+/// Why the workers of a node could not begin.
 #[derive(Clone, Copy, Debug, PartialEq, Eq)]
 pub(crate) enum CrewFault {
     /// The host failed, and has counted it.

@@ -1,4 +1,4 @@
-//! How a link to a peer begins.
+//! How a connection to a peer begins.
 
 ghost use Rattle.std.specs.Prelude.{◌≡◌, IfOk};
 ghost use Rattle.wire_words.specs.Items.{HasNoNul};
@@ -10,7 +10,7 @@ use std::alloc::{AllocError, Global};
 use wire_msgs::{Request, write_request};
 use wire_words::{WireBytes, WireText};
 
-/// The word of the version with which a link begins.
+/// The word of the version with which a connection begins.
 const VERSION_WORD: [u8; 8] = [1, 0, 0, 0, 0, 0, 0, 0];
 
 /// The word of the version, and CONNECT with the own id and address.

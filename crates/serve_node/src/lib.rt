@@ -1,5 +1,5 @@
 //! A node that is served: it is started over its disk, and workers beside it bring it what happens and carry what it says, until it has
-//! taken so many events, or something of it fails.
+//! taken this many events, or something of it fails.
 #![tactic(auto)]
 
 mod crew;

@@ -1,4 +1,4 @@
-//! What is told of a served node to whoever runs it.
+//! What is reported of a served node to whoever runs it.
 
 use node_core::StartFault;
 

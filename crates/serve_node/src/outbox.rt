@@ -1,4 +1,4 @@
-//! Where it goes what a served node says.
+//! What takes the output of a served node.
 
 use crate::notes::{Note, Notes};
 use node_core::{NodeState, StepOutputs};
@@ -12,7 +12,7 @@ use std::sync::Wait;
 /// Nine tenths of the last index that a log may have, 4,294,900,000.
 const WARN_INDEX: u64 = 3_865_410_000;
 
-/// Hands what a node says to those that carry it, and notes how it stands where that is new.
+/// Hands what a node says to those that carry it, and notes how it is where that is new.
 #[derive(Drop)]
 pub(crate) struct Dispatcher<'a, R: Wait + Copy + Drop, L: Drop, W: Notes> {
     queues: Queues<R, L, ReadJob>,
@@ -46,7 +46,7 @@ impl<'a, R: Wait + Copy + Drop, L: Drop, W: Notes> Dispatcher<'a, R, L, W> {
         }
     }
 
-    /// Hands on what a step says. A connection is closed behind its replies.
+    /// Hands on what a step says. A connection is closed after its replies.
     fn hand_on(&mut self, outs: StepOutputs) {
         let StepOutputs {
             replies,
@@ -68,7 +68,7 @@ impl<'a, R: Wait + Copy + Drop, L: Drop, W: Notes> Dispatcher<'a, R, L, W> {
         }
     }
 
-    /// Notes who leads, where that is new.
+    /// Notes who leads, if that is new.
     fn note_leader(&mut self, state: &NodeState) {
         let Some(leader) = leader_of(state, self.id) else {
             return;

@@ -1,4 +1,4 @@
-//! What answers queries beside the node.
+//! What answers queries concurrently with the node.
 
 use serve_threads::Reader;
 use session_gateway::{Read, ReadJob};
@@ -6,7 +6,7 @@ use session_outcomes::answer_read;
 use sql_engine::Engine;
 use std::alloc::Global;
 
-/// Answers queries by an engine of its own.
+/// Answers queries by its own engine.
 #[derive(Drop)]
 pub struct QueryReader<E: Engine> {
     /// For what it tells.

@@ -33,7 +33,7 @@ use session_gateway::{Read, ReadJob};
 use sql_engine::Engine;
 use std::alloc::Global;
 
-/// Starts the node that the words name, with these servers.
+/// Starts the node that the arguments name, with these servers.
 fn start<D: Disk>(
     alloc: Global,
     words: &Serve,
@@ -148,7 +148,7 @@ fn note_files<W: Notes>(fault: StartFault, notes: &mut W) {
     }
 }
 
-/// Starts the node that the words name, with these servers, and serves it.
+/// Starts the node that the arguments name, with these servers, and serves it.
 fn serve_with<H: Host<Read>, D: Disk, E: Engine + Send + Drop + 'static, W: Notes>(
     alloc: Global,
     words: &Serve,
@@ -182,11 +182,11 @@ fn serve_with<H: Host<Read>, D: Disk, E: Engine + Send + Drop + 'static, W: Note
     }
 }
 
-/// Serves the node that the words name, over the files of a disk, until as many events were taken as they say: starts it, listens, has
+/// Serves the node that the arguments name, over the files of a disk, until as many events were taken as they say: starts it, listens, has
 /// all workers work, and makes a step for each event that the host brings. The disk is the node's alone, and the engine knows no image.
 ///
-/// `Files` comes exactly where the start says that the files aren't those of a node; `DiskFault` only where the disk's count of faults
-/// rose, `HostFault` only where the host's did. After each end what was kept is kept, and the node may be served again.
+/// `Files` comes exactly if the start says that the files aren't those of a node; `DiskFault` only if the disk's count of faults
+/// rose, `HostFault` only if the host's did. After each end what was kept is kept, and the node may be served again.
 pub fn serve<H: Host<Read>, D: Disk, E: Engine + Send + Drop + 'static, W: Notes>(
     alloc: Global,
     words: &Serve,
@@ -204,16 +204,16 @@ pub fn serve<H: Host<Read>, D: Disk, E: Engine + Send + Drop + 'static, W: Notes
         None None words.now.events) host.old
         (record { disk = disk.old; engine = engine.old; events = record { left = H.left host.old; count = H.taken host.old } })
         (record { disk = disk.new; engine = engine.new; events = record { left = H.left host.new; count = H.taken host.new } }) result }
-    // What was served is a run of the rules: whatever the disk may have been, the node of the words was started with what its files stood
+    // What was served is a run of the rules: whatever the disk may have been, the node that the arguments name was started with what its files stood
     // for, made a step by the rules for each event that was taken, and the disk keeps at the end what the node has kept.
     ensures by_rules { IsRunOfRules (E.meaning (E.kind engine.old)) (E.kind engine.old) (E.told engine.old) words.now D.tells (D.states disk.old)
         (D.states disk.new) (record { left = H.left host.old; count = H.taken host.old }) (record { left = H.left host.new; count = H.taken host.new }) result }
     ensures disk_fault { result ≡ ends.DiskFault → Rose (D.faults disk.old) (D.faults disk.new) }
     ensures host_fault { result ≡ ends.HostFault → Rose (H.faults host.old) (H.faults host.new) }
-    // As many events were taken as the words say.
+    // As many events were taken as the arguments say.
     ensures spent { result ≡ ends.Spent → H.taken host.new ≡ H.taken host.old + words.now.events }
     ensures count { D.faults disk.old ≤ D.faults disk.new }
-    // Over the files of a node, where neither the disk nor the host failed, all events were taken, or memory ran out.
+    // Over the files of a node, if neither the disk nor the host failed, all events were taken, or memory ran out.
     ensures ends_well { GoesWell (D.states disk.old) (D.faults disk.old) (D.faults disk.new) (H.faults host.old) (H.faults host.new) →
         (result ≡ ends.Spent) ⊎ (result ≡ ends.NoMemory) }
 {

@@ -2,11 +2,11 @@
 
 use session_gateway::StepLimits;
 
-/// How many bytes of what its clients have said a node holds before links are shut for it: 32 MiB, as much as one connection may have.
+/// How many bytes of what its clients have said a node holds before it shuts connections: 32 MiB, as much as one connection may have.
 /// `docs/operating.md` has the sum of which this is a part.
 pub(crate) const MAX_HELD_BYTES: u64 = 33_554_432;
 
-/// The limits of steps of a served node. An engine visits some 1,000 to 2,000 rows in a millisecond, each of which is a step, and where it
+/// The limits of steps of a served node. An engine visits some 1,000 to 2,000 rows in a millisecond, each of which is a step, and if it
 /// has to keep them a row of few columns and few bytes takes it 30 to 300 bytes.
 ///
 /// - A query that a reader can take over has 40,000, some 20 milliseconds: so long all other clients wait at most for a query that is then

@@ -1,4 +1,4 @@
-//! The servers of a cluster, by the words of one of its nodes.
+//! The servers of a cluster, by the arguments of one of its nodes.
 
 ghost use Rattle.std.specs.Prelude.{◌≡◌, ◌≤◌, ◌++◌, [], IfOk, OnOk};
 ghost use Rattle.std.specs.Option.{option_map};
@@ -41,7 +41,7 @@ fn address_of(words: &Serve, id: u64) -> Option<&WireText>
     address_in(words.peers.as_slice(), id)
 }
 
-/// Adds a voter of this id, where there is an address.
+/// Adds a voter of this id, if there is an address.
 fn add_voter(
     alloc: Global,
     servers: &mut Vec<Server>,
@@ -61,7 +61,7 @@ fn add_voter(
     Ok(())
 }
 
-/// The voters of the words, ascending by id.
+/// The voters that the arguments name, ascending by id.
 #[tactic(auto, using(crate::proofs::Configured::none_yet, crate::proofs::Configured::one_more))]
 fn named(alloc: Global, words: &Serve) -> Result<Servers, AllocError>
     ensures { IfOk result (λ servers. servers ≡ voters_of words.now) }

@@ -60,7 +60,7 @@ module _ (m : Meaning) (kind : EngineKind) (r : Run) (n : ℕ) (jobs : ℕ → O
 
 -- ---- a run of one node
 
--- In the run of these events the node stands so, its readers have these jobs, and no other node has done anything.
+-- In the run of these events the node is so, its readers have these jobs, and no other node has done anything.
 record Alone (m : Meaning) (kind : EngineKind) (setup : Setup) (n : ℕ) (past : List Event) (jobs : ℕ → Option Job) (node : Running) : Type 0 where
   pub hold : AllHold m kind setup first_run past
   pub up : (run past).places n ≡ Up (seen node)

@@ -1,4 +1,4 @@
--- A start finds what the disk's files stood for, which is nothing where there are none; and what is served from there on is a run.
+-- A start finds what the disk's files represented, which is nothing if there are none; and what is served from there on is a run.
 use Rattle.std.proofs.Common.{◌≡◌, ◌≤◌, ℕ, ◌+◌, List, [], ◌++◌, length, sym, ap, ◌∙◌, subst, arith, length-append}
 use Rattle.std.specs.Prelude.{Bool, true, false, Option}
 use Rattle.disk_model.specs.Disk.{Disk, no_files}
@@ -45,7 +45,7 @@ kept_in_it Damaged = nothing_kept
 kept_in_it NoMeta = nothing_kept
 kept_in_it (Gap first last) = nothing_kept
 
--- no files stand for nothing
+-- no files represent nothing
 first_reads : kept_in (folder no_files).read ≡ Loaded nothing_kept
 first_reads = first_disk_holds.crash (folder no_files).read first_disk_holds.seen (no_chance node_format is_lawful)
 

@@ -1,4 +1,4 @@
--- Runs that go on.
+-- Runs that continue.
 use Rattle.std.proofs.Common.{◌≡◌, List, [], ◌∷◌, ◌++◌}
 use Rattle.sql_engine.specs.declared.kind.EngineKind.{EngineKind}
 use Rattle.sql_engine.specs.Meanings.{Meaning}
@@ -6,7 +6,7 @@ use Rattle.raft_safety.specs.Members.{Setup}
 use Rattle.cluster_safety.specs.Runs.{Run, Event, happens, first_run, run_from, run, AllHold}
 use Rattle.cluster_safety.proofs.Lasts.{run_join}
 
--- the run of events behind others
+-- the run of events after others
 pub run_more : (past more : List Event) → run (past ++ more) ≡ run_from (run past) more
 unfolding run
 run_more past more = run_join first_run past more

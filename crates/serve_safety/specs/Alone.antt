@@ -20,14 +20,14 @@ use Rattle.cluster_safety.specs.Laws.{SafeRun}
 use Rattle.cluster_safety.specs.Runs.{Up, Down, Event, TellsOf, nothing_kept, spoken, first_run, run, AllHold}
 use Rattle.serve_safety.specs.Paths.{PathSo}
 
--- ---- what comes to a node alone
+-- ---- what reaches a node alone
 
--- what a reader tells is made of answers over the image of its job; one that gives its query back tells nothing
+-- what a reader answers is made of answers over the image of its job; one that gives its query back says nothing
 abbrev pub TellsOver : Meaning → EngineKind → Option Job → Option Reply → Type 0
 TellsOver m kind job None = Unit {0}
 TellsOver m kind job (Some reply) = TellsOf m kind job reply
 
--- No message of a peer comes, and a reader tells of the job that was handed out last for its connection.
+-- No message of a peer comes, and a reader says of the job that was handed out last for its connection.
 abbrev pub ComesAlone : Meaning → EngineKind → (ℕ → Option Job) → core.Event → Type 0
 ComesAlone m kind jobs (events.Peer message) = ⊥
 ComesAlone m kind jobs (events.ReadDone conn read) = TellsOver m kind (jobs conn) (read_named read)
@@ -57,7 +57,7 @@ abbrev pub joined : List (List (ℕ × Reply)) → List (ℕ × Reply)
 joined [] = []
 joined (replies ∷ rest) = replies ++ joined rest
 
--- The node was served alone: there is a run whose clauses hold, in which it stands so at the end and no other node has done anything; it
+-- The node was served alone: there is a run whose clauses hold, in which it is so at the end and no other node has done anything; it
 -- said what was said; and it is safe.
 pub record Served (m : Meaning) (kind : EngineKind) (setup : Setup) (n : ℕ) (outs : List StepOutputs) (new : Running) : Type 0 where
   pub happened : List Event
@@ -71,7 +71,7 @@ pub record Served (m : Meaning) (kind : EngineKind) (setup : Setup) (n : ℕ) (o
   pub said : List Spoke
   pub safe : SafeRun m setup (run happened) chosen said
 
--- From a start over nothing that was kept, of a node without links: where the events were orderly, what was served is such a run.
+-- From a start over nothing that was kept, of a node without peer connections: if the events were orderly, what was served is a run of it alone.
 abbrev pub AloneIsSafe : Meaning → EngineKind → Type 0
 AloneIsSafe m kind =
     (setup : Setup) (n : ℕ) (old new : Running) (servers : List Server) (before after : Option Told) (events : List core.Event) (outs : List StepOutputs) →

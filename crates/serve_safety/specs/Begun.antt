@@ -25,8 +25,8 @@ use Rattle.serve_loop.specs.Serving.{RunsByRules}
 use Rattle.serve_safety.specs.Paths.{outs_of, ServedSo}
 use Rattle.serve_safety.specs.Alone.{Orderly, Served}
 
--- What was served over a disk that may have been this one: the node has what its files stood for, and what it did is by the rules. Where
--- there were no files it had kept nothing; and where it has no links too, and the events were orderly, it is the run of a node alone,
+-- What was served over a disk that may have been this one: the node has what its files represented, and what it did is by the rules. Where
+-- there were no files it had kept nothing; and if it has no peer connections too, and the events were orderly, it is the run of a node alone,
 -- which is safe.
 pub record ServedFrom (m : Meaning) (kind : EngineKind) (setup : Setup) (n : ℕ) (tells : Bool) (states : Disk Text → Type 0) (first : Disk Text)
     (node : Node) (told : Option Told) (before after : Taken Read) (said said_after : Option (List StepReport)) (end : LoopEnd) : Type 0 where
@@ -36,7 +36,7 @@ pub record ServedFrom (m : Meaning) (kind : EngineKind) (setup : Setup) (n : ℕ
   pub alone : first ≡ no_files → has_links node ≡ false → Orderly m kind no_jobs (map event_of by_rules.events) (map outs_of by_rules.outs) →
       Served m kind setup n (map outs_of by_rules.outs) by_rules.last.running
 
--- So it is where a node was started over a disk whose files may be read as a start reads them, and a loop has run.
+-- This holds if a node was started over a disk whose files may be read as a start reads them, and a loop has run.
 abbrev pub StartServes : {D E : Type 0} → Bool → (D → Disk Text → Type 0) → (D → ℕ) → (EngineKind → Meaning) → (E → EngineKind) → (E → Option Told) → (E → ℕ) →
     Type 0
 StartServes {D = D} {E = E} tells states faults meaning kind told refused =

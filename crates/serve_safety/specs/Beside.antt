@@ -30,7 +30,7 @@ PathRuns m kind setup past n old before (event ∷ events) (o ∷ more) new afte
     × AllHold m kind setup first_run ((past ++ others) ++ one.leads.events)
     × PathRuns m kind setup ((past ++ others) ++ one.leads.events) n path.0 path.1 events more new after path.3
 
--- From any moment of a run at which the node stands so.
+-- From any moment of a run at which the node is so.
 abbrev pub PathsAreRuns : Meaning → EngineKind → Type 0
 PathsAreRuns m kind =
     (setup : Setup) (past : List Event) (n : ℕ) (old new : Running) (before after : Option Told) (events : List core.Event) (outs : List StepOutputs) →

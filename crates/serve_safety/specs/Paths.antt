@@ -25,7 +25,7 @@ use Rattle.serve_loop.specs.declared.step_report.StepReport.{StepReport}
 use Rattle.serve_loop.specs.Bridge.{event_of}
 use Rattle.serve_loop.specs.Serving.{RunsByRules}
 
--- A node made one step by the rules for each of these events, in order, and said this at each; its engine told the answers that they use.
+-- A node made one step by the rules for each of these events, in order, and said this at each; its engine gave the answers that they use.
 abbrev pub PathSo : Meaning → EngineKind → Setup → Running → Option Told → List core.Event → List StepOutputs → Running → Option Told → Type 0
 PathSo m kind setup old before [] [] new after = (new ≡ old) × (after ≡ before)
 PathSo m kind setup old before [] (outs ∷ more) new after = ⊥
@@ -62,7 +62,7 @@ pub record ServedSo (m : Meaning) (kind : EngineKind) (setup : Setup) (tells : B
   pub puts : Gains said said_after outs
   pub ends : EndsSo m kind setup tells states last before after events end
 
--- So it is where a loop has run over a disk that kept what Raft was.
+-- This holds if a loop has run over a disk that kept what Raft was.
 abbrev pub ServesByRules : {D E : Type 0} → Bool → (D → Disk Text → Type 0) → (D → ℕ) → (EngineKind → Meaning) → (E → EngineKind) →
     (E → Option Told) → (E → ℕ) → Type 0
 ServesByRules {D = D} {E = E} tells states faults meaning kind told refused =

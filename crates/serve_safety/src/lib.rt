@@ -21,13 +21,13 @@ pub fn served_steps_are_events<E: Engine>()
     ensures { (kind : _) → PathsAreRuns (E.meaning kind) kind }
 {}
 
-/// What a node without links served, from a start over nothing that was kept, is a run, which is safe.
+/// What a node without peer connections served, from a start over nothing that was kept, is a run, which is safe.
 pub fn served_alone_is_safe<E: Engine>()
     ensures { (kind : _) → AloneIsSafe (E.meaning kind) kind }
 {}
 
-/// A node that was started over a disk, and served: it has what the files stood for, and what it did is by the rules. Where there were no
-/// files, it has no links and the events were orderly, as those of a node alone are, that is a run, which is safe.
+/// A node that was started over a disk, and served: it has what the files represented, and what it did is by the rules. If there were no
+/// files, it has no peer connections and the events were orderly, as those of a node alone are, that is a run, which is safe.
 pub fn started_node_serves<D: Disk, E: Engine>()
     ensures { StartServes D.tells D.states D.faults E.meaning E.kind E.told E.refused_openings }
 {}

@@ -1,4 +1,4 @@
--- What a call does to the counts of a dialer that tells no call.
+-- What a call does to the counts of a dialer that reports no call.
 use Rattle.std.proofs.Common.{◌≡◌, ◌+◌, ◌≤◌, ℕ, List, length, Ok, Err, ap, ◌∙◌, arith}
 use Rattle.dq_base.specs.declared.faults.Failed.{Failed}
 use Rattle.dq_base.specs.Faults.{one_more, last_count}

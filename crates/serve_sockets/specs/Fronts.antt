@@ -1,11 +1,11 @@
--- The first bytes of a link: the version, and the header of a message; and the headers behind them.
+-- The first bytes of a connection: the version, and the header of a message; and the headers after them.
 use Rattle.std.specs.Prelude.{◌+◌, ◌*◌, ◌==◌, ℕ, Bool, List, slice_index}
 
--- how many words the first message has behind its header
+-- how many words the first message has after its header
 abbrev pub words_of : List ℕ → ℕ
 words_of front = slice_index front 8 + 256 * slice_index front 9 + 65536 * slice_index front 10 + 16777216 * slice_index front 11
 
--- how many words a message has behind this header
+-- how many words a message has after this header
 abbrev pub words_in : List ℕ → ℕ
 words_in header = slice_index header 0 + 256 * slice_index header 1 + 65536 * slice_index header 2 + 16777216 * slice_index header 3
 

@@ -1,8 +1,8 @@
--- A dialer that tells its counts and not its calls.
+-- A dialer that reports its counts and not its calls.
 use Rattle.std.specs.Prelude.{ℕ, None}
 use Rattle.client.specs.Net.{Net}
 
--- how often a call failed, an address was dialled, and one could not be
+-- how many times a call failed, an address was dialled, and one could not be
 pub record Counts : Type 0 where
   pub faults : ℕ
   pub dialled : ℕ

@@ -1,9 +1,9 @@
-//! The first bytes of a link that was accepted.
+//! The first bytes of a connection that was accepted.
 
 ghost use Rattle.std.specs.Prelude.{◌≡◌, ◌≤◌, ◌-◌, ◌*◌, ◌==◌, length};
 ghost use Rattle.serve_sockets.specs.Fronts.{is_connect, words_in, words_of};
 
-/// How many bytes a link has to say before it is one: the version, and the header of the first message.
+/// How many bytes a connection has to say before it is one: the version, and the header of the first message.
 pub(crate) const FRONT_SIZE: usize = 16;
 
 /// How many bytes the header of a message has.
@@ -12,7 +12,7 @@ pub(crate) const HEADER_SIZE: usize = 8;
 /// The number of a CONNECT among the types of a client's messages.
 const CONNECT: u8 = 11;
 
-/// The first bytes of a link, until they are read; and how many bytes are left of the body of the message that the link is at.
+/// The first bytes of a connection, until they are read; and how many bytes are left of the body of the message that the connection is at.
 #[derive(Drop)]
 pub(crate) struct FramePosition {
     bytes: [u8; FRONT_SIZE],
@@ -62,7 +62,7 @@ impl FramePosition {
         count
     }
 
-    /// Whether all of the message was read that the link is at, so that a header comes next.
+    /// Whether all of the message was read that the connection is at, so that a header comes next.
     pub(crate) fn is_at_header(&self) -> bool
         ensures { result ≡ (self.now.left == 0) }
     {
@@ -77,7 +77,7 @@ impl FramePosition {
         self.left = 8 * words as u64;
     }
 
-    /// How many bytes of the body may be read next, of so many that are wanted: no more than it lacks.
+    /// How many bytes of the body may be read next, of this many that are wanted: no more than it lacks.
     pub(crate) fn room(&self, wanted: usize) -> usize
         ensures fits { result ≤ wanted }
         ensures left { result ≤ self.now.left }
@@ -85,7 +85,7 @@ impl FramePosition {
         (wanted as u64).min(self.left) as usize
     }
 
-    /// So many bytes of the body were read.
+    /// This many bytes of the body were read.
     pub(crate) fn pass(&mut self, count: usize)
         ensures { self.new.left ≡ self.old.left - count }
     {

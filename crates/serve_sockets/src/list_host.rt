@@ -1,4 +1,4 @@
-//! A host that tells its events.
+//! A host that reports its events.
 
 ghost use Rattle.std.specs.Prelude.{◌≡◌, Some};
 
@@ -12,7 +12,7 @@ use std::sync::Wait;
 use std::thread::Threads;
 use std::time::Clock;
 
-/// A host over memory whose events are those of a list: a take fails where none is left. It tells them. At its listeners no link comes,
+/// A host over memory whose events are those of a list: a take fails if none is left. It tells them. At its listeners no connection comes,
 /// each dial fails, and what is posted at its ends is never taken.
 #[derive(Drop)]
 pub struct ListHost<R: Wait + Copy + Drop, T: Drop> {

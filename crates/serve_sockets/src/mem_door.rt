@@ -8,7 +8,7 @@ use serve_traits::{Door, MemLink};
 use std::alloc::Global;
 use std::collections::VecDeque;
 
-/// A listener over memory, at which some links come. An accept fails where none is left, and a dial always
+/// A listener over memory, at which some connections come. An accept fails if none is left, and a dial always
 /// does.
 #[derive(Drop)]
 pub struct MemDoor {
@@ -17,7 +17,7 @@ pub struct MemDoor {
 }
 
 impl MemDoor {
-    /// A listener at which these links come.
+    /// A listener at which these connections come.
     pub(crate) fn new(links: Vec<MemLink>) -> MemDoor {
         MemDoor {
             links: VecDeque::from(links),
@@ -25,7 +25,7 @@ impl MemDoor {
         }
     }
 
-    /// A listener at which no link comes.
+    /// A listener at which no connection comes.
     pub(crate) fn closed(alloc: Global) -> MemDoor {
         MemDoor::new(Vec::new(alloc))
     }

@@ -14,10 +14,10 @@ use std::sync::Wait;
 use std::thread::Threads;
 use std::time::Clock;
 
-/// A host over memory, whose workers run in threads of the runtime. Some of its calls may be told to fail.
+/// A host over memory, whose workers run in threads of the runtime. Some of its calls may be made to fail.
 ///
-/// Its first listen that succeeds gives a listener at which some links come; at others, and at second ends of listeners, none comes.
-/// Each dial that succeeds gives the next of other links, and one that finds none left fails. Its events come by a channel, so it tells
+/// Its first listen that succeeds gives a listener at which some connections come; at others, and at second ends of listeners, none comes.
+/// Each dial that succeeds gives the next of other connections, and one that finds none left fails. Its events come by a channel, so it tells
 /// none, but counts them. Its moments are the numbers of the calls that asked for them, and its random words are the same in each run.
 #[derive(Drop)]
 pub struct MemHost<R: Wait + Copy + Drop, T: Drop> {
@@ -55,7 +55,7 @@ impl<R: Wait + Copy + Drop, T: Drop> MemHost<R, T> {
         })
     }
 
-    /// The listener of a listen: the first one has the links.
+    /// The listener of a listen: the first one has the connections.
     fn door(&mut self) -> MemDoor
         ensures done { self.new.done ≡ self.old.done }
         ensures calls { self.new.calls ≡ self.old.calls }
@@ -91,7 +91,7 @@ impl<R: Wait + Copy + Drop, T: Drop> MemHost<R, T> {
         Ok(MemDoor::closed(self.alloc))
     }
 
-    /// The next of the links that are dialled, unless the call is to fail.
+    /// The next of the connections that are dialled, unless the call is to fail.
     pub(crate) fn dial_next(&mut self) -> Result<MemLink, Failed>
         ensures done { Does self.old.done (one_dial self.old.done) self.new.done result }
         ensures taken { self.new.inbox.taken ≡ self.old.inbox.taken }

@@ -16,14 +16,14 @@ use std::time::Duration;
 /// How long a read or a write may take, in seconds.
 const CALL_SECONDS: u64 = 60;
 
-/// A dialer over the operating system's TCP sockets, with one link at a time.
+/// A dialer over the operating system's TCP sockets, with one connection at a time.
 ///
 /// An address is a name or an IP address, a colon and a port, as `localhost:9001`. A dial tries each address that the name has, in
 /// their order, for at most ten seconds each; how long the name is looked up is up to the system. A read or a write takes at
 /// most sixty seconds, and has failed past that. A message is written at once, in one write, and goes out at once. An
-/// interrupted call is tried again, up to 1,000 times. A call without a link fails.
+/// interrupted call is tried again, up to 1,000 times. A call without a connection fails.
 ///
-/// It tells its counts and not its calls: what comes on a link is up to who sends. Its count of faults rises at each call that
+/// It reports its counts and not its calls: what comes on a connection is up to who sends. Its count of faults rises at each call that
 /// fails, and stays at 18,446,744,073,709,551,615.
 #[derive(Drop)]
 pub struct TcpDialer<R: Net + Drop> {
@@ -57,7 +57,7 @@ fn prepare<S: OpenStream>(stream: &S) -> io::Result<()> {
 }
 
 impl<R: Net + Drop> TcpDialer<R> {
-    /// A dialer that has no link and made no call.
+    /// A dialer that has no connection and made no call.
     pub fn new(rt: R) -> TcpDialer<R>
         ensures { result ≡ record { faults = 0; dialled = 0; undialled = 0 } }
     {
@@ -79,7 +79,7 @@ impl<R: Net + Drop> TcpDialer<R> {
         Failed
     }
 
-    /// Lets go of the link, and makes a new one.
+    /// Lets go of the connection, and makes a new one.
     fn relink(&mut self, address: &str) -> io::Result<()>
         ensures { self.new ≡ self.old }
     {
@@ -88,7 +88,7 @@ impl<R: Net + Drop> TcpDialer<R> {
         Ok(())
     }
 
-    /// Makes a new link, where one more can be counted, and counts it.
+    /// Makes a new connection, if one more can be counted, and counts it.
     fn link_to(&mut self, address: &str) -> bool
         ensures linked { result ≡ true → self.new ≡ record self.old { dialled = self.old.dialled + 1 } }
         ensures unlinked { result ≡ false → self.new ≡ self.old }
@@ -113,7 +113,7 @@ impl<R: Net + Drop> TcpDialer<R> {
         self.fail()
     }
 
-    /// Writes bytes on the link.
+    /// Writes bytes on the connection.
     fn write(&mut self, bytes: &[u8]) -> io::Result<()>
         ensures { self.new ≡ self.old }
     {
@@ -123,7 +123,7 @@ impl<R: Net + Drop> TcpDialer<R> {
         }
     }
 
-    /// Reads some bytes of the link.
+    /// Reads some bytes of the connection.
     fn read_link(&mut self, into: &mut [u8]) -> io::Result<usize>
         ensures same { self.new ≡ self.old }
         ensures fits { IfOk result (λ count. count ≤ length into.new) }

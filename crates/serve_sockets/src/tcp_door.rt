@@ -14,14 +14,14 @@ use std::io::ErrorKind;
 use std::net::{TcpListener, TcpStream};
 use std::time::{Duration, Instant};
 
-/// How long a link that was accepted has for its first 16 bytes, in seconds.
+/// How long a connection that was accepted has for its first 16 bytes, in seconds.
 const FIRST_SECONDS: u64 = 5;
 
 /// A listener over a listening TCP socket.
 ///
-/// It gives a link only once its first 16 bytes came, for which it has five seconds: so a dial that says nothing takes no session.
-/// The accept of such a link has failed. A dial tries each address that a name has, in their order, for at most ten seconds each;
-/// the error stream is told of its links.
+/// It gives a connection only once its first 16 bytes came, for which it has five seconds: so a dial that says nothing takes no session.
+/// The accept of a connection that says nothing has failed. A dial tries each address that a name has, in their order, for at most ten seconds each;
+/// the error stream is told of its connections.
 #[derive(Drop)]
 pub struct TcpDoor {
     rt: HostRuntime,
@@ -52,7 +52,7 @@ impl TcpDoor {
         Failed
     }
 
-    /// Waits for a link and for its first bytes.
+    /// Waits for a connection and for its first bytes.
     fn accept_speaking(&self) -> io::Result<TcpLink> {
         let (stream, _) = self.listener.accept()?;
         stream.set_nodelay(true)?;
@@ -60,7 +60,7 @@ impl TcpDoor {
         TcpLink::accepted(self.rt.alloc(), stream, FramePosition::of(front))
     }
 
-    /// The first bytes of a link.
+    /// The first bytes of a connection.
     fn front_of(&self, mut stream: &TcpStream) -> io::Result<[u8; FRONT_SIZE]> {
         let begun = Instant::now(&self.rt)?;
         let mut bytes = [0; FRONT_SIZE];
@@ -81,7 +81,7 @@ impl TcpDoor {
         Err(ErrorKind::UnexpectedEof.into())
     }
 
-    /// A link to the first address that answers in time, of those that a name and a port have.
+    /// A connection to the first address that answers in time, of those that a name and a port have.
     pub(crate) fn connect(rt: &HostRuntime, address: &str) -> io::Result<TcpLink> {
         TcpLink::dialled(rt.alloc(), stream::connect(rt, address)?)
     }

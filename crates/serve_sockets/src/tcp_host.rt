@@ -21,11 +21,11 @@ pub struct HostFault {
     /// What was called: `listen`, `accept` for a second end of a listener, `dial`, `start a thread` or
     /// `take`.
     pub call: &'static str,
-    /// What the system said, where it did.
+    /// What the system said, if it did.
     pub error: Option<io::Error>,
 }
 
-/// A host over the operating system: TCP sockets, threads, its clock. Its events come by a channel, so it tells none, but counts them.
+/// A host over the operating system: TCP sockets, threads, its clock. Its events come by a channel, so it reports none, but counts them.
 #[derive(Drop)]
 pub struct TcpHost<R: Wait + Copy + Drop, T: Drop> {
     rt: R,

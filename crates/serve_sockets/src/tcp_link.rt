@@ -1,4 +1,4 @@
-//! A link over a socket of the operating system.
+//! A connection over a socket of the operating system.
 
 ghost use Rattle.std.specs.Prelude.{◌≡◌, ◌≤◌, None, length, IfOk};
 ghost use Rattle.serve_threads.specs.Counts.{IsCounted};
@@ -15,7 +15,7 @@ use std::sync::Arc;
 use std::sync::atomic::{AtomicU64, Ordering};
 use std::time::Duration;
 
-/// How long a read of an accepted link may take, in seconds, unless a peer speaks.
+/// How long a read of an accepted connection may take, in seconds, unless a peer speaks.
 const READ_SECONDS: u64 = 600;
 
 /// How long a write to a client may take, in seconds.
@@ -24,12 +24,12 @@ const CLIENT_SECONDS: u64 = 30;
 /// How long a write to a peer may take, in seconds.
 const PEER_SECONDS: u64 = 10;
 
-/// A link over a TCP socket. It tells nothing of content. A read gives bytes of one message at most, so that each message of a client is
+/// A connection over a TCP socket. It says nothing of content. A read gives bytes of one message at most, so that each message of a client is
 /// a step of the node by itself, and other clients come in between. A message is written at once, in one write, and goes out at once; a
 /// write of which only a front was taken has failed, since its time was over. An interrupted call is tried again, up to 1,000 times in a
 /// row. Once an end of it was shut no end reads any more, not even what came before: so a client that is gone is not read for long.
 ///
-/// The error stream is told that a listener's link to another machine is up, and that it is down once a write fails.
+/// The error stream is told that a listener's connection to another machine is up, and that it is down once a write fails.
 #[derive(Drop)]
 pub struct TcpLink {
     stream: TcpStream,
@@ -39,7 +39,7 @@ pub struct TcpLink {
     announced: Option<Announced>,
 }
 
-/// Whether an end of a link was shut, which all its ends know.
+/// Whether an end of a connection was shut, which all its ends know.
 #[derive(Drop)]
 struct ShutNote {
     noted: Arc<AtomicU64, Global>,
@@ -54,7 +54,7 @@ impl ShutNote {
         }
     }
 
-    /// The note of another end of the same link.
+    /// The note of another end of the same connection.
     fn again(&self) -> io::Result<ShutNote> {
         match Arc::try_clone(&self.noted) {
             Ok(noted) => Ok(ShutNote { noted }),
@@ -73,7 +73,7 @@ impl ShutNote {
     }
 }
 
-/// A link that the error stream was told of.
+/// A connection that the error stream was told of.
 #[derive(Drop)]
 struct Announced {
     rt: HostRuntime,
@@ -81,13 +81,13 @@ struct Announced {
 }
 
 impl Announced {
-    /// Tells that the link is up. A line that can't be written is left out.
+    /// Tells that the connection is up. A line that can't be written is left out.
     fn up(rt: HostRuntime, address: String) -> Announced {
         let _ = eprintln!(rt; "link to {address} up");
         Announced { rt, address }
     }
 
-    /// Tells that the link is down.
+    /// Tells that the connection is down.
     fn down(&self) {
         let _ = eprintln!(self.rt; "link to {} down", self.address);
     }
@@ -110,7 +110,7 @@ fn read_full(mut stream: &TcpStream, into: &mut [u8]) -> io::Result<usize>
 }
 
 impl TcpLink {
-    /// A link that was accepted and began with these bytes. A read takes at most ten minutes, but of a peer's link as long as it
+    /// A connection that was accepted and began with these bytes. A read takes at most ten minutes, but of a peer's connection while it
     /// takes; a write takes at most thirty seconds.
     pub(crate) fn accepted(
         alloc: Global,
@@ -133,7 +133,7 @@ impl TcpLink {
         })
     }
 
-    /// A link that was dialled. A write takes at most ten seconds.
+    /// A connection that was dialled. A write takes at most ten seconds.
     pub(crate) fn dialled(alloc: Global, stream: TcpStream) -> io::Result<TcpLink> {
         stream.set_nodelay(true)?;
         stream.set_write_timeout(Some(Duration::from_secs(PEER_SECONDS)))?;
@@ -157,14 +157,14 @@ impl TcpLink {
         })
     }
 
-    /// Has the error stream told that this link to an address is up, and later that it is down. Where memory is wanting it isn't told.
+    /// Has the error stream told that this connection to an address is up, and later that it is down. If memory is wanting it isn't told.
     pub(crate) fn announce(&mut self, rt: HostRuntime, address: &str) {
         if let Ok(address) = String::from_str(rt.alloc(), address) {
             self.announced = Some(Announced::up(rt, address));
         }
     }
 
-    /// Tells that the link is down, once.
+    /// Tells that the connection is down, once.
     fn tell_end(&mut self)
         ensures { self.new.faults ≡ self.old.faults }
     {
@@ -181,7 +181,7 @@ impl TcpLink {
         Failed
     }
 
-    /// Reads what was said first, or bytes of the message behind it; none where an end was shut.
+    /// Reads what was said first, or bytes of the message after it; none where an end was shut.
     fn read_on(&mut self, into: &mut [u8]) -> io::Result<usize>
         ensures fits { IfOk result (λ count. count ≤ length into.new) }
         ensures faults { self.new.faults ≡ self.old.faults }
@@ -199,8 +199,8 @@ impl TcpLink {
         self.read_body(into)
     }
 
-    /// Reads a header, for which it waits until all of it is there, and bytes of the body behind it. Where there isn't room for a header,
-    /// which is where no more than seven bytes of the link are to be read, it reads any bytes.
+    /// Reads a header, for which it waits until all of it is there, and bytes of the body after it. If there isn't room for a header,
+    /// which is where no more than seven bytes of the connection are to be read, it reads any bytes.
     fn read_message(&mut self, into: &mut [u8]) -> io::Result<usize>
         ensures fits { IfOk result (λ count. count ≤ length into.new) }
         ensures room { length into.new ≡ length into.old }
@@ -220,7 +220,7 @@ impl TcpLink {
         Ok(HEADER_SIZE + count)
     }
 
-    /// Reads bytes of the body that the link is at; none where nothing of it is left.
+    /// Reads bytes of the body that the connection is at; none if nothing of it is left.
     fn read_body(&mut self, into: &mut [u8]) -> io::Result<usize>
         ensures fits { IfOk result (λ count. count ≤ length into.new) }
         ensures room { length into.new ≡ length into.old }

@@ -23,7 +23,7 @@ shared_send = search (sendable, crosses) depth 40
 pub shared_sync : IsSync shared.the_row
 shared_sync = search (sendable, crosses) depth 40
 
--- so both ends of a writer's queue, where links may be sent
+-- so both ends of a writer's queue, where connections may be sent
 pub queue_send : (L : RattleType) → IsSend L → IsSend (queue.the_field L).row
 queue_send L s = search (sendable, crosses, shared_send, shared_sync) depth 60 fits 5000
 

@@ -24,6 +24,6 @@ one_dial done = record done { dials = done.dials + 1 }
 abbrev pub one_worker : HostCounts → HostCounts
 one_worker done = record done { workers = done.workers + 1 }
 
--- where the call succeeded it was counted, else nothing was
+-- if the call succeeded it was counted, else nothing was
 abbrev pub Does : {T : Type 0} → HostCounts → HostCounts → HostCounts → Result T Failed → Type 0
 Does before more now result = MatchResult result (λ _. now ≡ more) (λ _. now ≡ before)

@@ -13,11 +13,11 @@ is_bulk (Ack good index) = false
 is_bulk (Install snapshot) = true
 is_bulk TimeoutNow = false
 
--- it waits behind the others, or is lost
+-- it waits after the others, or is lost
 abbrev pub MayJoin : List RaftMessage → RaftMessage → List RaftMessage → Type 0
 MayJoin others message after = (after ≡ others ++ message ∷ []) ⊎ (after ≡ others)
 
--- The first of the others is sent next, and where there is none the Append or Install; the rest waits on.
+-- The first of the others is sent next, and without one the Append or Install; the rest waits on.
 abbrev pub SentNext : Option RaftMessage → List RaftMessage → Option RaftMessage → List RaftMessage → Option RaftMessage → Type 0
 SentNext bulk [] bulk_after others_after next = (next ≡ bulk) × (bulk_after ≡ None) × (others_after ≡ [])
 SentNext bulk (first ∷ rest) bulk_after others_after next = (next ≡ Some first) × (bulk_after ≡ bulk) × (others_after ≡ rest)

@@ -35,9 +35,9 @@ pub struct ChannelInbox<R: Wait + Copy + Drop, T: Drop> {
     faults: u64,
 }
 
-/// An end at which events are posted for a channel's inbox. Of a metered end only so many events wait there at a time: a post more
-/// waits until one was taken, or the inbox is gone. Where there is no memory for an event it is tried again, each ten milliseconds, as
-/// long as the inbox is there. It fails where the inbox is gone. It tells no events.
+/// An end at which events are posted for a channel's inbox. Of a metered end only this many events wait there at a time: a post more
+/// waits until one was taken, or the inbox is gone. If there is no memory for an event it is tried again, each ten milliseconds, as
+/// long as the inbox is there. It fails if the inbox is gone. It reports no events.
 #[derive(Drop)]
 pub struct ChannelPost<R: Wait + Copy + Drop, T: Drop> {
     rt: R,
@@ -127,7 +127,7 @@ impl<R: Wait + Copy + Drop, T: Drop> ChannelPost<R, T> {
         })
     }
 
-    /// Another end of the same channel, of which at most so many events wait at a time.
+    /// Another end of the same channel, of which at most this many events wait at a time.
     pub fn metered(&self, alloc: Global, events: u32) -> Result<ChannelPost<R, T>, AllocError> {
         Ok(ChannelPost {
             rt: self.rt,

@@ -22,13 +22,13 @@ pub(crate) struct Waiting {
 /// What a writer is to do, each for the connection of a number.
 #[derive(Drop)]
 pub(crate) enum Write<L> {
-    /// This is the connection's link from now on.
+    /// This is the connection's socket from now on.
     Take(u64, L),
     /// These bytes go to the connection.
     Send(u64, Waiting),
     /// The connection is closed.
     Close(u64),
-    /// The link is shut, and nothing more is written.
+    /// The connection is shut, and nothing more is written.
     End,
 }
 
@@ -36,7 +36,7 @@ pub(crate) enum Write<L> {
 ///
 /// Each message counts for its bytes and 256 more, from when it is handed over until it is written. A place has room for 1 MiB of its own,
 /// and for 31 MiB in a room of 96 MiB that all places of a node share. A connection of which a message has room in neither, or finds no
-/// memory, is cut: nothing more of it is written, its link is read no further, and is shut once the write that is being made has ended.
+/// memory, is cut: nothing more of it is written, its connection is read no further, and is shut once the write that is being made has ended.
 #[derive(Drop)]
 pub struct ClientQueue<L: Drop> {
     queue: Sender<Write<L>>,
@@ -87,7 +87,7 @@ impl<L: Drop> ClientQueue<L> {
         })
     }
 
-    /// Hands a connection's link over, and says whether that succeeded. Where it didn't the link is dropped.
+    /// Hands a connection's socket over, and says whether that succeeded. If it didn't the socket is dropped.
     pub fn take<R: Wait>(&self, rt: &R, conn: u64, link: L) -> bool {
         self.queue.send(rt, Write::Take(conn, link)).is_ok()
     }
@@ -115,20 +115,20 @@ impl<L: Drop> ClientQueue<L> {
         Err(CutCause::Memory)
     }
 
-    /// Has the connection closed behind what was handed over.
+    /// Has the connection closed after what was handed over.
     pub fn close<R: Wait>(&self, rt: &R, conn: u64) {
         if self.queue.send(rt, Write::Close(conn)).is_err() {
             self.place.cut(conn);
         }
     }
 
-    /// Has the connection closed now: what waits of it isn't written, and its link is read no further.
+    /// Has the connection closed now: what waits of it isn't written, and its socket is read no further.
     pub fn cut<R: Wait>(&self, rt: &R, conn: u64) {
         self.place.cut(conn);
         self.close(rt, conn);
     }
 
-    /// Has the writer shut its link behind what was handed over, and end.
+    /// Has the writer shut its connection after what was handed over, and end.
     pub fn end<R: Wait>(&self, rt: &R) {
         let _ = self.queue.send(rt, Write::End);
     }

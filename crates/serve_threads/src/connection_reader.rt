@@ -1,4 +1,4 @@
-//! The reading of clients' links.
+//! The reading of clients' connections.
 
 ghost use Rattle.std.specs.Prelude.{None};
 ghost use Rattle.dq_base.specs.Faults.{HasCause};
@@ -21,30 +21,30 @@ pub const KEEPERS: u64 = 72;
 /// milliseconds.
 const PAUSE: u64 = 10;
 
-/// Accepts one link after the other at a listener, and reads each to its end, or until its connection is cut. The numbers of its
-/// connections are `first` and each 72nd behind it; `first` is 1 to 72, so that no two connection readers give the same number, and 0 is
+/// Accepts one socket after the other at a listener, and reads each to its end, or until its connection is closed. The numbers of its
+/// connections are `first` and each 72nd after it; `first` is 1 to 72, so that no two connection readers give the same number, and 0 is
 /// none.
 ///
-/// Where the listener fails it is tried again, ten milliseconds later.
+/// If the listener fails it is tried again, ten milliseconds later.
 #[derive(Drop)]
 pub struct ConnectionReader<R: Wait + Clock + Copy + Drop, D: Door, T: Drop> {
     /// For room to read.
     pub alloc: Global,
     /// For its waits.
     pub rt: R,
-    /// Where links come.
+    /// Where connections come.
     pub door: D,
-    /// Where events go; it should be metered, so that no more than one piece of a link waits.
+    /// Where events go; it should be metered, so that no more than one piece of a connection waits.
     pub post: ChannelPost<R, T>,
-    /// The writer of the same place, which gets the other end of each link.
+    /// The writer of the same place, which gets the other end of each connection.
     pub writer: ClientQueue<D::Link>,
     /// The number of the first connection.
     pub first: u64,
-    /// How many bytes of one link are read at most.
+    /// How many bytes of one connection are read at most.
     pub budget: u64,
 }
 
-/// One connection after the other, and where what is read of its link goes. That fails once the connection is cut, and where the post does.
+/// One connection after the other, and where what is read of its socket goes. That fails once the connection is closed, and if the post does.
 #[derive(Drop)]
 struct Served<R: Wait + Copy + Drop, L: Drop, T: Drop> {
     rt: R,
@@ -74,7 +74,7 @@ impl<R: Wait + Clock + Copy + Drop, L: Drop, T: Drop> Post<T> for Served<R, L, T
 }
 
 impl<R: Wait + Clock + Copy + Drop, L: Link, T: Drop> Served<R, L, T> {
-    /// Serves a link as the connection, and says whether the post still takes events.
+    /// Serves a socket as the connection, and says whether the post still takes events.
     fn serve(&mut self, alloc: Global, mut link: L, budget: u64) -> bool {
         let Ok(twin) = link.twin() else {
             return true;
@@ -93,7 +93,7 @@ impl<R: Wait + Clock + Copy + Drop, L: Link, T: Drop> Served<R, L, T> {
 }
 
 impl<R: Wait + Clock + Copy + Drop, D: Door, T: Drop> ConnectionReader<R, D, T> {
-    /// Serves links until the post fails, or no number is left.
+    /// Serves connections until the post fails, or no number is left.
     pub fn run(self) {
         let ConnectionReader {
             alloc,

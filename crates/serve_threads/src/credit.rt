@@ -24,7 +24,7 @@ pub(crate) struct Debit {
 }
 
 impl Credit {
-    /// So many events may be posted.
+    /// This many events may be posted.
     pub(crate) fn new(alloc: Global, events: u32) -> Result<Credit, AllocError> {
         let shared = Shared {
             free: AtomicU64::new(events as u64),
@@ -61,8 +61,8 @@ impl Shared {
         false
     }
 
-    /// Waits until an event may be posted, and takes it off. Who gives one back looks for sleepers behind that, and a sleep begins only
-    /// where there is still none: so no event that is given back is missed.
+    /// Waits until an event may be posted, and takes it off. Who gives one back looks for sleepers after that, and a sleep begins only
+    /// if there is still none: so no event that is given back is missed.
     fn wait<R: Wait>(&self, rt: &R) {
         for _ in rt.forever() {
             if self.try_take() {

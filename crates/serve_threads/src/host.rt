@@ -8,9 +8,9 @@ use std::sync::Wait;
 use std::thread::Threads;
 use std::time::Clock;
 
-/// Where a node listens and dials, what brings it its events, and the threads that work beside it.
+/// A host: where a node listens and dials, what brings it its events, and the threads that work concurrently with it.
 ///
-/// It has one count of faults, which is also that of its events: a call answers `Failed` only where the count rose in it. It counts
+/// It has one count of faults, which is also that of its events: a call answers `Failed` only if the count rose in it. It counts
 /// what it did; at the last value of a number, 18,446,744,073,709,551,615, its call fails. No call but `take` takes an
 /// event, or changes which ones are left.
 pub trait Host<T: Drop>: Inbox<T> {
@@ -22,7 +22,7 @@ pub trait Host<T: Drop>: Inbox<T> {
     /// The runtime that threads, waits and clocks ask for.
     type Rt: Threads + Wait + Clock + Copy + Drop + Send + 'static;
 
-    /// Where links come.
+    /// Where connections come.
     type Door: Door + Send + 'static;
 
     /// What it did.
@@ -31,7 +31,7 @@ pub trait Host<T: Drop>: Inbox<T> {
     /// The runtime.
     fn rt(&self) -> Self::Rt;
 
-    /// An end at which events are posted that `take` gives, where the host doesn't tell its events.
+    /// An end at which events are posted that `take` gives, if the host doesn't report its events.
     fn post(&self) -> Result<ChannelPost<Self::Rt, T>, AllocError>;
 
     /// Listens at an address, as `localhost:9001`.
@@ -48,7 +48,7 @@ pub trait Host<T: Drop>: Inbox<T> {
         ensures left { Self.left self.new ≡ Self.left self.old }
         ensures cause { HasCause (Self.faults self.old) (Self.faults self.new) result };
 
-    /// A link to an address.
+    /// A connection to an address.
     fn dial(&mut self, address: &str) -> Result<<Self::Door as Door>::Link, Failed>
         ensures done { Does (done self.old) (one_dial (done self.old)) (done self.new) result }
         ensures events { Self.taken self.new ≡ Self.taken self.old }

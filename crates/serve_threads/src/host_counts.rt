@@ -1,6 +1,6 @@
 ghost use Rattle.std.specs.Prelude.{◌≡◌};
 
-/// How often a host listened, how often it dialled, and how many workers it took.
+/// How many times a host listened, how many times it dialled, and how many workers it took.
 #[derive(Clone, Copy, Debug, PartialEq, Eq)]
 pub struct HostCounts {
     /// The listens that succeeded.

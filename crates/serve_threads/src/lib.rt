@@ -1,5 +1,5 @@
-//! What serves a node: threads that read and write links, dial peers, tick, and answer queries beside it; the bounded queues between
-//! them and the node; and what a host of links and threads is.
+//! What serves a node: threads that read and write connections, dial peers, tick, and answer queries concurrently with it; the bounded queues between
+//! them and the node; and what a host of connections and threads is.
 #![tactic(auto)]
 
 mod channel;

@@ -15,7 +15,7 @@ use wire_words::WireBytes;
 /// The queues to all threads that carry what a node says. None of its calls waits for one of them except for the moment in which
 /// that one touches the queue, and each queue is bounded.
 ///
-/// Once it is dropped the writers shut their links and end, and the threads of peers end, each behind what waits.
+/// Once it is dropped the writers shut their connections and end, and the threads of peers end, each after what waits.
 pub struct Queues<R: Wait + Copy + Drop, L: Drop, J: Drop> {
     /// For its waits.
     pub rt: R,
@@ -30,7 +30,7 @@ pub struct Queues<R: Wait + Copy + Drop, L: Drop, J: Drop> {
     pub heard: LeaderContact,
 }
 
-/// The place of a connection among so many, from 0.
+/// The place of a connection among this many, from 0.
 fn place_of(conn: u64) -> usize
     ensures { result ≡ (conn - 1) % 72 }
 {
@@ -45,21 +45,21 @@ impl<R: Wait + Copy + Drop, L: Drop, J: Drop> Queues<R, L, J> {
         }
     }
 
-    /// Closes a connection behind its replies.
+    /// Closes a connection after its replies.
     pub fn close(&self, conn: u64) {
         if let Some(writer) = self.writers.get(place_of(conn)) {
             writer.close(&self.rt, conn);
         }
     }
 
-    /// Closes a connection now: what waits of it isn't written, and its link is read no further.
+    /// Closes a connection now: what waits of it isn't written, and its socket is read no further.
     pub fn cut(&self, conn: u64) {
         if let Some(writer) = self.writers.get(place_of(conn)) {
             writer.cut(&self.rt, conn);
         }
     }
 
-    /// Sends a message to the peer that it is for. It gets lost where too many wait, and where no peer has the id.
+    /// Sends a message to the peer that it is for. It gets lost where too many wait, and if no peer has the id.
     pub fn send(&self, message: RaftMessage) {
         self.heard.note(&message);
         let to = message.to;
@@ -68,8 +68,8 @@ impl<R: Wait + Copy + Drop, L: Drop, J: Drop> Queues<R, L, J> {
         }
     }
 
-    /// Lends a query to a reader, to the same one for each query of a connection. Where memory is wanting, or there is no reader, the
-    /// connection is cut.
+    /// Lends a query to a reader, to the same one for each query of a connection. If memory is wanting, or there is no reader, the
+    /// connection is closed.
     pub fn lend(&self, conn: u64, job: J) {
         let count = self.readers.len();
         if count > 0 {

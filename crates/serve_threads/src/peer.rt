@@ -1,4 +1,4 @@
-//! The link to a peer.
+//! The connection to a peer.
 
 use crate::peer_queue::PeerQueue;
 use raft_messages::{RaftMessage, write_message};
@@ -7,7 +7,7 @@ use std::alloc::Global;
 use std::sync::Wait;
 use wire_words::{WireBytes, WireText};
 
-/// Sends messages to one peer, over a link that it dials. Where the link fails it is dropped, and so is the message; the next one
+/// Sends messages to one peer, over a connection that it dials. If the connection fails it is dropped, and the same holds for the message; the next one
 /// has the peer dialled again.
 #[derive(Drop)]
 pub struct Peer<R: Wait + Copy + Drop, D: Door> {
@@ -19,7 +19,7 @@ pub struct Peer<R: Wait + Copy + Drop, D: Door> {
     pub door: D,
     /// The peer's address.
     pub address: WireText,
-    /// What is written first on each link: the version and a CONNECT.
+    /// What is written first on each connection: the version and a CONNECT.
     pub greeting: WireBytes,
     /// The messages.
     pub queue: PeerQueue,
@@ -37,7 +37,7 @@ impl<R: Wait + Copy + Drop, D: Door> Peer<R, D> {
         }
     }
 
-    /// Sends a message over the link, or over a new one. None where that failed.
+    /// Sends a message over the connection, or over a new one. None where that failed.
     fn send(&mut self, link: Option<D::Link>, message: &RaftMessage) -> Option<D::Link> {
         let mut link = match link {
             Some(link) => link,
@@ -50,7 +50,7 @@ impl<R: Wait + Copy + Drop, D: Door> Peer<R, D> {
         Some(link)
     }
 
-    /// A link to the peer, with the greeting written.
+    /// A connection to the peer, with the greeting written.
     fn dial(&mut self) -> Option<D::Link> {
         let mut link = self.door.dial(self.address.as_str()).ok()?;
         link.write_all(self.greeting.as_slice()).ok()?;

@@ -40,8 +40,8 @@ impl PeerMail {
         }
     }
 
-    /// Adds a message. An Append or an Install takes the place of the one that waits; another one is lost where so many wait, and
-    /// where memory runs out.
+    /// Adds a message. An Append or an Install takes the place of the one that waits; another one is lost where this many wait, and
+    /// if memory runs out.
     pub(crate) fn add(&mut self, message: RaftMessage)
         ensures bulk { is_bulk message.what ≡ true → (self.new.bulk ≡ Some message) × (self.new.others.items ≡ self.old.others.items) }
         ensures other { is_bulk message.what ≡ false → self.new.bulk ≡ self.old.bulk }

@@ -13,7 +13,7 @@ pub struct CommonRoom {
     count: Arc<Count<100_663_296>, Global>,
 }
 
-/// Why a connection is cut.
+/// Why a connection is closed.
 #[derive(Clone, Copy, Debug, PartialEq, Eq)]
 pub enum CutCause {
     /// Its client reads too slowly: as much waits for it as may at one place.
@@ -90,7 +90,7 @@ impl Place {
         })
     }
 
-    /// Takes room for so many bytes, of the place's own where there is so much.
+    /// Takes room for this many bytes, of the place's own where there is so much.
     pub(crate) fn take(&self, bytes: u64) -> Result<Held, CutCause>
         ensures { IfOk result (λ held. held.own + held.lent ≡ bytes) }
     {
@@ -107,7 +107,7 @@ impl Place {
         })
     }
 
-    /// Counts bytes in the common room, where there is room for them and for the place in it.
+    /// Counts bytes in the common room, if there is room for them and for the place in it.
     fn borrow(&self, bytes: u64) -> Result<(), CutCause> {
         if !self.shared.lent.add(bytes) {
             return Err(CutCause::Place);

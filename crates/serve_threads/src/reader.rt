@@ -1,4 +1,4 @@
-//! Queries that are answered beside the node.
+//! Queries that are answered concurrently with the node.
 
 use crate::channel::ChannelPost;
 use crossbeam_channel::Receiver;
@@ -6,7 +6,7 @@ use serve_traits::{Event, Post};
 use std::sync::Wait;
 use std::time::Clock;
 
-/// What may be moved to another thread and dropped there. A type that is both is this too. Such a bound on an associated type carries to
+/// What may be moved to another thread and dropped there. A type that is both is this too. This bound on an associated type carries to
 /// the threads that it is moved to, where `Send + Drop` doesn't.
 pub trait Moves: Send + Drop + Sized {}
 
@@ -17,7 +17,7 @@ pub trait Reader: Send + Drop + Sized {
     /// A query, with what it reads. It moves to the reader's thread.
     type Job: Moves + Send + 'static;
 
-    /// What the node is told of it: an answer, a refusal, or that the node is to run it by itself, as it does also where memory runs
+    /// What the node is told of it: an answer, a refusal, or that the node is to run it by itself, as it does also if memory runs
     /// out here.
     type Told: Moves + Send + 'static;
 

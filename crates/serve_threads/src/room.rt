@@ -4,14 +4,14 @@ ghost use Rattle.std.specs.Prelude.{◌≤◌};
 
 use std::sync::atomic::{AtomicIn, Ordering, Rule};
 
-/// The rule of a count: it is never more than so many.
+/// The rule of a count: it is never more than this many.
 struct UpTo<const MOST: u64>;
 
 impl<const MOST: u64> Rule for UpTo<MOST> {
     ghost invariant = { λ n. n ≤ MOST };
 }
 
-/// A count of the bytes that are held, which is never more than so many, whatever threads do.
+/// A count of the bytes that are held, which is never more than this many, whatever threads do.
 #[derive(Drop)]
 pub(crate) struct Count<const MOST: u64> {
     held: AtomicIn<UpTo<MOST>>,
@@ -32,7 +32,7 @@ impl<const MOST: u64> Count<MOST> {
         self.held.load(Ordering::SeqCst)
     }
 
-    /// Counts so many bytes more, and says whether there is room for them.
+    /// Counts this many bytes more, and says whether there is room for them.
     pub(crate) fn add(&self, bytes: u64) -> bool {
         for _ in 0..u64::MAX {
             let held = self.held();
@@ -46,7 +46,7 @@ impl<const MOST: u64> Count<MOST> {
         false
     }
 
-    /// Counts so many bytes less.
+    /// Counts this many bytes less.
     pub(crate) fn sub(&self, bytes: u64) {
         for _ in 0..u64::MAX {
             let held = self.held();

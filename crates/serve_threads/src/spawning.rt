@@ -28,7 +28,7 @@ fn stack_of<R: Wait + Clock + Copy + Drop, D: Door, Q: Reader>(worker: &Worker<R
     }
 }
 
-/// Has a worker work in a thread of its own, and says whether there is one. Where there is none the worker is dropped.
+/// Has a worker work in its own thread, and says whether there is one. If there is none the worker is dropped.
 fn start<
     R: Threads + Wait + Clock + Copy + Drop + Send + 'static,
     D: Door + Send + 'static,
@@ -48,7 +48,7 @@ fn start<
         .is_ok()
 }
 
-/// Has a worker work in a thread of its own beside a host, which counts it. `Failed` comes only where the host's count of faults rose;
+/// Has a worker work in its own thread beside a host, which counts it. `Failed` comes only if the host's count of faults rose;
 /// the worker is dropped then.
 pub fn beside<Q: Reader + Send + 'static, H: Host<Q::Told>>(
     host: &mut H,

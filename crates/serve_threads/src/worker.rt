@@ -1,4 +1,4 @@
-//! Work for a thread of its own.
+//! Work for its own thread.
 
 use crate::connection_reader::ConnectionReader;
 use crate::peer::Peer;
@@ -9,12 +9,12 @@ use serve_traits::Door;
 use std::sync::Wait;
 use std::time::Clock;
 
-/// Work that goes on beside the node, in a thread of its own.
+/// Work that continues beside the node, in its own thread.
 #[derive(Drop)]
 pub enum Worker<R: Wait + Clock + Copy + Drop, D: Door, Q: Reader> {
-    /// Reads links.
+    /// Reads connections.
     Keeper(ConnectionReader<R, D, Q::Told>),
-    /// Writes links.
+    /// Writes connections.
     Writer(Writer<R, D::Link>),
     /// Sends to a peer.
     Peer(Peer<R, D>),

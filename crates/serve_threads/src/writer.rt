@@ -1,4 +1,4 @@
-//! The writing of clients' links.
+//! The writing of clients' connections.
 
 use crate::client_queue::{ClientWrites, Write};
 use serve_traits::Link;
@@ -7,7 +7,7 @@ use wire_words::WireBytes;
 
 /// Writes what waits for the connections of one place, one connection after the other.
 ///
-/// What comes for another connection than that of the link that it has is dropped: that one is gone. A link that fails is shut and
+/// What comes for another connection than that of the socket that it has is dropped: that one is gone. A socket that fails is shut and
 /// dropped.
 #[derive(Drop)]
 pub struct Writer<R: Wait + Copy + Drop, L: Link> {
@@ -17,7 +17,7 @@ pub struct Writer<R: Wait + Copy + Drop, L: Link> {
 }
 
 impl<R: Wait + Copy + Drop, L: Link> Writer<R, L> {
-    /// A writer that has no link yet.
+    /// A writer that has no connection yet.
     pub fn new(rt: R, writes: ClientWrites<L>) -> Writer<R, L> {
         Writer {
             rt,
@@ -38,7 +38,7 @@ impl<R: Wait + Copy + Drop, L: Link> Writer<R, L> {
         }
     }
 
-    /// Does what it is told to, and says whether it goes on.
+    /// Does what it is told to, and says whether it continues.
     fn perform(&mut self, write: Write<L>) -> bool {
         match write {
             Write::Take(conn, link) => self.link = Some((conn, link)),
@@ -69,14 +69,14 @@ impl<R: Wait + Copy + Drop, L: Link> Writer<R, L> {
         }
     }
 
-    /// Shuts and drops the link, where it is that of this connection.
+    /// Shuts and drops the socket, if it is that of this connection.
     fn close(&mut self, conn: u64) {
         if matches!(&self.link, Some((own, _)) if *own == conn) {
             self.shut();
         }
     }
 
-    /// Shuts and drops the link, if there is one.
+    /// Shuts and drops the connection, if there is one.
     fn shut(&mut self) {
         if let Some((_, link)) = &mut self.link {
             link.shut();

@@ -1,4 +1,4 @@
--- Pieces of a link that are posted one after another.
+-- Pieces of a connection that are posted one after another.
 use Rattle.std.proofs.Common.{◌≡◌, ◌≤◌, ◌+◌, ◌-◌, ℕ, List, [], ◌∷◌, ◌++◌, length, refl, sym, ap, ◌∙◌, append_assoc, append-nil, subst, arith}
 use Rattle.std.specs.Prelude.{Option, Err}
 use Rattle.dq_base.specs.Faults.{Rose}
@@ -20,7 +20,7 @@ pub concat_one : (pieces : List (List ℕ)) (piece : List ℕ) → concat (piece
 concat_one [] piece = append-nil piece
 concat_one (p ∷ ps) piece = ap (λ (rest : List ℕ). p ++ rest) (concat_one ps piece) ∙ sym (append_assoc p (concat ps) piece)
 
--- So many bytes of the budget are left. All that was read is posted.
+-- This many bytes of the budget are left. All that was read is posted.
 pub record Going {T : Type 0} (conn budget : ℕ) (left left_now : Option (List ℕ)) (posted posted_now : Option (List (Event T))) (room : ℕ) : Type 0 where
   pub pieces : List (List ℕ)
   pub read : Consumes left left_now (concat pieces)
@@ -97,12 +97,12 @@ stops conn budget left left_now left_after posted posted_now posted_after room e
 pub idle : {T : Type 0} (conn budget : ℕ) (left : Option (List ℕ)) (posted : Option (List (Event T))) → Serves conn budget left left posted posted NoMemory
 idle conn budget left posted = record { pieces = []; lost = []; read = Consumes-nothing left; posts = gains_none posted; within = omega arith; loses = tt; says = tt }
 
--- the link failed at a piece behind others
+-- the connection failed at a piece after others
 pub failed_link : {T : Type 0} (start link link_after post post_after : ℕ) (end : LinkEnd) → start ≤ link → PieceCause {T = T} link link_after post post_after (Err end) → end ≡ Failed → Rose start link_after
 failed_link start link link_after post post_after end stays cause e =
     Rose-earlier start link link_after stays (subst (λ (x : LinkEnd). EndCause link link_after post post_after x) e cause.failed)
 
--- the post failed at a piece behind others
+-- the post failed at a piece after others
 pub closed_post : {T : Type 0} (start link link_after post post_after : ℕ) (end : LinkEnd) → start ≤ post → PieceCause {T = T} link link_after post post_after (Err end) → end ≡ Closed → Rose start post_after
 closed_post start link link_after post post_after end stays cause e =
     Rose-earlier start post post_after stays (subst (λ (x : LinkEnd). EndCause link link_after post post_after x) e cause.failed)

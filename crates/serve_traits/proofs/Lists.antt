@@ -1,4 +1,4 @@
--- Lists that may be told: what two calls do together.
+-- Lists that may be reported: what two calls do together.
 use Rattle.std.proofs.Common.{List, [], ◌++◌, None, Some, refl, sym, ap, ◌∙◌, append_assoc, append-nil}
 use Rattle.std.specs.Prelude.{Option}
 use Rattle.serve_traits.specs.Told.{Gives, Gains, Remains}
@@ -15,7 +15,7 @@ gains_then (Some a) None c x y first second = absurd first
 gains_then (Some a) (Some b) None x y first second = absurd second
 gains_then (Some a) (Some b) (Some c) x y first second = second ∙ ap (λ items. items ++ y) first ∙ append_assoc a x y
 
--- a call that adds nothing behind others
+-- a call that adds nothing after others
 pub gains_stay : {T : Type 0} (a b c : Option (List T)) (x : List T) → Gains a b x → Remains b c → Gains a c x
 gains_stay None b c x first stays = tt
 gains_stay (Some a) None c x first stays = absurd first
@@ -34,7 +34,7 @@ gives_then (Some a) None c x y first second = absurd first
 gives_then (Some a) (Some b) None x y first second = absurd second
 gives_then (Some a) (Some b) (Some c) x y first second = first ∙ ap (λ items. x ++ items) second ∙ sym (append_assoc x y c)
 
--- a call that takes nothing behind others
+-- a call that takes nothing after others
 pub gives_stay : {T : Type 0} (a b c : Option (List T)) (x : List T) → Gives a b x → Remains b c → Gives a c x
 gives_stay None b c x first stays = tt
 gives_stay (Some a) None c x first stays = absurd first

@@ -24,7 +24,7 @@ steps_more makes was [] (o ∷ os) last event said now so_far made = absurd so_f
 steps_more makes was (e ∷ es) [] last event said now so_far made = absurd so_far
 steps_more makes was (e ∷ es) (o ∷ os) last event said now so_far made = (so_far.0, so_far.1, steps_more makes so_far.0 es os last event said now so_far.2 made)
 
--- So many events were taken, the step for each is made, and what they say is put.
+-- This many events were taken, the step for each is made, and what they say is put.
 pub record Going {S T O : Type 0} (makes : S → Event T → O → S → Type 0) (was now : S) (before after : Taken T) (said said_now : Option (List O)) (made : ℕ) : Type 0 where
   pub events : List (Event T)
   pub outs : List O

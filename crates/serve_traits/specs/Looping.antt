@@ -8,7 +8,7 @@ use Rattle.serve_traits.specs.declared.looping.LoopEnd.TheVariants.{Closed, Disk
 use Rattle.serve_traits.specs.Told.{Gains, Gives}
 use Rattle.serve_traits.specs.Stepping.{Steps}
 
--- what an inbox tells before and after: the events that are left, where they are told, and how many were taken
+-- what an inbox tells before and after: the events that are left, if they are known, and how many were taken
 pub record Taken (T : Type 0) : Type 0 where
   pub left : Option (List (Event T))
   pub count : ℕ

@@ -14,7 +14,7 @@ pub record Posted (T : Type 0) : Type 0 where
   pub events : List (Event T)
   pub calls : Counted
 
--- the bytes that a link has left, those that were written, and the calls so far
+-- the bytes that a connection has left, those that were written, and the calls so far
 pub record Linked : Type 0 where
   pub left : List ℕ
   pub written : List ℕ

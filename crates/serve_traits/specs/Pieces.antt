@@ -1,4 +1,4 @@
--- What comes of one piece of a link.
+-- What comes of one piece of a connection.
 use Rattle.std.specs.Prelude.{◌≡◌, ◌≤◌, ◌<◌, ℕ, List, [], ◌∷◌, length, Option, Result, Ok, Err}
 use Rattle.std.specs.Io.KnownBytes.{Consumes, IsAtEnd, Keeps}
 use Rattle.dq_base.specs.Faults.{Rose}

@@ -3,7 +3,7 @@
 use dq_base::Bytes;
 use raft_messages::RaftMessage;
 
-/// What happens at a node whose readers tell this of a query.
+/// What happens at a node whose readers answer this of a query.
 #[derive(Drop)]
 pub enum Event<T> {
     /// It has heard of no leader for too long.

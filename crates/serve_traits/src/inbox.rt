@@ -3,21 +3,21 @@ use dq_base::Failed;
 
 /// What brings a node its events, one after the other.
 ///
-/// It counts its faults and the events that were taken. The events that are left are told by those that know them, as one over
-/// memory; clauses on content hold where they are told.
+/// It counts its faults and the events that were taken. The events that are left are described by those that know them, as one over
+/// memory; clauses on content hold if they are known.
 pub trait Inbox<T> {
     ghost use Rattle.std.specs.Prelude.{◌≤◌, ℕ, List, Option};
     ghost use Rattle.dq_base.specs.Faults.{HasCause, last_count};
     ghost use Rattle.serve_traits.specs.declared.event.Event.{Event};
     ghost use Rattle.serve_traits.specs.Told.{Takes, CountsTaken};
 
-    /// The events that are left, where they are told.
+    /// The events that are left, if they are known.
     ghost left: { Self → Option (List (Event T)) };
 
     /// How many events were taken.
     ghost taken: { Self → ℕ };
 
-    /// How often a call failed.
+    /// How many times a call failed.
     ghost faults: { Self → ℕ };
 
     /// Takes the first event, and may wait for it. It fails where 18,446,744,073,709,551,615 were taken. After `Failed` none was

@@ -1,5 +1,5 @@
-//! The outside of a node that serves, as traits with their counts of faults: links and listeners, what brings events and where they
-//! are put, and where it goes what a node says. Over them the reading of a link, and the loop of a node.
+//! The outside of a node that serves, as traits with their counts of faults: connections and listeners, what brings events and if they
+//! are put, and what takes the output of a node. Over them the reading of a connection, and the loop of a node.
 #![tactic(auto)]
 
 mod event;

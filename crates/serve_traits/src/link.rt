@@ -1,24 +1,24 @@
-//! Links, and the listeners by which they come.
+//! Connections, and the listeners by which they come.
 
 use dq_base::Failed;
 
 /// One end of a stream of bytes both ways, which may be moved to another thread.
 ///
-/// It counts its faults: `read` and `write_all` answer `Failed` only where the count rose in the call, and so does `twin`. What is
-/// left to read and what was written is told by links that know it, as one over memory; clauses on content hold where it is told.
+/// It counts its faults: `read` and `write_all` answer `Failed` only if the count rose in the call, and so does `twin`. What is
+/// left to read and what was written is described by connections that know it, as one over memory; clauses on content hold if it is known.
 pub trait Link: Send + Drop + Sized {
     ghost use Rattle.std.specs.Prelude.{◌≡◌, ℕ, List, Option};
     ghost use Rattle.dq_base.specs.Faults.{HasCause};
     ghost use Rattle.dq_base.specs.Source.{ReadMoves};
     ghost use Rattle.dq_base.specs.Sink.{WriteAppends};
 
-    /// The bytes that are left to read, where they are told.
+    /// The bytes that are left to read, if they are known.
     ghost left: { Self → Option (List ℕ) };
 
-    /// The bytes that were written, where they are told.
+    /// The bytes that were written, if they are known.
     ghost written: { Self → Option (List ℕ) };
 
-    /// How often a call failed.
+    /// How many times a call failed.
     ghost faults: { Self → ℕ };
 
     /// Moves the next bytes to the front of `into` and answers their number: 0 for an `into` with room is the end. After
@@ -40,26 +40,26 @@ pub trait Link: Send + Drop + Sized {
         ensures written { written self.new ≡ written self.old }
         ensures cause { HasCause (faults self.old) (faults self.new) result };
 
-    /// Ends the stream both ways, for all of its ends: a read that waits comes to the end, and a write fails. Nothing is said of
+    /// Ends the stream both ways, for all of its ends: a read that waits reaches the end, and a write fails. Nothing is said of
     /// what was written before and hasn't gone out.
     fn shut(&mut self)
         ensures { faults self.new ≡ faults self.old };
 }
 
-/// Where links come from: those that others dial, and those that are dialled. It may be moved to another thread.
+/// Where connections come from: those that others dial, and those that are dialled. It may be moved to another thread.
 ///
-/// A call answers `Failed` only where the count of faults rose in it.
+/// A call answers `Failed` only if the count of faults rose in it.
 pub trait Door: Send + Drop + Sized {
     ghost use Rattle.std.specs.Prelude.{ℕ};
     ghost use Rattle.dq_base.specs.Faults.{HasCause};
 
-    /// Its links.
+    /// Its connections.
     type Link: Link + Send + 'static;
 
-    /// How often a call failed.
+    /// How many times a call failed.
     ghost faults: { Self → ℕ };
 
-    /// Waits for a link that another one dials.
+    /// Waits for a connection that another one dials.
     fn accept(&mut self) -> Result<Self::Link, Failed>
         ensures { HasCause (faults self.old) (faults self.new) result };
 

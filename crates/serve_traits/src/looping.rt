@@ -16,11 +16,11 @@ pub enum LoopEnd {
     Closed,
     /// The disk failed in a step, and has counted it.
     DiskFault,
-    /// So many events were taken, and the step for each is made.
+    /// This many events were taken, and the step for each is made.
     Spent(u64),
     /// There was not enough memory for a step.
     NoMemory,
-    /// What a step was to do may not be done, though it was let pass.
+    /// What a step was to do must not be done, though it was let pass.
     Unfit,
 }
 
@@ -38,11 +38,11 @@ impl From<StepFault> for LoopEnd {
     }
 }
 
-/// Takes so many events, has the core make a step for each, and puts what it says, before the next event is taken; behind that the core
+/// Takes this many events, has the core make a step for each, and puts what it says, before the next event is taken; after that the core
 /// does what could wait. It may wait for the inbox, as long as that does.
 ///
-/// `Closed` comes only where the inbox's count of faults rose, `DiskFault` only where the disk's did, `Spent` with the budget,
-/// after so many events. After `DiskFault`, `NoMemory` and `Unfit` the core's last step has failed, and said nothing.
+/// `Closed` comes only if the inbox's count of faults rose, `DiskFault` only if the disk's did, `Spent` with the budget,
+/// after this many events. After `DiskFault`, `NoMemory` and `Unfit` the core's last step has failed, and said nothing.
 #[tactic(auto, using(crate::proofs::Loops::spends, crate::proofs::Loops::closes, crate::proofs::Loops::breaks_off))]
 pub fn core_loop<C: Core, I: Inbox<C::Told>, O: Outbox<C::Outs>>(
     core: &mut C,

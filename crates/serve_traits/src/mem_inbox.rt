@@ -7,7 +7,7 @@ use dq_base::Failed;
 use std::collections::VecDeque;
 use std::marker::Model;
 
-/// An inbox over memory. It fails where no event is left.
+/// An inbox over memory. It fails if no event is left.
 #[derive(Drop)]
 pub struct MemInbox<T> {
     events: VecDeque<Event<T>>,
@@ -42,7 +42,7 @@ impl<T> MemInbox<T> {
         self.taken
     }
 
-    /// How often a take failed.
+    /// How many times a take failed.
     pub fn faults(&self) -> u64
         ensures { result ≡ self.now.faults }
     {

@@ -6,7 +6,7 @@ use dq_base::{Calls, Failed, MemSink, MemSource, Sink, Source};
 use std::alloc::Global;
 use std::marker::Model;
 
-/// A link over memory: bytes that come, and what was written. Some of its calls may be told to fail, and a write for which memory
+/// A connection over memory: bytes that come, and what was written. Some of its calls may be made to fail, and a write for which memory
 /// runs out fails too.
 ///
 /// A twin has no bytes to read, as its other end has them, and keeps what is written on it by itself.
@@ -27,7 +27,7 @@ impl Model for MemLink {
 }
 
 impl MemLink {
-    /// A link on which these bytes come, and nothing was written. It takes memory from `alloc` as it is written, and none here.
+    /// A connection on which these bytes come, and nothing was written. It takes memory from `alloc` as it is written, and none here.
     /// `fails` lists the numbers, from 1, of the calls that are to fail.
     pub fn new(alloc: Global, bytes: Vec<u8>, fails: Vec<u64>) -> MemLink
         ensures { result ≡ record { left = bytes.items; written = []; calls = no_calls fails.items } }
@@ -54,7 +54,7 @@ impl MemLink {
         self.sink.bytes()
     }
 
-    /// How often a call failed.
+    /// How many times a call failed.
     pub fn faults(&self) -> u64
         ensures { result ≡ self.now.calls.faults }
     {

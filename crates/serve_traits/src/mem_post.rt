@@ -9,7 +9,7 @@ use dq_base::{Calls, Failed};
 use std::alloc::Global;
 use std::marker::Model;
 
-/// A post over memory, which keeps the events that were put. Some of its calls may be told to fail, and a call for which memory
+/// A post over memory, which keeps the events that were put. Some of its calls may be made to fail, and a call for which memory
 /// runs out fails too.
 #[derive(Drop)]
 pub struct MemPost<T> {
@@ -44,7 +44,7 @@ impl<T> MemPost<T> {
         self.events.as_slice()
     }
 
-    /// How often a call failed.
+    /// How many times a call failed.
     pub fn faults(&self) -> u64
         ensures { result ≡ self.now.calls.faults }
     {

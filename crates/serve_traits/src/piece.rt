@@ -1,4 +1,4 @@
-//! One piece of a link.
+//! One piece of a connection.
 
 ghost use Rattle.std.specs.Prelude.{◌≡◌, ◌≤◌, ◌<◌, length, vec_len, IfOk, MatchResult};
 ghost use Rattle.serve_traits.specs.Pieces.{Hands, Stops, PieceCause};
@@ -10,14 +10,14 @@ use crate::serving::LinkEnd;
 use dq_base::Bytes;
 use std::alloc::{AllocError, Global};
 
-/// Room for so many bytes.
+/// Room for this many bytes.
 pub(crate) fn room_for(alloc: Global, size: usize) -> Result<Vec<u8>, AllocError>
     ensures { IfOk result (λ room. vec_len room ≡ size) }
 {
     vec![in alloc; 0; size]
 }
 
-/// Reads one piece of at most so many bytes and posts it, and answers its length; or why there is none.
+/// Reads one piece of at most this many bytes and posts it, and answers its length; or why there is none.
 pub(crate) fn hand_on<T, L: Link, P: Post<T>>(
     alloc: Global,
     link: &mut L,

@@ -1,4 +1,4 @@
-//! The reading of a link.
+//! The reading of a connection.
 
 ghost use Rattle.std.specs.Prelude.{◌≡◌};
 ghost use Rattle.dq_base.specs.Faults.{Rose};
@@ -13,26 +13,26 @@ use std::alloc::Global;
 /// How many bytes a piece has at most.
 const PIECE_SIZE: u64 = 65_536;
 
-/// Why a link is read no further.
+/// Why a connection is read no further.
 #[derive(Clone, Copy, Debug, PartialEq, Eq)]
 pub enum LinkEnd {
     /// The stream is at its end.
     Ended,
-    /// The link failed, and has counted it.
+    /// The connection failed, and has counted it.
     Failed,
     /// The post failed, and has counted it.
     Closed,
-    /// So many bytes were read.
+    /// This many bytes were read.
     Spent(u64),
     /// There is not enough memory.
     NoMemory,
 }
 
-/// Reads a link, up to so many bytes, and posts what comes as the bytes of this connection, in pieces of up to 64 KiB, for one of
-/// which it holds the room. It may wait for the link and for the post, as long as these do.
+/// Reads a socket, up to this many bytes, and posts what comes as the bytes of this connection, in pieces of up to 64 KiB, for one of
+/// which it holds the room. It may wait for the connection and for the post, as long as these do.
 ///
-/// `Failed` comes only where the link's count of faults rose, `Closed` only where the post's did, `Spent` with the budget, once so
-/// many bytes were read. All that was read was posted then, but where the post is closed or memory runs out: the last piece is
+/// `Failed` comes only if the connection's count of faults rose, `Closed` only if the post's did, `Spent` with the budget, once so
+/// many bytes were read. All that was read was posted then, except if the post is closed or memory runs out: the last piece is
 /// lost.
 #[tactic(auto, using(crate::proofs::Handing::spends, crate::proofs::Handing::idle))]
 pub fn serve_link<T, L: Link, P: Post<T>>(

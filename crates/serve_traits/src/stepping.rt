@@ -22,7 +22,7 @@ pub trait Core {
     ghost use Rattle.serve_traits.specs.declared.event.Event.{Event};
     ghost use Rattle.serve_traits.specs.Stepping.{StepCause};
 
-    /// What the readers beside it tell.
+    /// What the readers report that work for it.
     type Told: Drop;
 
     /// What a step says.
@@ -37,7 +37,7 @@ pub trait Core {
     /// What a step for an event is that failed. It says nothing.
     ghost breaks: { Self → Event Self.Told → Self → Type 0 };
 
-    /// How often its disk failed.
+    /// How many times its disk failed.
     ghost faults: { Self → ℕ };
 
     /// Makes a step. After an `Err` no other one may be made.
@@ -49,7 +49,7 @@ pub trait Core {
         ensures cause { StepCause (faults self.old) (faults self.new) result };
 
     /// Does what may wait until what the last step says was put. It changes nothing else: each step that led to the core before leads
-    /// to the core behind it.
+    /// to the core after it.
     fn rest(&mut self)
         requires { stands self.old }
         ensures stands { stands self.new }

@@ -79,7 +79,7 @@ fn opens<R: Wait + Copy + Drop>(
     Some(engine.openings())
 }
 
-/// The same in a second life.
+/// How many openings a second life of the node has.
 fn opens_again<R: Wait + Copy + Drop>(rt: R, alloc: Global, happens: &[What]) -> Option<u64> {
     let mut disk = MemDisk::new(alloc);
     opens(rt, alloc, &mut disk, BEFORE)?;

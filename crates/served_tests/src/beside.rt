@@ -1,4 +1,4 @@
-//! A query that is answered beside a node whose write is being synced.
+//! A query that is answered concurrently with a node whose write is being synced.
 
 ghost use Rattle.std.specs.Prelude.{◌≡◌, [], None};
 
@@ -34,7 +34,7 @@ const SETTING: Setting = Setting {
     most: u64::MAX,
 };
 
-/// What happens, and what is heard: the query of the first client is answered behind the write of the second one, but without what that
+/// What happens, and what is heard: the query of the first client is answered after the write of the second one, but without what that
 /// wrote, since its job went out before.
 const HAPPENS: &[What] = &[
     What::Timeout,

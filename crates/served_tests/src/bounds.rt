@@ -19,7 +19,7 @@ const SETTING: Setting = Setting {
     most: 65_536,
 };
 
-/// What happens, and what is heard: `x` is a link that is to be shut, `s` a statement that is prepared.
+/// What happens, and what is heard: `x` is a connection that is to be shut, `s` a statement that is prepared.
 const ROWS: &[(&[What], &[u8])] = &[
     // Of two that would have it hold too much each is shut whose bytes come, and a client that says little is served. Once one of them is
     // gone, bytes of the other may come again.
@@ -38,7 +38,7 @@ const ROWS: &[(&[What], &[u8])] = &[
         ],
         b"2x1x3d",
     ),
-    // The text of a prepared statement is kept without the space behind it, so these count for little.
+    // The text of a prepared statement is kept without the space after it, so these count for little.
     (
         &[
             Timeout,

@@ -1,4 +1,4 @@
-//! Where it goes what a node says in a life.
+//! What takes the output of a node in a life.
 
 ghost use Rattle.std.specs.Prelude.{None};
 
@@ -10,8 +10,8 @@ use sql_engine::Engine;
 use std::alloc::Global;
 use std::sync::Wait;
 
-/// Notes what is said, two letters for each thing: a connection's digit and what it hears, or `x` where its link is to be shut; and has the queries that are lent answered at
-/// once, by an engine of its own, so that what is told of them is the last event so far.
+/// Notes what is said, two letters for each thing: a connection's digit and what it hears, or `x` where it is to be shut; has lent queries answered at
+/// once, by its own engine, so that what is reported of them is the last event so far.
 #[derive(Drop)]
 pub(crate) struct Desk<R: Wait + Copy + Drop, E: Engine + Drop> {
     pub(crate) alloc: Global,

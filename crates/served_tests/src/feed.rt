@@ -1,4 +1,4 @@
-//! The events of a life, to which others are added while it goes on.
+//! The events of a life, to which others are added while it continues.
 
 ghost use Rattle.std.specs.Prelude.{None};
 
@@ -9,7 +9,7 @@ use std::alloc::{AllocError, Global};
 use std::collections::VecDeque;
 use std::sync::{Arc, Mutex, Wait};
 
-/// One end of a queue of events. A take fails where none is left.
+/// One end of a queue of events. A take fails if none is left.
 #[derive(Drop)]
 pub(crate) struct Feed<R: Wait + Copy + Drop> {
     rt: R,

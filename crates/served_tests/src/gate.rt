@@ -9,13 +9,13 @@ use std::time::{Clock, Duration};
 /// A query is lent.
 pub(crate) const LENT: u64 = 1;
 
-/// A sync behind that is held.
+/// A sync after that is held.
 pub(crate) const HELD: u64 = 2;
 
 /// The query is answered.
 pub(crate) const ANSWERED: u64 = 3;
 
-/// How often a stage is looked for at most, a millisecond apart.
+/// How many times a stage is looked for at most, a millisecond apart.
 const TURNS: u32 = 20_000;
 
 /// One end of the stage that was reached.
@@ -56,7 +56,7 @@ impl Gate {
             .is_ok()
     }
 
-    /// Waits for a stage, so many turns at most.
+    /// Waits for a stage, this many turns at most.
     pub(crate) fn wait<R: Clock>(&self, rt: &R, stage: u64) {
         for _ in 0..TURNS {
             if self.stage() >= stage {

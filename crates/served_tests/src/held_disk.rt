@@ -7,7 +7,7 @@ use disk_model::{Disk, DiskFault, MemDisk};
 use dq_base::{Items, Name};
 use std::time::Clock;
 
-/// A disk that holds the first sync behind the moment at which a query was lent, until that is answered. It tells nothing.
+/// A disk that holds the first sync after the moment at which a query was lent, until that is answered. It says nothing.
 #[derive(Drop)]
 pub(crate) struct HeldDisk<R: Clock + Copy + Drop> {
     pub(crate) rt: R,

@@ -1,5 +1,5 @@
 //! The tests of a node as the core of its loop, over objects in memory: what it says to clients and closes, and the queries that it
-//! lends. They call the crates from outside. A crate with tests of its own is proved once more with them, so these stand
+//! lends. They call the crates from outside. A crate with its own tests is proved once more with them, so these stand
 //! here.
 #![tactic(auto)]
 

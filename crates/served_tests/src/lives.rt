@@ -90,7 +90,7 @@ pub(crate) fn fed<R: Wait + Copy + Drop>(
     Some(feed)
 }
 
-/// Has the node of a setting, over a disk of its own, make a step for each event of an inbox.
+/// Has the node of a setting, over its own disk, make a step for each event of an inbox.
 fn live<E: Engine, I: Inbox<Read>, O: Outbox<StepReport>>(
     alloc: Global,
     setting: &Setting,

@@ -24,11 +24,11 @@ pub(crate) enum Said {
     Connect,
     /// A message of Raft from the node of this number to the first one.
     Raft(u64),
-    /// The version, and so many bytes of a message that has more.
+    /// The version, and this many bytes of a message that has more.
     Front(usize),
-    /// So many bytes more of a message.
+    /// This many bytes more of a message.
     More(usize),
-    /// That a statement is prepared whose text has so many bytes.
+    /// That a statement is prepared whose text has this many bytes.
     Prepare(usize),
 }
 
@@ -45,7 +45,7 @@ fn statement(alloc: Global, kind: u8, text: &str) -> Option<Vec<u8>> {
     Some(bytes)
 }
 
-/// The version, the header of a message of 16 MiB, and so many bytes of it.
+/// The version, the header of a message of 16 MiB, and this many bytes of it.
 fn front(alloc: Global, count: usize) -> Option<Vec<u8>> {
     let mut bytes = Vec::from_slice(alloc, b"\x01\0\0\0\0\0\0\0\0\0\x20\0\x08\0\0\0").ok()?;
     bytes
@@ -54,12 +54,12 @@ fn front(alloc: Global, count: usize) -> Option<Vec<u8>> {
     Some(bytes)
 }
 
-/// So many spaces.
+/// This many spaces.
 fn spaces(alloc: Global, count: usize) -> Option<Vec<u8>> {
     vec![in alloc; b' '; count].ok()
 }
 
-/// A PREPARE of a statement whose text has so many bytes, six at least.
+/// A PREPARE of a statement whose text has this many bytes, six at least.
 fn preparing(alloc: Global, count: usize) -> Option<Vec<u8>> {
     let mut text = String::from_str(alloc, "SELECT 1").ok()?;
     for _ in 8..count {

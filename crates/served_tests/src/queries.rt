@@ -24,7 +24,7 @@ const TEN: &str = "INSERT INTO t VALUES (0), (1), (2), (3), (4), (5), (6), (7), 
 
 const JOIN: &str = "SELECT count(*) FROM t a, t b, t c, t d, t e";
 
-/// What happens behind an election, and what is heard: `q` is a query that is lent, a digit the code of a refusal.
+/// What happens after an election, and what is heard: `q` is a query that is lent, a digit the code of a refusal.
 const ROWS: &[(&[What], &[u8])] = &[
     // A query that changes pages goes back to the node, and is answered once.
     (

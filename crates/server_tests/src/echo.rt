@@ -1,4 +1,4 @@
-//! A core that answers each piece of bytes by itself, and fails where it is told to; and a reader.
+//! A core that answers each piece of bytes by itself, and fails if it is told to; and a reader.
 
 ghost use Rattle.std.specs.Prelude.{⊤};
 ghost use Rattle.serve_traits.specs.Stepping.{StepCause};
@@ -10,7 +10,7 @@ use serve_traits::{Core, Event, StepFault};
 /// What it says: the bytes that came, with their connection.
 #[derive(Debug, Drop)]
 pub(crate) struct Said {
-    /// The connection and the bytes, where bytes came.
+    /// The connection and the bytes, if bytes came.
     pub(crate) reply: Option<(u64, Bytes)>,
 }
 
@@ -21,7 +21,7 @@ pub(crate) struct Echo {
     pub(crate) left: u64,
     /// What it fails with then.
     pub(crate) fault: StepFault,
-    /// How often its disk failed.
+    /// How many times its disk failed.
     pub(crate) faults: u64,
 }
 

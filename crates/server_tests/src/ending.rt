@@ -1,4 +1,4 @@
-//! Posts and links whose inbox is gone.
+//! Posts and connections whose inbox is gone.
 
 use crate::addresses::free_address;
 use crate::served::{ask, begin};
@@ -10,7 +10,7 @@ use std::sync::Wait;
 use std::test::*;
 use std::time::Clock;
 
-/// Whether a post that one event may wait of takes one, and takes another one where the inbox is gone, which took none.
+/// Whether a post that one event may wait of takes one, and takes another one if the inbox is gone, which took none.
 fn posts<R: Wait + Clock + Copy + Drop>(rt: R, alloc: Global) -> Option<[bool; 2]> {
     let (inbox, post) = event_channel(rt, alloc).ok()?;
     let inbox: ChannelInbox<R, u8> = inbox;
@@ -27,7 +27,7 @@ fn a_post_waits_for_no_inbox_that_is_gone(rt: HostRuntime) -> Result<(), Fail> {
     Ok(())
 }
 
-/// The queues of a host, and a client's link.
+/// The queues of a host, and a client's connection.
 type Met<H> = (Queues<<H as Host<u8>>::Rt, LinkOf<H>, u8>, LinkOf<H>);
 
 type LinkOf<H> = <<H as Host<u8>>::Door as Door>::Link;
@@ -41,13 +41,13 @@ fn met<H: Host<u8>>(host: &mut H, alloc: Global, address: &str) -> Option<Met<H>
     Some((queues, client))
 }
 
-/// Whether a link is at its end.
+/// Whether a connection is at its end.
 fn is_over<L: Link>(mut link: L) -> bool {
     let mut byte = [0; 1];
     !matches!(link.read(&mut byte), Ok(1))
 }
 
-/// Whether a client's link ends where the queues to its writer go.
+/// Whether a client's connection ends where the queues to its writer go.
 fn ends<H: Host<u8>>(host: &mut H, alloc: Global, address: &str) -> Option<bool> {
     let (queues, client) = met(host, alloc, address)?;
     drop(queues);

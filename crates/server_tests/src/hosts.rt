@@ -1,4 +1,4 @@
-//! Hosts over memory, and a keeper at the listener of one.
+//! Hosts over memory, and a connection reader at the listener of one.
 
 use crate::echo::Next;
 use dq_base::Failed;
@@ -33,7 +33,7 @@ fn calls<H: Host<u8>>(host: &mut H) -> [bool; 7] {
     ]
 }
 
-/// A host with a link to accept and one to dial, of which these calls fail.
+/// A host with a connection to accept and one to dial, of which these calls fail.
 fn mem_host<R: Wait + Copy + Drop>(rt: R, alloc: Global, fails: &[u64]) -> Option<MemHost<R, u8>> {
     let accepts = vec![in alloc; link(alloc, b"one")?].ok()?;
     let dials = vec![in alloc; link(alloc, b"two")?].ok()?;
@@ -71,7 +71,7 @@ fn a_host_over_memory_fails_where_it_is_told_to(rt: HostRuntime) -> Result<(), F
     Ok(())
 }
 
-/// The letter of an event.
+/// The peer message of an event.
 fn letter<T>(event: &Event<T>) -> u8 {
     match event {
         Event::Timeout => b't',
@@ -85,7 +85,7 @@ fn letter<T>(event: &Event<T>) -> u8 {
     }
 }
 
-/// The letters of four takes; `!` for one that fails.
+/// The peer messages of four takes; `!` for one that fails.
 fn taken<H: Host<u8>>(host: &mut H) -> [u8; 4] {
     let mut letters = [b'!'; 4];
     for letter_of in letters.iter_mut() {
@@ -115,8 +115,8 @@ fn a_list_host_gives_its_events(rt: HostRuntime) -> Result<(), Fail> {
     Ok(())
 }
 
-/// Whether a keeper with two links, numbered from 5, posts what comes on each, with its number; on the second one nothing comes any more
-/// where its connection is cut.
+/// Whether a connection reader with two sockets, numbered from 5, posts what comes on each, with its number; on the second one nothing comes any more
+/// if its connection is closed.
 fn keeps<H: Host<u8>>(host: &mut H, alloc: Global, cuts: bool) -> Option<bool> {
     let (writer, _writes) = write_queue(alloc).ok()?;
     if cuts {
@@ -166,7 +166,7 @@ fn is_silent<H: Host<u8>>(host: &mut H, conn: u64) -> Option<bool> {
     Some([begun, over] == *b"ch")
 }
 
-/// A host at whose listener two links come.
+/// A host at whose listener two connections come.
 fn door_host<R: Wait + Copy + Drop>(rt: R, alloc: Global) -> Option<MemHost<R, u8>> {
     let mut accepts = Vec::new(alloc);
     accepts.push(link(alloc, b"one")?).ok()?;

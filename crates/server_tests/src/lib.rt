@@ -1,5 +1,5 @@
 //! The tests of what serves a node, over memory, over threads and over sockets. They call the crates from outside. A crate with tests of
-//! its own is proved once more with them, so these stand here.
+//! its own is proved once more with them, so these are here.
 #![tactic(auto)]
 
 #[cfg(test)]

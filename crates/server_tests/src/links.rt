@@ -3,7 +3,7 @@ use serve_traits::{Event, LinkEnd, MemLink, MemPost, serve_link};
 use std::alloc::Global;
 use std::test::*;
 
-/// What comes of a link with so many bytes, of which so many are read at most, where the calls of these numbers fail: how it ends, and
+/// What comes of a connection with this many bytes, of which this many are read at most, if the calls of these numbers fail: how it ends, and
 /// how many events and bytes were posted.
 fn serve(
     alloc: Global,
@@ -37,7 +37,7 @@ fn size_of(event: &Event<u8>) -> usize {
     }
 }
 
-/// The bytes of a link, the budget, the calls that fail at the link and at the post; the end, the events and the bytes posted.
+/// The bytes of a connection, the budget, the calls that fail at the connection and at the post; the end, the events and the bytes posted.
 const ROWS: &[(usize, u64, &[u64], &[u64], LinkEnd, usize, usize)] = &[
     (0, 9, &[], &[], LinkEnd::Ended, 0, 0),
     (10, 9, &[], &[], LinkEnd::Spent(9), 1, 9),

@@ -34,7 +34,7 @@ fn events(alloc: Global) -> Option<Vec<Event<u8>>> {
     Some(events)
 }
 
-/// What comes of a loop with this budget, whose core makes so many steps and then fails by this fault: its end, the events taken, what was
+/// What comes of a loop with this budget, whose core makes this many steps and then fails by this fault: its end, the events taken, what was
 /// put, and the bytes in it.
 fn run(
     alloc: Global,

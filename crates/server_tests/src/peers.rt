@@ -9,7 +9,7 @@ use std::sync::Wait;
 use std::test::*;
 use wire_words::WireText;
 
-/// Where the low byte of the term stands in a message's bytes.
+/// Where the low byte of the term is in a message's bytes.
 const TERM_AT: usize = 16;
 
 /// A message of node 1 to node 2 in this term: an Append, or else a TimeoutNow.
@@ -31,7 +31,7 @@ fn message(alloc: Global, term: u64, is_bulk: bool) -> RaftMessage {
     }
 }
 
-/// The terms of Appends and of other messages that are put, the dials and the writes over the first link that fail; and a byte for each
+/// The terms of Appends and of other messages that are put, the dials and the writes over the first connection that fail; and a byte for each
 /// deed: `>` for a dial, the greeting's `g`, the term of a message that is written, `!` for a write that fails.
 const ROWS: &[(&[(u8, bool)], &[u64], &[u64], &[u8])] = &[
     (&[], &[], &[], b""),
@@ -95,7 +95,7 @@ fn sends<R: Wait + Copy + Drop>(
     Some(deeds.are(wanted))
 }
 
-/// How many of so many messages that aren't Appends wait.
+/// How many of this many messages that aren't Appends wait.
 fn waiting<R: Wait>(rt: &R, alloc: Global, count: u64) -> Option<u64> {
     let queue = PeerQueue::new(alloc).ok()?;
     for term in 0..count {

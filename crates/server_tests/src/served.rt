@@ -1,4 +1,4 @@
-//! A core that is served over a socket, with the threads of its links.
+//! A core that is served over a socket, with the threads of its connections.
 ghost use Rattle.std.specs.Prelude.{None};
 
 use crate::addresses::free_address;
@@ -12,7 +12,7 @@ use std::alloc::Global;
 use std::sync::Wait;
 use std::test::*;
 
-/// The version and the header of a message of one word: the first 16 bytes of a link.
+/// The version and the header of a message of one word: the first 16 bytes of a connection.
 const FRONT: &[u8; 16] = b"\x01\0\0\0\0\0\0\0\x01\0\0\0\x03\0\0\0";
 
 /// An outbox over queues.
@@ -59,7 +59,7 @@ pub(crate) fn begin<H: Host<u8>>(
     })
 }
 
-/// Whether these are the next 24 bytes of a link.
+/// Whether these are the next 24 bytes of a connection.
 fn hears<L: Link>(mut link: L, wanted: &[u8]) -> Option<bool> {
     let mut held = [0; 24];
     let mut count = 0;
@@ -71,7 +71,7 @@ fn hears<L: Link>(mut link: L, wanted: &[u8]) -> Option<bool> {
     Some(held.as_slice() == wanted)
 }
 
-/// A client's link, on which it said 24 bytes.
+/// A client's connection, on which it said 24 bytes.
 pub(crate) fn ask<H: Host<u8>>(host: &mut H, address: &str) -> Option<<H::Door as Door>::Link> {
     let mut client = host.dial(address).ok()?;
     client.write_all(FRONT).ok()?;
@@ -79,7 +79,7 @@ pub(crate) fn ask<H: Host<u8>>(host: &mut H, address: &str) -> Option<<H::Door a
     Some(client)
 }
 
-/// A client's 24 bytes, which come as two events behind the connect, and go back as they came.
+/// A client's 24 bytes, which come as two events after the connect, and go back as they came.
 fn serve<H: Host<u8>>(host: &mut H, alloc: Global, address: &str) -> Option<(LoopEnd, bool)> {
     let door = host.listen(address).ok()?;
     let queues = begin(host, alloc, door)?;

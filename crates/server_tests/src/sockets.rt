@@ -4,10 +4,10 @@ use serve_threads::Host;
 use serve_traits::{Door, Link};
 use std::test::*;
 
-/// The version and the header of a message of one word: the first 16 bytes of a link.
+/// The version and the header of a message of one word: the first 16 bytes of a connection.
 const FRONT: &[u8; 16] = b"\x01\0\0\0\0\0\0\0\x01\0\0\0\x03\0\0\0";
 
-/// What comes of calls over two ends of a link: the bytes that the far end reads first, those that come behind them, those that its twin
+/// What comes of calls over two ends of a connection: the bytes that the far end reads first, those that come after them, those that its twin
 /// answers, and whether both ends find the end once the twin is shut, though the near end said more.
 fn talk<L: Link>(mut near: L, mut far: L) -> Option<([u8; 16], [u8; 5], [u8; 4], bool)> {
     let mut front = [0; 16];
@@ -47,7 +47,7 @@ fn a_host_talks_over_sockets(rt: HostRuntime) -> Result<(), Fail> {
 const MESSAGES: &[u8; 56] =
     b"\x01\0\0\0\0\0\0\0\x01\0\0\0\x03\0\0\0one word\x02\0\0\0\x03\0\0\0and two of them!\0\0\0\0\x03\0\0\0";
 
-/// How many bytes each read at a host's listener gives, where they all came in one piece and there is room for all of
+/// How many bytes each read at a host's listener gives, if they all came in one piece and there is room for all of
 /// them.
 fn read_of<H: Host<u8>>(host: &mut H, address: &str) -> Option<[usize; 4]> {
     let mut door = host.listen(address).ok()?;

@@ -1,4 +1,4 @@
-//! Links and listeners that note what is done to them, a byte for each deed.
+//! Connections and listeners that note what is done to them, a byte for each deed.
 
 ghost use Rattle.std.specs.Prelude.{◌≡◌, None};
 
@@ -8,13 +8,13 @@ use std::alloc::{AllocError, Global};
 use std::sync::Arc;
 use std::sync::atomic::{AtomicU64, Ordering};
 
-/// A link was dialled.
+/// A connection was dialled.
 const DIALLED: u8 = b'>';
 
 /// A write failed.
 const UNWRITTEN: u8 = b'!';
 
-/// A link was shut.
+/// A connection was shut.
 const SHUT: u8 = b'.';
 
 /// The last eight deeds, the last one in the lowest byte. One thread at a time adds to them.
@@ -54,7 +54,7 @@ impl Deeds {
     }
 }
 
-/// A link that notes for each write one byte of it. Its end comes at once.
+/// A connection that notes for each write one byte of it. Its end comes at once.
 #[derive(Drop)]
 pub(crate) struct Tap {
     deeds: Deeds,
@@ -63,7 +63,7 @@ pub(crate) struct Tap {
 }
 
 impl Tap {
-    /// A link that notes the byte at this place of each write. `fails` lists the numbers, from 1, of the writes that are to fail.
+    /// A connection that notes the byte at this place of each write. `fails` lists the numbers, from 1, of the writes that are to fail.
     pub(crate) fn new(deeds: Deeds, at: usize, fails: Vec<u64>) -> Tap {
         Tap {
             deeds,
@@ -104,7 +104,7 @@ impl Link for Tap {
     }
 }
 
-/// A listener that dials links which note the byte at one place of each write. The first of them fails at some
+/// A listener that dials connections which note the byte at one place of each write. The first of them fails at some
 /// writes.
 #[derive(Drop)]
 pub(crate) struct TapDoor {

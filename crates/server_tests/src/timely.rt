@@ -1,4 +1,4 @@
-//! The time that a link has.
+//! The time that a connection has.
 
 use crate::addresses::free_address;
 use serve_sockets::TcpHost;
@@ -7,13 +7,13 @@ use serve_traits::{Door, Link};
 use std::alloc::Global;
 use std::test::*;
 
-/// The version and the header of a message of one word: the first 16 bytes of a link.
+/// The version and the header of a message of one word: the first 16 bytes of a connection.
 const FRONT: &[u8; 16] = b"\x01\0\0\0\0\0\0\0\x01\0\0\0\x03\0\0\0";
 
 /// More bytes than two sockets hold: 64 MiB.
 const MANY: usize = 67_108_864;
 
-/// Whether a listener gives a link that says nothing, for which it waits five seconds; and whether a link takes many bytes that nobody
+/// Whether a listener gives a connection that says nothing, for which it waits five seconds; and whether a connection takes many bytes that nobody
 /// reads, for which it has ten.
 fn hurry<H: Host<u8>>(host: &mut H, alloc: Global, address: &str) -> Option<(bool, bool)> {
     let mut door = host.listen(address).ok()?;

@@ -13,13 +13,13 @@ use std::alloc::Global;
 use std::test::*;
 use wire_words::WireText;
 
-/// What a link begins with here.
+/// What a connection begins with here.
 const GREETING: &[u8; 16] = b"\x01\0\0\0\0\0\0\0\x02\0\0\0\x0b\0\0\0";
 
 /// The bytes of node 1's TimeoutNow in term 3: a header of two words and type 6, the sender, the term.
 const MESSAGE: &[u8; 24] = b"\x02\0\0\0\x06\x02\0\0\x01\0\0\0\0\0\0\0\x03\0\0\0\0\0\0\0";
 
-/// Whether a reader's thread tells what comes of a query that is lent.
+/// Whether a reader's thread says what comes of a query that is lent.
 fn reads<H: Host<u8>>(host: &mut H, alloc: Global) -> Option<bool> {
     let rt = host.rt();
     let (jobs, lent) = unbounded(alloc).ok()?;
@@ -54,7 +54,7 @@ fn beats<H: Host<u8>>(host: &mut H, alloc: Global) -> Option<usize> {
     None
 }
 
-/// The first 40 bytes of a link.
+/// The first 40 bytes of a connection.
 fn heard_of<L: Link>(mut link: L) -> Option<[u8; 40]> {
     let mut held = [0; 40];
     let mut count = 0;

@@ -26,7 +26,7 @@ const MEBIBYTE: usize = 1_048_576;
 /// The largest message that may wait: with the 256 bytes that it counts for besides it is 31 MiB.
 const LARGEST: usize = 31 * MEBIBYTE - 256;
 
-/// What is told; and a byte for each deed: that of a write, `.` for a link that is shut, `!` for a write that fails, which the third is.
+/// What is reported; and a byte for each deed: that of a write, `.` for a connection that is shut, `!` for a write that fails, which the third is.
 const ROWS: &[(&[Told], &[u8])] = &[
     (&[Take(1), Send(1, b'a', 8), Send(1, b'b', 8)], b"ab"),
     (
@@ -154,7 +154,7 @@ const AGAIN: &[(usize, u64, usize)] = &[(0, 145, 4 * MEBIBYTE)];
 /// Two ends for each place.
 type Place = (ClientQueue<Tap>, ClientWrites<Tap>);
 
-/// A letter for what comes of a message: `w` where it waits, else that of the cause by which its connection is cut.
+/// A peer message for what comes of a message: `w` where it waits, else that of the cause by which its connection is closed.
 fn letter<R: Wait>(rt: &R, alloc: Global, place: &Place, conn: u64, size: usize) -> Option<u8> {
     let bytes = vec![in alloc; 0; size].ok()?;
     match place.0.send(rt, conn, Items::new(bytes)) {
@@ -165,7 +165,7 @@ fn letter<R: Wait>(rt: &R, alloc: Global, place: &Place, conn: u64, size: usize)
     }
 }
 
-/// Whether these are the letters of messages, one after the other.
+/// Whether these are the peer messages of messages, one after the other.
 fn comes<R: Wait>(
     rt: &R,
     alloc: Global,
@@ -181,7 +181,7 @@ fn comes<R: Wait>(
     Some(is_so)
 }
 
-/// So many places of one room.
+/// This many places of one room.
 fn places(alloc: Global, count: u64) -> Option<Vec<Place>> {
     let common = CommonRoom::new(alloc).ok()?;
     let mut places = Vec::new(alloc);

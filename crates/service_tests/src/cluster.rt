@@ -40,7 +40,7 @@ const DB: u8 = 4;
 
 const RESULT: u8 = 6;
 
-/// How often the nodes are asked, and how long a client waits in between, in milliseconds.
+/// How many times the nodes are asked, and how long a client waits in between, in milliseconds.
 const TRIES: u32 = 200;
 
 const PAUSE: u64 = 100;
@@ -55,7 +55,7 @@ fn response<L: Link>(alloc: Global, link: &mut L) -> Option<u8> {
     Some(*kind)
 }
 
-/// The next bytes of a link, so many.
+/// The next bytes of a connection, this many.
 fn read<L: Link>(alloc: Global, link: &mut L, size: usize) -> Option<Vec<u8>> {
     let mut bytes = Vec::new(alloc);
     let mut byte = [0; 1];
@@ -79,7 +79,7 @@ fn writes<H: Host<Read>>(host: &mut H, alloc: Global, address: &str) -> Option<b
     Some(response(alloc, &mut link)? == RESULT)
 }
 
-/// Uses the events of the node at an address up, by one request after the other, until its link ends.
+/// Uses the events of the node at an address up, by one request after the other, until its connection ends.
 fn use_up<H: Host<Read>>(host: &mut H, alloc: Global, address: &str) -> Option<()> {
     let mut link = host.dial(address).ok()?;
     link.write_all(VERSION).ok()?;
@@ -109,7 +109,7 @@ fn ask<H: Host<Read>>(host: &mut H, alloc: Global, addresses: &[&str]) -> bool {
     is_done
 }
 
-/// Serves one of two nodes until it took so many events.
+/// Serves one of two nodes until it took this many events.
 fn node<R: Threads + Wait + Clock + Copy + Drop + Send + 'static>(
     rt: R,
     sockets: HostRuntime,

@@ -1,4 +1,4 @@
-//! How a node ends that is served over memory, and what its files stand for then.
+//! How a node ends that is served over memory, and what its files represent then.
 
 use crate::silent::Silent;
 use crate::words::named;
@@ -27,7 +27,7 @@ enum Folder {
     Empty,
     /// It has none, and its first call fails.
     Failing,
-    /// It has two segments, of which the first is cut in its batch.
+    /// It has two segments, of which the first is truncated in its batch.
     Faulty,
     /// Its metadata has the last version that there is, so that none can be written.
     Last,
@@ -43,10 +43,10 @@ const NOTHING: &str = "term 0 vote 0\nsnapshot none\nlog none\n";
 
 const ELECTED: &str = "term 1 vote 1\nsnapshot none\nlog 1 1\n";
 
-/// What the last metadata stands for.
+/// What the last metadata represents.
 const VOTED: &str = "term 1 vote 1\nsnapshot none\nlog none\n";
 
-/// A folder, how many timeouts the host brings, how serving ends, and the first lines of what the files stand for.
+/// A folder, how many timeouts the host brings, how serving ends, and the first lines of what the files represent.
 const ROWS: &[(Folder, u64, ServeEnd, &str)] = &[
     (Folder::Empty, 1, ServeEnd::Spent, ELECTED),
     (Folder::Empty, 2, ServeEnd::Spent, ELECTED),
@@ -56,7 +56,7 @@ const ROWS: &[(Folder, u64, ServeEnd, &str)] = &[
     (Folder::Last, 1, ServeEnd::NoMemory, VOTED),
 ];
 
-/// Adds the entry of a new leader of term 1 in a segment of its own.
+/// Adds the entry of a new leader of term 1 in its own segment.
 fn add(alloc: Global, disk: &mut MemDisk, index: u64) -> Option<()> {
     let (mut store, _kept) = Store::load(alloc, disk).ok()?;
     store.set_meta(disk, 1, 1).ok()?;
@@ -84,7 +84,7 @@ fn disk_of(alloc: Global, folder: Folder) -> Option<MemDisk> {
     Some(disk)
 }
 
-/// A host that brings so many timeouts.
+/// A host that brings this many timeouts.
 fn host_of<R: Wait + Copy + Drop>(
     rt: R,
     alloc: Global,
@@ -117,7 +117,7 @@ fn stands_for(alloc: Global, disk: &mut MemDisk, wanted: &str) -> bool {
     is_read == !wanted.is_empty() && sink.bytes().starts_with(wanted.as_bytes())
 }
 
-/// Whether serving ends so over a folder, whose files then stand for this.
+/// Whether serving ends so over a folder, whose files then represent this.
 fn ends_so<R: Threads + Wait + Clock + Copy + Drop + Send + 'static>(
     rt: R,
     alloc: Global,

@@ -1,5 +1,5 @@
 //! The tests of a node that is served, over memory and over this machine's sockets. They call the crates from outside. A crate with tests
-//! of its own is proved once more with them, so these stand here.
+//! of its own is proved once more with them, so these are here.
 #![tactic(auto)]
 
 #[cfg(test)]

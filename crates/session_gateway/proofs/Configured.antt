@@ -153,7 +153,7 @@ module _ (id role : ℕ) where
   turned_length [] = refl
   turned_length (s ∷ ss) = ap suc (turned_length ss)
 
-  -- behind the server of the id none has it
+  -- after the server of the id none has it
   none_behind : (last : ℕ) (ss : List Server) → id ≤ last → Ascend last ss → with_role id role ss ≡ ss
   none_behind last [] le a = refl
   none_behind last (s ∷ ss) le a =

@@ -33,7 +33,7 @@ sessions_counted held databases count is = is ∙ sym (length-map held.sessions 
 
 -- ---- the session of a connection
 
--- a session that stands at a place is that of its connection
+-- a session that is at a place is that of its connection
 pub seen_at : (held : Held) (databases : List Database) (conn place : ℕ) (d : Session) → IsTable held.sessions → StandsAt conn held.sessions place → (seen held databases).session conn ≡ session_of databases (get_or held.sessions place d)
 unfolding seen table_of
 seen_at held databases conn place d table at =

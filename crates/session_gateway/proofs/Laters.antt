@@ -80,7 +80,7 @@ put_back g conn later is = (λ i. record { conns = g.conns; session = λ other. 
     here other true e = ap (λ (s : Session). with_later s later) own ∙ put_there (g.session conn) later is ∙ ap g.session (sym (eqb-true other conn e))
     here other false e = refl
 
--- where there is none, nothing is set aside
+-- without one, nothing is set aside
 pub none_aside : (g : Gateway) (conn : ℕ) → (g.session conn).later ≡ None → without_later g conn ≡ g
 unfolding with_session
 none_aside g conn is = (λ i. record { conns = g.conns; session = λ other. here other (other == conn) refl i; weight = g.weight })
@@ -107,7 +107,7 @@ pub given_back : (g run after : Gateway) (conn : ℕ) (later : Later) → Some l
 given_back g run after conn later is same there back =
     back (ap (λ (h : Gateway). (h.session conn).there) same ∙ still_there g conn ∙ there) ∙ ap (λ (h : Gateway). with_session h conn (with_later (h.session conn) (Some later))) same ∙ put_back g conn (Some later) (sym is)
 
--- another session of the same connection stands where it stood
+-- another session of the same connection is where it stood
 pub set_stands : (ss : List CodeSession) (place conn : ℕ) (to : CodeSession) → StandsAt conn ss place → to.conn ≡ conn → StandsAt conn (set ss place to) place
 set_stands ss place conn to at its = record {
   within = subst (λ (n : ℕ). place < n) (sym (length-set ss place to)) at.within;
@@ -124,7 +124,7 @@ pub nothing_nowhere : (databases : List Database) (ss : List CodeSession) (weigh
 unfolding table_of
 nothing_nowhere databases ss weight conn none = ap (λ (s : Session). s.later) (none_there databases ss conn none)
 
--- one that stands at a place is there
+-- one that is at a place is there
 pub is_there : (databases : List Database) (ss : List CodeSession) (weight conn place : ℕ) → AreApart ss → StandsAt conn ss place → ((table_of databases ss weight).session conn).there ≡ true
 is_there databases ss weight conn place apart at = with_some ss place at.within (λ d. ap (λ (s : Session). s.there) (sym (here_at databases ss weight conn place d apart at)))
 
@@ -144,7 +144,7 @@ module _ (databases : List Database) (items known : List CodeSession) (conn plac
   pub opened_there : (weight : ℕ) → has_database ((table_of databases items weight).session conn) ≡ true → has_database (session_of databases found) ≡ true
   opened_there weight opened = ap has_database (there weight) ∙ opened
 
-  -- what it comes to there is what it comes to at the connection's session
+  -- its outcome there is that at the connection's session
   pub came_later : (m : Meaning) (kind : EngineKind) (v : View) (weight : ℕ) (statement : Statement) (before now : Option Told) (decision : Decision)
       → ((table_of databases known weight).session found.conn ≡ session_of databases found → MatchesOutcomeByAnswers (call_of m kind before now) v (machine_of databases) (session_of databases found) (handed_later v (machine_of databases) (table_of databases known weight) found.conn statement) (on_later v (machine_of databases) (table_of databases known weight) found.conn statement) decision)
       → MatchesOutcomeByAnswers (call_of m kind before now) v (machine_of databases) ((table_of databases items weight).session conn) (handed_later v (machine_of databases) (table_of databases items weight) conn statement) (on_later v (machine_of databases) (table_of databases items weight) conn statement) decision
@@ -159,7 +159,7 @@ module _ (databases : List Database) (items known : List CodeSession) (conn plac
   can_later v weight turned decision d comes =
       can_carry v (machine_of databases) databases (get_or items place d) turned decision (subst (λ (s : Session). MatchesOutcome v (machine_of databases) s turned decision) (sym (here_at databases items weight conn place d apart at)) comes)
 
-  -- no number stands for two images then
+  -- no number represents two images then
   pub ran_agree : (engine : List Known) (next : ℕ) (decision : Decision) (after : List CodeSession) (new : List Database) → Agree engine (works_in (Ok decision) found.transaction ++ works_of known) next (map numbered databases)
       → ((own : CodeSession) → AgreesOn (work_in decision (get_or items place own).transaction) items databases after new) → Agree engine (works_of after) next (map numbered new)
   ran_agree engine next decision after new given carries =
@@ -180,7 +180,7 @@ resumed_from m kind v machine g aside conn statement later before now after act 
 pub none_resumed : (m : Meaning) (kind : EngineKind) (v : View) (machine : Machine) (g : Gateway) (conn : ℕ) (told : Option Told) (after : Gateway) → (g.session conn).later ≡ None → after ≡ g → Resumed (call_of m kind told told) (scene v machine g conn) (later_query (g.session conn).later) after None
 none_resumed m kind v machine g conn told after none is = subst (λ (later : Option Later). Resumed (call_of m kind told told) (scene v machine g conn) (later_query later) after None) (sym none) (is, refl)
 
--- ---- what a reader told
+-- ---- what a reader answered
 
 pub done_none : (g : Gateway) (conn : ℕ) (query : Option Statement) (reply : Option Reply) → query ≡ None → ReadDone g conn query reply g None
 done_none g conn query reply is = subst (λ (q : Option Statement). ReadDone g conn q reply g None) (sym is) (refl, refl)
@@ -209,7 +209,7 @@ done_told g now conn (Some statement) known (Some reply) act same some is told =
 abbrev pub IsNotDue : CodeSession → Type 0
 IsNotDue s = is_due (option_map later_named s.later) ≡ false
 
--- The session at a place is the first whose query is run next, where none before it is.
+-- The session at a place is the first whose query is run next, if none before it is.
 first_at : (databases : List Database) (all ss : List CodeSession) (weight place : ℕ) (d : CodeSession) → AllByRecursion (IsFound databases all) ss
     → AllByRecursion IsNotDue (take place ss) → place < length ss → is_due (option_map later_named (get_or ss place d).later) ≡ true
     → first_due_in (table_of databases all weight) (map (λ (s : CodeSession). s.conn) ss) ≡ Some (get_or ss place d).conn

@@ -1,4 +1,4 @@
--- No number stands for two images, whatever becomes of the sessions.
+-- No number represents two images, whatever becomes of the sessions.
 use Rattle.std.proofs.Common.{◌≡◌, ℕ, ◌+◌, ◌<◌, List, [], ◌∷◌, ◌++◌, length, map, get_or, Contains, Option, Result, Ok, Err, IfOk, ◌⊎◌, inl, inr, sym, subst, ◌∙◌, arith}
 use Rattle.std.specs.List.{AllByRecursion}
 use Rattle.std.specs.declared.alloc.AllocError.{AllocError}

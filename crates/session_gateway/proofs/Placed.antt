@@ -81,7 +81,7 @@ pub wants_at : (v : View) (databases : List Database) (sessions : List Session) 
 wants_at v databases sessions weight found there params known wanted request same is wants =
     ap (λ (ps : List Value). meant ps wanted) same ∙ wants ∙ ap (λ (s : Session). asked_by v (machine_of databases) (table_of databases sessions weight) s.conn (session_of databases s) request) is
 
--- a transaction is open or not, whatever the machine has
+-- a transaction is open or not, whatever the state machine has
 pub outside_too : (m databases : List Database) (o : Option Transaction) → not (is_none (option_map (transaction_of m) o)) ≡ false → not (is_none (option_map (transaction_of databases) o)) ≡ false
 outside_too m databases None e = refl
 outside_too m databases (Some x) e = e

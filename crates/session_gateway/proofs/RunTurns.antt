@@ -1,4 +1,4 @@
--- What statements come to is what the rules make of what is wanted.
+-- The outcome of statements is what the rules make of what is wanted.
 use Rattle.std.proofs.Common.{◌≡◌, ℕ, false, List, Option, sym, subst}
 use Rattle.wire_words.specs.declared.value.Value.{Value}
 use Rattle.sql_engine.specs.declared.kind.EngineKind.{EngineKind}

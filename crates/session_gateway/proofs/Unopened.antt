@@ -1,4 +1,4 @@
--- Which act tells that files weren't opened.
+-- Which act says that files weren't opened.
 use Rattle.std.proofs.Common.{◌≡◌, ℕ, List, [], ◌∷◌, map, refl, sym, ap, subst, ◌∙◌, arith}
 use Rattle.wire_msgs.specs.declared.request.Request.{Request}
 use Rattle.wire_msgs.specs.declared.response.Response.{Response}
@@ -82,7 +82,7 @@ no_failure (Single response) plain e =
     absurd (omega arith)
 no_failure (Rows answer) plain e = rows_differ _ _ _ e
 
--- where no answer at once is a refusal, except for that of a COMMIT of a lost transaction
+-- if no answer at once is a refusal, except for that of a COMMIT of a lost transaction
 module _ (v : View) (m : Machine) (g : Gateway) (conn : ℕ) (outcome : Turned) (plain : (to : Session) (reply : Reply) (note : Note) → outcome ≡ Answers to reply note → IsRefusal reply → reply ≡ Single (failure NotLeader)) (now : Gateway) (act : Act) (is : act ≡ acts.Reply (failure NotADatabase ∷ [])) where
   answered : (turned : Turned) (decision : Decision) → outcome ≡ turned → MatchesOutcome v m (g.session conn) turned decision → Carries m g conn decision now act → decision ≡ decisions.Refused told.NotADatabase
   answered turned (decisions.Refused cause) e comes carries = ap decisions.Refused (by_code cause (code_of (failure NotADatabase) (failure NotADatabase) _ _ _ _ (sym carries.1 ∙ is)))

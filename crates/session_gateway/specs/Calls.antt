@@ -1,4 +1,4 @@
--- What a call of the gateway did: the definitions' outcome, as code tells it.
+-- What a call of the gateway did: the definitions' outcome, as code says it.
 use Rattle.std.specs.Prelude.{◌≡◌, ℕ, ◌≤◌, true, false, List, [], ◌∷◌, length}
 use Rattle.std.specs.List.{AllByRecursion}
 use Rattle.dq_base.specs.Names.{has_nul}
@@ -21,13 +21,13 @@ use Rattle.session_outcomes.specs.Scenes.{Scene}
 use Rattle.session_gateway.specs.declared.act.Act.{Act}
 use Rattle.session_gateway.specs.declared.act.Act.TheVariants as acts
 
--- what a request does beside the sessions
+-- what a request does outside the sessions
 abbrev pub act_for : Effect → Act
 act_for (HandsOver id) = acts.Transfer id
 act_for (JoinsPeer id) = acts.Peer id
 act_for (Weighs weight) = acts.Reply (responses.Empty ∷ [])
 
--- What comes of a request, as code tells it: the sessions after it, and the act. A refusal leaves all as it was; no answer
+-- What comes of a request, as code says it: the sessions after it, and the act. A refusal leaves all as it was; no answer
 -- of the engine is ever missing; and what is proposed reads back.
 abbrev pub Is : View → Gateway → ℕ → Turned → Gateway → Act → Type 0
 Is v g conn (Refused cause) now act = (now ≡ g) × (act ≡ acts.Reply (failure cause ∷ []))
@@ -38,8 +38,8 @@ Is v g conn (Proposes session contents note) now act = (now ≡ with_session g c
 Is v g conn (Lends session job) now act = (now ≡ with_session g conn session) × (act ≡ acts.Lend job)
 Is v g conn (Affects effect) now act = (now ≡ affected_by g effect) × (act ≡ act_for effect)
 
--- There are answers that the engine may give to what the request hands it, and which it told one after the other. The
--- request uses all of them, and by them it comes to this act and these sessions.
+-- There are answers that the engine may give to what the request hands it, and which it gave one after the other. The
+-- request uses all of them, and by them it ends with this act and these sessions.
 pub record TurnsByAnswers (c : EngineCall) (at : Scene) (request : Request) (now : Gateway) (act : Act) : Type 0 where
   pub answers : List Answer
   pub allowed : AllowsFor c.meaning c.kind (handed at.view at.machine at.sessions at.conn request) answers

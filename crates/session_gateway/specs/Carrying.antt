@@ -33,7 +33,7 @@ Carries m g conn (decisions.Creates flight entries barriers) now act =
 Carries m g conn (decisions.Lends query job) now act = (now ≡ with_session g conn (with_later (g.session conn) (Some (Lent query)))) × (act ≡ acts.Lend job)
 Carries m g conn (decisions.Affects effect) now act = (now ≡ affected_by g (effect_named effect)) × (act ≡ act_for (effect_named effect))
 
--- Where no number stood for two images, also with these that are made, none does after it was carried out.
+-- If no number represented two images, also with these that are made, none does after it was carried out.
 abbrev pub AgreesOn : List Known → List Session → List Database → List Session → List Database → Type 0
 AgreesOn made before old after new =
     (known : List Known) (next : ℕ) → Agree known (made ++ works_of before) next (map numbered old) → Agree known (works_of after) next (map numbered new)

@@ -19,8 +19,8 @@ first_due_in g (conn ∷ conns) = cond (is_due (g.session conn).later) (Some con
 abbrev pub first_due : Gateway → Option ℕ
 first_due g = first_due_in g g.conns
 
--- There are answers that the engine may give to what the query hands it, and which it told one after the other. The query uses
--- all of them, and by them it comes to this act and these sessions.
+-- There are answers that the engine may give to what the query hands it, and which it gave one after the other. The query uses
+-- all of them, and by them it ends with this act and these sessions.
 pub record RunsWaitingByAnswers (c : EngineCall) (at : Scene) (statement : Statement) (now : Gateway) (act : Act) : Type 0 where
   pub answers : List Answer
   pub allowed : AllowsFor c.meaning c.kind (handed_later at.view at.machine at.sessions at.conn statement) answers
@@ -28,14 +28,14 @@ pub record RunsWaitingByAnswers (c : EngineCall) (at : Scene) (statement : State
   pub exact : used_for (handed_later at.view at.machine at.sessions at.conn statement) answers ≡ length answers
   pub is : Is at.view at.sessions at.conn (on_later at.view at.machine at.sessions at.conn statement answers) now act
 
--- The query that a connection has yet to answer is run at its session without it; where there is none, nothing is done.
+-- The query that a connection has yet to answer is run at its session without it; without one, nothing is done.
 abbrev pub Resumed : EngineCall → Scene → Option Statement → Gateway → Option Act → Type 0
 Resumed c at None now None = (now ≡ at.sessions) × (c.told_before ≡ c.told_now)
 Resumed c at None now (Some act) = ⊥
 Resumed c at (Some statement) now None = ⊥
 Resumed c at (Some statement) now (Some act) = RunsWaitingByAnswers c (record at { sessions = without_later at.sessions at.conn }) statement now act
 
--- What a reader tells of the query that it has is told to the connection, which then waits for it no more. Where it has none of
+-- What a reader says of the query that it has is told to the connection, which then waits for it no more. If it has none of
 -- the connection, or gives it back, nothing is done.
 abbrev pub ReadDone : Gateway → ℕ → Option Statement → Option Reply → Gateway → Option Act → Type 0
 ReadDone g conn None reply now act = (now ≡ g) × (act ≡ None)

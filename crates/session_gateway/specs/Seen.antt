@@ -1,4 +1,4 @@
--- The sessions of a gateway, with the images that their transactions have pinned in a machine.
+-- The sessions of a gateway, with the images that their transactions have pinned in a state machine.
 use Rattle.std.specs.Prelude.{ℕ, List, map}
 use Rattle.sql_engine.specs.Known.{Known}
 use Rattle.database_state.specs.declared.database.Database.{Database}
@@ -26,11 +26,11 @@ seen held databases = tables.table_of databases held.sessions held.weight
 unfoldable pub pins_of : Held → List Pinning
 pins_of held = tables.pins_of held.sessions
 
--- the machine's live marks are those of the sessions
+-- the state machine's live marks are those of the sessions
 abbrev pub PinsOf : Held → List Database → Type 0
 PinsOf held databases = AreMarks (pins_of held) databases
 
--- no number stands for two images: neither for an engine, nor for the transactions, nor for the machine's databases
+-- no number represents two images: neither for an engine, nor for the transactions, nor for the state machine's databases
 abbrev pub Agrees : List Known → Held → List Database → Type 0
 Agrees known held databases = Agree known (works_of held.sessions) held.next (map numbered databases)
 

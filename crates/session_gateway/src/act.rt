@@ -10,9 +10,9 @@ pub enum Act {
     Reply(Items<Response>),
     /// Append these entries, which are of the node's term, in one step. The reply comes once they are applied, or lost.
     Propose(Entries),
-    /// Have a reader run this job. What it tells goes to `on_read_done`; where it gives the query back, `on_later` runs it.
+    /// Have a reader run this job. What it tells goes to `on_read_done`; if it gives the query back, `on_later` runs it.
     Lend(ReadJob),
-    /// Hand leadership to the server of this id, where it is another one, and tell the connection EMPTY.
+    /// Hand leadership to the server of this id, if it is another one, and tell the connection EMPTY.
     Transfer(u64),
     /// Tell the connection EMPTY; from then on it carries the messages of the peer of this id.
     Peer(u64),

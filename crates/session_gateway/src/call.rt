@@ -1,4 +1,4 @@
-//! What the functions behind a call of the gateway are given together.
+//! What the functions after a call of the gateway are given together.
 
 use session_requests::View;
 use std::alloc::Global;

@@ -78,7 +78,7 @@ fn nothing_affected() -> Reply
     })
 }
 
-/// Something beside the sessions. `Err` means out of memory; nothing has changed
+/// Something outside the sessions. `Err` means out of memory; nothing has changed
 /// then.
 fn affect(alloc: Global, weight: &mut u64, effect: ClusterEffect) -> Result<Act, AllocError>
     ensures act { IfOk result (λ act. act ≡ act_for (effect_named effect)) }
@@ -193,7 +193,7 @@ pub(crate) fn carry_out(
         (table_of machine.new sessions.new.items weight.new)) }
     ensures kept { OnErr result (table_of machine.new sessions.new.items weight.new ≡ table_of machine.old sessions.old.items weight.old) }
     ensures files { machine_of machine.new ≡ machine_of machine.old }
-    // No number stands for two images, where none did with the working image that the decision makes.
+    // No number represents two images, if none did with the working image that the decision makes.
     ensures agree { (own : SessionValue) → AgreesOn (work_in decision (get_or sessions.old.items place own).transaction) sessions.old.items machine.old
         sessions.new.items machine.new }
     ensures marks_after { AreMarks (pins_of sessions.new.items) machine.new }

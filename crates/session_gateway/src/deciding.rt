@@ -39,7 +39,7 @@ use wire_msgs::Request;
 use wire_words::Value;
 
 /// What comes of what is wanted of the session at a place. The number was drawn for the image that its statements leave. `Err`
-/// means out of memory; nothing has changed but what the engine told.
+/// means out of memory; nothing has changed but what the engine answered.
 fn decision_of<E: Engine>(
     call: &Call,
     sessions: &mut [Session],
@@ -57,7 +57,7 @@ fn decision_of<E: Engine>(
     requires configures { MayConfigure wanted }
     requires can { (own : SessionValue) → CanBeDone call.now.view.now (session_of machine.now (get_or sessions.old place own)) params wanted }
     requires agree { Agree (E.known engine.old) (works_of sessions.old) call.now.number (map numbered machine.now) }
-    // No number stands for two images then either, with the working image that the decision makes.
+    // No number represents two images then either, with the working image that the decision makes.
     ensures agree { (own : SessionValue) → Agree (E.known engine.new)
         (works_in result (get_or sessions.old place own).transaction ++ works_of sessions.old) (call.now.number + 1) (map numbered machine.now) }
     ensures kept { sessions.new ≡ sessions.old }
@@ -112,7 +112,7 @@ fn decision_of<E: Engine>(
 }
 
 /// What comes of a request at the session at a place, which is that of a connection. The number was drawn for the image that its
-/// statements leave. `Err` means out of memory; nothing has changed but what the engine told.
+/// statements leave. `Err` means out of memory; nothing has changed but what the engine answered.
 pub(crate) fn decide<E: Engine>(
     call: &Call,
     sessions: &mut [Session],
@@ -131,7 +131,7 @@ pub(crate) fn decide<E: Engine>(
     requires configured { IsConfigured call.now.view.now }
     requires address { AddressHasNoNul request }
     requires agree { Agree (E.known engine.old) (works_of sessions.old) call.now.number (map numbered machine.now) }
-    // No number stands for two images then either, with the working image that the decision makes.
+    // No number represents two images then either, with the working image that the decision makes.
     ensures agree { (own : SessionValue) → Agree (E.known engine.new)
         (works_in result (get_or sessions.old seat.place own).transaction ++ works_of sessions.old) (call.now.number + 1) (map numbered machine.now) }
     ensures kept { sessions.new ≡ sessions.old }

@@ -26,7 +26,7 @@ use std::alloc::AllocError;
 use wire_msgs::Request;
 
 /// Handles a request of a connection that has a session. The number was drawn for the image that its statements leave. `Err`
-/// means out of memory; nothing has changed then but what the engine told.
+/// means out of memory; nothing has changed then but what the engine answered.
 pub(crate) fn handle<E: Engine>(
     call: &Call,
     sessions: &mut Vec<Session>,

@@ -1,5 +1,5 @@
-//! Queries that are answered later than they were asked: run behind their barriers, or where a reader gave them back; and what
-//! readers tell.
+//! Queries that are answered later than they were asked: run after their barriers, or if a reader gave them back; and what
+//! readers answer.
 
 ghost use Rattle.std.specs.Prelude.{◌≡◌, ◌<◌, ◌+◌, ◌++◌, ◌∷◌, [], ℕ, List, None, Some, true, false, not, is_none, map, IsSome, IfOk, OnErr, MatchOption};
 ghost use Rattle.std.specs.Option.{option_map};
@@ -108,7 +108,7 @@ fn put_back(sessions: &mut Vec<Session>, conn: u64, later: WaitingQuery)
 }
 
 /// What comes of a query that was yet to be answered, at its session without it. The number was drawn for the image that it leaves.
-/// `Err` means out of memory; nothing has changed but what the engine told.
+/// `Err` means out of memory; nothing has changed but what the engine answered.
 fn decide<E: Engine>(
     call: &Call,
     sessions: &[Session],
@@ -155,7 +155,7 @@ fn decide<E: Engine>(
 }
 
 /// Runs a query that was yet to be answered, at the session at a place, which is that of a connection and is without it. The number
-/// was drawn for the image that it leaves. `Err` means out of memory; nothing has changed then but what the engine told.
+/// was drawn for the image that it leaves. `Err` means out of memory; nothing has changed then but what the engine answered.
 fn run<E: Engine>(
     call: &Call,
     sessions: &mut Vec<Session>,
@@ -191,7 +191,7 @@ fn run<E: Engine>(
 }
 
 /// Runs the query that a connection's session has yet to answer, if there is one. The number was drawn for the image that it leaves.
-/// `Err` means out of memory; nothing has changed then but what the engine told.
+/// `Err` means out of memory; nothing has changed then but what the engine answered.
 pub(crate) fn resume<E: Engine>(
     call: &Call,
     sessions: &mut Vec<Session>,
@@ -235,7 +235,7 @@ pub(crate) fn resume<E: Engine>(
     }
 }
 
-/// What a reader tells as what a node has to do; none where the query goes back to the node.
+/// What a reader answers as what a node has to do; none if the query goes back to the node.
 fn told(alloc: Global, read: Read) -> Result<Option<Act>, AllocError>
     ensures { IfOk result (λ act. act ≡ option_map (λ (reply : RuleReply). acts.Reply (responses_of reply)) (read_named read)) }
 {

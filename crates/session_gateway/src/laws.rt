@@ -7,8 +7,8 @@ ghost use Rattle.database_state.specs.Machines.{IsMachine};
 ghost use Rattle.database_state.specs.Pins.{Pinning, StillPinned};
 ghost use Rattle.session_gateway.specs.Seen.{Held, seen, Agrees, PinsOf};
 
-/// A law: a command that the machine does leaves its live marks those of the sessions, and the sessions as they are. What
-/// it asks of the machine is the clause `shown` of `Machine::act`. And it leaves no number standing for two images.
+/// A law: a command that the state machine does leaves its live marks those of the sessions, and the sessions as they are. What
+/// it asks of the state machine is the clause `shown` of `Machine::act`. And it leaves no number standing for two images.
 pub fn commands_keep_sessions()
     ensures pins { (held : Held) (databases : List Database) (command : Command) →
         ((pin : Pinning) → StillPinned databases (act databases command) pin) →

@@ -8,7 +8,7 @@ use std::alloc::Global;
 use wire_msgs::Request;
 use wire_words::Value;
 
-/// The parameters of a request, which are moved; none where it has no place for them.
+/// The parameters of a request, which are moved; none if it has no place for them.
 pub(crate) fn into_params(alloc: Global, request: Request) -> Items<Value>
     ensures { result ≡ params_of request }
 {

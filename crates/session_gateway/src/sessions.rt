@@ -38,8 +38,8 @@ use wire_msgs::{Request, Response};
 
 /// All sessions of a node. A connection has one session at most, and a session one request at a time.
 ///
-/// Clauses see its sessions by `seen`, with the images that their open transactions have pinned in the machine, so the calls
-/// that take the machine want its live marks to be those of the sessions, and leave it so.
+/// Clauses see its sessions by `seen`, with the images that their open transactions have pinned in the state machine, so the calls
+/// that take the state machine want its live marks to be those of the sessions, and leave it so.
 #[derive(Drop)]
 pub struct Gateway {
     alloc: Global,
@@ -59,7 +59,7 @@ impl Model for Gateway {
     ghost invariant = { λ g. IsTable g.sessions.items };
 }
 
-/// Draws the number of a working image. No number is drawn twice: where none is left there means out of memory, and nothing
+/// Draws the number of a working image. No number is drawn twice: if none is left there means out of memory, and nothing
 /// has changed then.
 fn draw(next: &mut u64) -> Result<u64, AllocError>
     ensures drawn { IfOk result (λ number. number ≡ next.old) }
@@ -102,7 +102,7 @@ impl Gateway {
         }
     }
 
-    /// Gives a connection a session; false exactly where it has one, or where 64 are there, hung-up ones counted. Nothing has
+    /// Gives a connection a session; false exactly if it has one, or where 64 are there, hung-up ones counted. Nothing has
     /// changed at false. `Err` means out of memory; nothing has changed then either.
     pub fn connect(&mut self, conn: u64) -> Result<bool, AllocError>
         ensures connected { OnOk result ((databases : List Database) → seen self.new databases
@@ -117,17 +117,17 @@ impl Gateway {
 
     /// What comes of a request of a connection: a refusal or another answer at once, entries to be appended, a query for a reader,
     /// or something for the node to do. The connection's session is there, is not hung up and has answered the last request; `busy`
-    /// tells. The request is moved. The machine is that of the earlier calls with the commands applied since.
+    /// tells. The request is moved. The state machine is that of the earlier calls with the commands applied since.
     ///
-    /// A refused request has changed nothing. `Err` means out of memory, which also comes where no number is left, after
-    /// 18,446,744,073,709,551,615 requests; then nothing has changed either but what the engine told.
+    /// A refused request has changed nothing. `Err` means out of memory, which also comes if no number is left, after
+    /// 18,446,744,073,709,551,615 requests; then nothing has changed either but what the engine answered.
     ///
     /// For each request a number is drawn, which that working image of a transaction gets that the request's statements leave.
     /// So the engine finds what it has open by the number of an image, and compares no bytes.
     ///
-    /// Costs, besides the engine's, in the order of the request's bytes and of the pages that it changes, but where an image is
-    /// copied: outside a transaction a statement runs over the newest image as the machine lends it, which copies nothing where
-    /// the machine keeps that image whole; several of one text have it copied once, and BEGIN copies it. In a transaction
+    /// Costs, besides the engine's, in the order of the request's bytes and of the pages that it changes, except if an image is
+    /// copied: outside a transaction a statement runs over the newest image as the state machine lends it, which copies nothing where
+    /// the state machine keeps that image whole; several of one text have it copied once, and BEGIN copies it. In a transaction
     /// statements work on its image in place: each copies the pages that it changes and no others, and of several these are
     /// compared at the end. COMMIT compares the pages that the statements of its transaction changed, and no others.
     pub fn on_request<E: Engine>(
@@ -146,10 +146,10 @@ impl Gateway {
         requires term { HasShortTerm view.now }
         // The servers of the cluster are ones that may stand together, and each change leaves them so.
         requires configured { IsConfigured view.now }
-        // No number stands for two images, for the engine, the transactions and the databases; and so it is afterwards.
+        // No number represents two images, for the engine, the transactions and the databases; and this holds afterwards.
         requires agrees { Agrees (E.known engine.old) self.old machine.old }
         ensures agrees { Agrees (E.known engine.new) self.new machine.new }
-        // The definition's outcome, by answers that the engine may give and told.
+        // The definition's outcome, by answers that the engine may give and gave.
         ensures turned { IfOk result (TurnsByAnswers (call_on E.meaning E.kind E.told engine.old engine.new)
             (scene view.now (machine_of machine.old) (seen self.old machine.old) conn) request (seen self.new machine.new)) }
         ensures failed { OnErr result (seen self.new machine.new ≡ seen self.old machine.old) }
@@ -158,7 +158,7 @@ impl Gateway {
         ensures pins_after { PinsOf self.new machine.new }
         // Open transactions have the numbers of all pages that they changed, as they had before.
         ensures lists { ListsAsBefore (seen self.old machine.old) (seen self.new machine.new) }
-        // The engine stays of its kind, and its files were not opened only where it counted so.
+        // The engine stays of its kind, and its files were not opened only if it counted so.
         ensures stays { Stays (E.kind engine.old) (E.kind engine.new) (E.refused_openings engine.old) (E.refused_openings engine.new) }
         ensures unopened { IfOk result (λ act. act ≡ Act.Reply (failure NotADatabase ∷ []) →
             E.refused_openings engine.old < E.refused_openings engine.new) }
@@ -175,8 +175,8 @@ impl Gateway {
     }
 
     /// The entry of an index is applied: the proposal that ends with it is done, and its client, if it is there, is answered; but
-    /// where it was the barrier before a query, nothing is told, and the query is to be run next: `next_due` tells it. The machine
-    /// has the entry applied. (A proposal in flight is of the node's term, so its index tells it alone.) `Err` means out of
+    /// if it was the barrier before a query, nothing is reported, and the query is to be run next: `next_due` tells it. The state machine
+    /// has the entry applied. (A pending proposal is of the node's term, so its index tells it alone.) `Err` means out of
     /// memory; nothing has changed then.
     pub fn on_applied(
         &mut self,
@@ -194,7 +194,7 @@ impl Gateway {
         applied(self.alloc, &mut self.sessions, index, machine)
     }
 
-    /// The first connection whose query is to be run next, since its barrier is applied; none where there is none. Looks at each
+    /// The first connection whose query is to be run next, since its barrier is applied; none without one. Looks at each
     /// session.
     pub fn next_due(&self) -> Option<u64>
         ensures { (databases : List Database) → MatchOption result
@@ -205,9 +205,9 @@ impl Gateway {
     }
 
     /// Runs the query that a connection has yet to answer: its barrier is applied, or its reader gave it back, since it would change
-    /// pages. It is run as if it was asked now, but with no barrier and no reader any more; where the node doesn't serve any more it
-    /// is refused. None where the connection has no such query; then nothing is done. `Err` means out of memory; nothing has changed
-    /// then but what the engine told, and the query waits on.
+    /// pages. It is run as if it was asked now, but with no barrier and no reader any more; if the node doesn't serve any more it
+    /// is refused. None where the connection has no query; then nothing is done. `Err` means out of memory; nothing has changed
+    /// then but what the engine answered, and the query waits on.
     ///
     /// For each call a number is drawn, as for a request; it costs as one.
     pub fn on_later<E: Engine>(
@@ -221,10 +221,10 @@ impl Gateway {
         // Its session has opened a database, as it had when the query was asked.
         requires opened { IsSome ((seen self.old machine.old).session conn).later → has_database ((seen self.old machine.old).session conn) ≡ true }
         requires term { HasShortTerm view.now }
-        // No number stands for two images, for the engine, the transactions and the databases; and so it is afterwards.
+        // No number represents two images, for the engine, the transactions and the databases; and this holds afterwards.
         requires agrees { Agrees (E.known engine.old) self.old machine.old }
         ensures agrees { Agrees (E.known engine.new) self.new machine.new }
-        // The definition's outcome, by answers that the engine may give and told.
+        // The definition's outcome, by answers that the engine may give and gave.
         ensures resumed { IfOk result (Resumed (call_on E.meaning E.kind E.told engine.old engine.new)
             (scene view.now (machine_of machine.old) (seen self.old machine.old) conn) (later_query ((seen self.old machine.old).session conn).later)
             (seen self.new machine.new)) }
@@ -234,7 +234,7 @@ impl Gateway {
         ensures pins_after { PinsOf self.new machine.new }
         // Open transactions have the numbers of all pages that they changed, as they had before.
         ensures lists { ListsAsBefore (seen self.old machine.old) (seen self.new machine.new) }
-        // The engine stays of its kind, and its files were not opened only where it counted so.
+        // The engine stays of its kind, and its files were not opened only if it counted so.
         ensures stays { Stays (E.kind engine.old) (E.kind engine.new) (E.refused_openings engine.old) (E.refused_openings engine.new) }
         ensures unopened { IfOk result (λ act. act ≡ Some (Act.Reply (failure NotADatabase ∷ [])) →
             E.refused_openings engine.old < E.refused_openings engine.new) }
@@ -251,7 +251,7 @@ impl Gateway {
     }
 
     /// A reader is done with the query of a connection, and tells this of it: what the node has to tell the connection. None where
-    /// no reader has a query of the connection any more, since its client has gone; and where the reader gives the query back, which
+    /// no reader has a query of the connection any more, since its client has gone; and if the reader gives the query back, which
     /// `on_later` then runs. Nothing has changed at none. `Err` means out of memory; nothing has changed then either.
     pub fn on_read_done(&mut self, conn: u64, read: Read) -> Result<Option<Act>, AllocError>
         ensures done { IfOk result (λ act. (databases : List Database) → ReadDone (seen self.old databases) conn
@@ -263,9 +263,9 @@ impl Gateway {
         read_done(self.alloc, &mut self.sessions, conn, read)
     }
 
-    /// The node no longer leads the term of the proposals in flight: they and all transactions end, and each client that waits
-    /// is told so, in the order of the proposals' last entries, those whose queries were to be run next before all others.
-    /// Databases and statements stay, and readers go on. No mark of the machine is live then. `Err` means out of memory; nothing
+    /// The node no longer leads the term of the pending proposals: they and all transactions end, and each client that waits
+    /// is informed, in the order of the proposals' last entries, those whose queries were to be run next before all others.
+    /// Databases and statements stay, and readers continue. No mark of the state machine is live then. `Err` means out of memory; nothing
     /// has changed then.
     pub fn on_lost(&mut self, machine: &mut Machine) -> Result<Vec<(u64, Response)>, AllocError>
         requires pins { PinsOf self.old machine.old }
@@ -280,8 +280,8 @@ impl Gateway {
         lost(self.alloc, &mut self.sessions, machine)
     }
 
-    /// The client of a connection has gone. Its session goes too, with its transaction; where a proposal is in flight, that,
-    /// and the turn to write with it, stays until it is applied or lost.
+    /// The client of a connection has gone. Its session goes too, with its transaction; if a proposal is pending, that,
+    /// and the write lock with it, stays until it is applied or lost.
     pub fn on_hangup(&mut self, conn: u64, machine: &mut Machine)
         requires there { ((seen self.old machine.old).session conn).there ≡ true }
         requires open { ((seen self.old machine.old).session conn).hung ≡ false }
@@ -301,7 +301,7 @@ impl Gateway {
         let _ = &self.sessions;
     }
 
-    /// Whether the connection's last request is yet to be answered: its proposal is in flight, its query is to be run next, or a
+    /// Whether the connection's last request waits for its answer: its proposal is pending, its query is to be run next, or a
     /// reader has it.
     pub fn busy(&self, conn: u64) -> bool
         ensures { (databases : List Database) → result ≡ is_busy ((seen self.now databases).session conn) }
@@ -320,7 +320,7 @@ impl Gateway {
         self.sessions.len() as u64
     }
 
-    /// How many bytes the sessions keep of what their clients have said, and of what they are to be told, as `kept_size` of
+    /// How many bytes the sessions keep of what their clients have said, and of what they are to be sent, as `kept_size` of
     /// `session_table` counts them. Looks at each number of a statement.
     pub fn held(&self) -> u64
         ensures { result ≡ kept_size self.now.sessions }
@@ -328,7 +328,7 @@ impl Gateway {
         kept_size(self.sessions.as_slice())
     }
 
-    /// The same of the session of one connection; 0 where it has none.
+    /// How many bytes the session of one connection keeps; 0 without one.
     pub fn held_bytes_of(&self, conn: u64) -> u64
         ensures { result ≡ kept_size_at conn self.now.sessions }
     {

@@ -1,4 +1,4 @@
--- Proposals of one entry, behind the test of the log's end.
+-- Proposals of one entry, after the test of the log's end.
 use Rattle.std.proofs.Common.{◌≡◌, Bool, true, false, cond, [], ◌∷◌, Result, IfOk, refl, sym, ap, subst}
 use Rattle.std.specs.declared.alloc.AllocError.{AllocError}
 use Rattle.session_spec.specs.Causes.{LogFull}

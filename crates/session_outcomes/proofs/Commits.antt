@@ -1,4 +1,4 @@
--- What a commit comes to, by what code tells.
+-- The outcome of a commit, by what code tells.
 use Rattle.std.proofs.Common.{◌≡◌, ℕ, Bool, true, false, cond, is_none, not, List, Option, Some, None, Result, Ok, Err, IfOk, inl, inr, refl, sym, ap, subst}
 use Rattle.std.specs.declared.alloc.AllocError.{AllocError}
 use Rattle.std.proofs.lemmas.Bool.{cases_Bool, both_ways, or_from}
@@ -30,7 +30,7 @@ free_taken pages r count h is free = elim (cases_Bool (is_none (page_fault pages
 ]
 
 module _ (v : View) (m : Machine) (s : Session) where
-  -- behind the test of the log's end
+  -- after the test of the log's end
   behind : (r : Result Decision AllocError) (full : Bool) (h : Option RuleCause) (turned : Turned) → full ≡ false → IfOk r (MatchesOutcome v m s (unless h turned)) → IfOk r (MatchesOutcome v m s (unless (first_cause full LogFull h) turned))
   behind r full h turned is comes = subst (λ (b : Bool). IfOk r (MatchesOutcome v m s (unless (first_cause b LogFull h) turned))) (sym is) comes
 

@@ -1,4 +1,4 @@
--- What a reader tells of its job, by how the query ended.
+-- What a reader says of its job, by how the query ended.
 use Rattle.std.proofs.Common.{◌≡◌, ℕ, Bool, true, false, cond, List, [], ◌∷◌, Option, Some, None, Ok, Err, refl, sym, ap, subst, ◌∙◌}
 use Rattle.wire_rows.specs.Answering.{parts_of}
 use Rattle.dq_base.specs.declared.images.Image.{Image}
@@ -26,7 +26,7 @@ use Rattle.session_statements.specs.Calls.{call_of}
 
 -- ---- rows
 
--- rows that can be told
+-- rows that can be sent
 pub told_rows : (answer told : StatementResult) → TellsRows answer (Ok told) → Some (Rows told) ≡ Some (rows_or (rows_cause (parts_of answer.columns answer.rows)) answer)
 told_rows answer told tells = ap (λ (r : StatementResult). Some (Rows r)) tells.0 ∙ ap (λ (o : Option RuleCause). Some (rows_or o answer)) (sym tells.1)
 
@@ -81,7 +81,7 @@ module _ (job : Job) (tx : ℕ) (ending : CodeEnding) where
   too_large (Stopped fault) answer shows is = absurd (not_stopped answer fault (sym is ∙ shows))
   too_large (Ended to own) answer shows is = absurd (ended_not_large shows.0 answer (sym shows.1 ∙ is))
 
-  -- it ran: it is told, where it changed no page, and goes back to the node where it did
+  -- it ran: it is told, if it changed no page, and goes back to the node where it did
   pub ended : (e : Ending) (ran : AllRan) → Shows tx job.image e ending → ending ≡ endings.Ended ran
       → job_reply job e ≡ cond (no_pages (change_in ran).pages) (Some (rows_or (rows_cause (parts_of ran.answer.columns ran.answer.rows)) ran.answer)) None
   unfolding job_reply

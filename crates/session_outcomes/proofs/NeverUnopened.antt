@@ -1,4 +1,4 @@
--- That files were not opened is told only where the engine said so.
+-- That files were not opened is told only if the engine said so.
 use Rattle.std.proofs.Common.{◌≡◌, ℕ, Bool, true, false, cond, not, ◌&&◌, List, [], ◌∷◌, Option, Some, None, Result, Ok, Err, inl, inr, sym, ap, subst, ◌∙◌}
 use Rattle.std.specs.Prelude.{◌==◌}
 use Rattle.dq_base.specs.declared.images.Image.{Image}
@@ -74,7 +74,7 @@ plain_hindrance m g conn name mark pages to =
     (plain_first (not ((m.base name).newest == mark)) causes.OutOfDate (first_cause (too_full m g name pages to) causes.DatabaseFull None) tt
     (plain_first (too_full m g name pages to) causes.DatabaseFull None tt tt))
 
--- of an ending, where no file was left unopened
+-- of an ending, if no file was left unopened
 abbrev Opened : Ending → Type 0
 Opened (Stopped fault) = is_unopened fault ≡ false
 Opened ending = Unit {0}
@@ -121,7 +121,7 @@ plain_inside m g conn s x ss rows (Ended to answer) o =
     (plain_unless (row_cause rows answer None) _ (plain_row rows answer None tt) tt)
     (plain_unless (row_cause rows answer (change_refusal m g conn x.name x.mark pages to)) _ (plain_row rows answer (change_refusal m g conn x.name x.mark pages to) (plain_hindrance m g conn x.name x.mark pages to)) tt)
 
--- ---- what is told of it
+-- ---- what is reported of it
 
 opened_by : (tx : ℕ) (from : Image) (e : Ending) (ending : CodeEnding) → Shows tx from e ending → ends_unopened ending ≡ false → Opened e
 opened_by tx from Lacking ending shows o = absurd shows

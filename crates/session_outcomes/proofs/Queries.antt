@@ -1,4 +1,4 @@
--- Queries: behind a barrier, run now, or lent to a reader.
+-- Queries: after a barrier, run now, or lent to a reader.
 use Rattle.std.proofs.Common.{◌≡◌, ℕ, Bool, true, false, cond, ◌&&◌, is_none, List, [], ◌∷◌, Option, Some, None, option_map, Result, IfOk, refl, sym, ap, subst, ◌∙◌}
 use Rattle.std.specs.declared.alloc.AllocError.{AllocError}
 use Rattle.dq_base.specs.declared.images.Image.{Image}
@@ -36,7 +36,7 @@ pub none_mapped : {X Y : Type 0} (f : X → Y) (o : Option X) → is_none (optio
 none_mapped f None = refl
 none_mapped f (Some x) = refl
 
--- outside a transaction, where there are readers, and the engine cut it off
+-- outside a transaction, if there are readers, and the engine interrupted it
 pub lent_where : {X Y : Type 0} (f : X → Y) (o : Option X) (readers cut shown : Bool) (test : Bool) → test ≡ (is_none o && (readers && shown)) → cut ≡ shown → (is_none (option_map f o) && (readers && cut)) ≡ test
 lent_where f o readers cut shown test is same = ap (λ (b : Bool). b && (readers && cut)) (none_mapped f o) ∙ ap (λ (b : Bool). is_none o && (readers && b)) same ∙ sym is
 
@@ -53,7 +53,7 @@ module _ (v : View) (m : Machine) (g : Gateway) (conn : ℕ) (s : RuleSession) (
   goes_on None ended is comes = subst (λ (b : Bool). IfOk r (MatchesOutcome v m s (cond b (Lends (with_later s (Some (Lent statement))) (job_of m s statement)) (outside v m g conn s (statement ∷ []) true ended)))) (sym is) comes
   goes_on (Some x) ended is comes = comes
 
--- what it comes to by the engine's answers
+-- its outcome by the engine's answers
 pub read_is : (v : View) (m : Machine) (g : Gateway) (conn : ℕ) (s : RuleSession) (tx : Option Transaction) (statement : Statement) (answers : List Answer)
     → read_in v m g conn s tx statement answers ≡ query_in v m g conn s tx statement (runs (ground m s tx) no_answer (statement ∷ []) answers)
 read_is v m g conn s None statement answers = refl
@@ -73,10 +73,10 @@ job_so databases session name copy text image query shared own copied told is sa
 pub lent_so : (v : View) (m : Machine) (s : RuleSession) (query asked : Statement) (job : Job) → query ≡ asked → job ≡ job_of m s query → MatchesOutcome v m s (Lends (with_later s (Some (Lent asked))) (job_of m s asked)) (decisions.Lends query job)
 lent_so v m s query asked job same is = (ap (λ (statement : Statement). with_later s (Some (Lent statement))) (sym same), ap (job_of m s) (sym same) ∙ sym is)
 
--- ---- behind a barrier, or at once
+-- ---- after a barrier, or at once
 
 module _ (meaning : Meaning) (kind : EngineKind) (v : View) (m : Machine) (g : Gateway) (conn : ℕ) (s : RuleSession) (statement : Statement) where
-  -- what a query comes to, by whether it waits
+  -- the outcome of a query, by whether it waits
   abbrev By : Option Told → Option Told → Decision → Bool → Type 0
   By before now decision b = MatchesOutcomeByAnswers (call_of meaning kind before now) v m s (cond b None (handed_over (ground m s s.tx) (statement ∷ []))) (λ (answers : List Answer). cond b (barrier_first v s statement) (read_in v m g conn s s.tx statement answers)) decision
 

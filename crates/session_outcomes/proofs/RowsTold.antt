@@ -9,7 +9,7 @@ use Rattle.session_spec.specs.Requests.{rows_cause, or_cause, row_cause, reply_o
 use Rattle.session_table.specs.declared.cause.Cause.{Cause}
 use Rattle.session_table.specs.Named.{cause_named, TellsRows}
 
--- no rows are to be told
+-- no rows are to be sent
 pub plain_told : (rows : Bool) (answer : StatementResult) → rows ≡ false → (Single (responses.Result 0 answer.affected) ≡ reply_of rows answer) × ((later : Option RuleCause) → row_cause rows answer later ≡ later)
 unfolding row_cause
 plain_told rows answer miss = (
@@ -25,7 +25,7 @@ rows_told rows answer told hit tells = (
   λ later. ap (λ (b : Bool). cond b (or_cause (rows_cause (parts_of answer.columns answer.rows)) later) later) hit ∙ ap (λ (cause : Option RuleCause). or_cause cause later) tells.1,
 )
 
--- they can't be told
+-- they can't be sent
 pub rows_refused : (rows : Bool) (answer : StatementResult) (cause : Cause) → rows ≡ true → TellsRows answer (Err cause) → (later : Option RuleCause) → row_cause rows answer later ≡ Some (cause_named cause)
 unfolding row_cause
 rows_refused rows answer cause hit tells later =

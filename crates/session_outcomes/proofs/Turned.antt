@@ -1,4 +1,4 @@
--- What is refused, and what goes on.
+-- What is refused, and what continues.
 use Rattle.std.proofs.Common.{◌≡◌, ℕ, Bool, true, false, ◌||◌, is_none, List, suc, map, Option, Some, None, Result, Ok, Err, IfOk, inl, inr, refl, sym, subst}
 use Rattle.dq_base.specs.declared.pages.NumberedPage.{NumberedPage}
 use Rattle.dq_base.specs.declared.images.Image.{Image}
@@ -34,7 +34,7 @@ module _ (v : View) (m : Machine) (s : Session) where
   goes hindrance turned decision is comes = subst (λ (h : Option RuleCause). MatchesOutcome v m s (unless h turned) decision) (sym is) comes
 
 module _ (v : View) (m : Machine) (s : Session) (r : Result Decision AllocError) where
-  -- behind the test of the log's end
+  -- after the test of the log's end
   pub log_full_first : (full : Bool) (later : Option RuleCause) (turned : Turned) → full ≡ true → MatchesOutcome v m s (unless (first_cause full LogFull later) turned) (decisions.Refused causes.LogFull)
   log_full_first full later turned is = subst (λ (b : Bool). MatchesOutcome v m s (unless (first_cause b LogFull later) turned) (decisions.Refused causes.LogFull)) (sym is) refl
 

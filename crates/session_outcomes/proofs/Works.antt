@@ -1,4 +1,4 @@
--- No number stands for two images around a run at a session.
+-- No number represents two images around a run at a session.
 use Rattle.std.proofs.Common.{◌≡◌, ℕ, ◌+◌, List, [], ◌∷◌, ◌++◌, map, All, Contains, Option, Some, None, option_map, Result, Ok, Err, IfOk, refl, sym, subst, arith}
 use Rattle.std.specs.List.{AllByRecursion}
 use Rattle.std.specs.declared.alloc.AllocError.{AllocError}
@@ -29,7 +29,7 @@ use Rattle.session_outcomes.specs.declared.decision.Decision.{Decision}
 use Rattle.session_outcomes.specs.declared.decision.Decision.TheVariants as decisions
 use Rattle.session_outcomes.specs.Numbers.{work_in, works_in, work_left, MayRunOver}
 
--- ---- images that stand for their numbers
+-- ---- images that represent their numbers
 
 -- these images are working images, or newest ones, by their numbers
 abbrev pub AllStand : List Known → List Numbered → List Known → Type 0
@@ -79,7 +79,7 @@ agree_ran known now works number bases before image ending stand a learnt = ran 
 none_stands : (works : List Known) (bases : List Numbered) (image : Image) (n : ImageNumber) → None ≡ Some n → Stands works bases n image
 none_stands works bases image n e = absurd cc
 
--- where it knows no more than before
+-- if it knows no more than before
 pub agree_left : (known now works : List Known) (number : ℕ) (bases : List Numbered) (image : Image) (ending : Ending) → All (Contains known) now → Agree known works number bases → Agree now (work_left image number ending ++ works) (number + 1) bases
 agree_left known now works number bases image ending kept a = ran known now works number bases None image (left_by image ending) a (none_stands works bases image) (λ k d lt. was (kept k d lt))
 
@@ -121,7 +121,7 @@ agree_turned known made works next bases (Ok decision) tx among a =
     (among_more made works)) a
 agree_turned known made works next bases (Err e) tx among a = agree_fewer known (made ++ works) works next bases (among_more made works) a
 
--- where nothing was left, a number that was drawn is left out
+-- if nothing was left, a number that was drawn is left out
 pub agree_later : (known works : List Known) (number : ℕ) (bases : List Numbered) (image : Image) → Agree known works number bases → Agree known works (number + 1) bases
 agree_later known works number bases image a =
     agree_fewer known (record { number = Working number; image = image } ∷ works) works (number + 1) bases (among_more (record { number = Working number; image = image } ∷ []) works)
@@ -157,7 +157,7 @@ none_outside (Err e) made = tt
 pub agree_stopped : (known now works : List Known) (number : ℕ) (bases : List Numbered) → All (Contains known) now → Agree known works number bases → Agree now works (number + 1) bases
 agree_stopped known now works number bases kept a = agree_later now works number bases empty_image (fewer known now works works number bases kept (all_contained works) a)
 
--- where nothing ran, and the decision makes no working image
+-- if nothing ran, and the decision makes no working image
 pub agree_idle : (known works : List Known) (number : ℕ) (bases : List Numbered) (r : Result Decision AllocError) (tx : Option Transaction) → IfOk r (λ decision. (other : Option Transaction) → work_in decision other ≡ []) → Agree known works number bases
     → Agree known (works_in r tx ++ works) (number + 1) bases
 agree_idle known works number bases (Ok decision) tx none a = subst (λ (made : List Known). Agree known (made ++ works) (number + 1) bases) (sym (none tx)) (agree_later known works number bases empty_image a)

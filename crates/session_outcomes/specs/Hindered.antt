@@ -9,7 +9,7 @@ use Rattle.session_spec.specs.Causes.{Cause as RuleCause}
 use Rattle.session_table.specs.declared.cause.Cause.{Cause}
 use Rattle.session_table.specs.Named.{cause_named}
 
--- An image that pages lead to from another one, where they can be applied; each page has its bytes. Where they can't be
+-- An image that pages lead to from another one, if they can be applied; each page has its bytes. If they can't be
 -- applied, any image will do.
 abbrev pub LeadsTo : List NumberedPage → Image → Type 0
 LeadsTo pages to = is_none (page_fault pages) ≡ true → HaveSizes pages × ((from : Image) × (applied from pages ≡ to))

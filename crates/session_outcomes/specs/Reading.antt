@@ -1,4 +1,4 @@
--- Queries: where the engine cuts one off, and what a reader tells of one.
+-- Queries: if the engine cuts one off, and what a reader says of one.
 use Rattle.std.specs.Prelude.{◌≡◌, ◌⊎◌, ℕ, Bool, true, false, List, [], ◌∷◌, length, Option, Some, None}
 use Rattle.wire_rows.specs.Answering.{parts_of}
 use Rattle.sql_engine.specs.declared.answer.StatementResult.{StatementResult}
@@ -22,18 +22,18 @@ cut_off (endings.Ended ran) = false
 cut_off (endings.TooLarge answer) = false
 cut_off (endings.Stopped fault) = is_cut fault
 
--- a query that ran comes to this, in a transaction or outside of one
+-- a query that ran ends with this, in a transaction or outside of one
 abbrev pub query_in : View → Machine → Gateway → ℕ → Session → Option Transaction → Statement → Ending → Turned
 query_in v m g conn s None statement ended = read_outside v m g conn s statement ended
 query_in v m g conn s (Some x) statement ended = inside m g conn s x (statement ∷ []) true ended
 
--- what is told, in the rules' words; nothing of a query that goes back to the node
+-- what is reported, in the rules' words; nothing of a query that goes back to the node
 abbrev pub read_named : Read → Option RuleReply
 read_named (reads.Answers answer) = Some (Rows answer)
 read_named (reads.Refused cause) = Some (Refusal (cause_named cause))
 read_named reads.GivenBack = None
 
--- rows are told, or why they can't be
+-- rows are reported, or why they can't be
 abbrev pub RowsTold : StatementResult → Read → Type 0
 RowsTold answer read = read_named read ≡ Some (rows_or (rows_cause (parts_of answer.columns answer.rows)) answer)
 
@@ -42,8 +42,8 @@ abbrev pub IsAnswered : Ending → Type 0
 IsAnswered Lacking = ⊥
 IsAnswered ending = Unit {0}
 
--- There are answers that the engine may give to the job's query, and which it told one after the other. They answer the query, all
--- of them are used, and by them this is told. So a query is given back only where an answer says that it would change pages.
+-- There are answers that the engine may give to the job's query, and which it gave one after the other. They answer the query, all
+-- of them are used, and by them this is told. So a query is given back only if an answer says that it would change pages.
 pub record TellsJob (m : Meaning) (kind : EngineKind) (job : Job) (told_before told_now : Option Told) (read : Read) : Type 0 where
   pub answers : List Answer
   pub allowed : AllowsAll m kind job.image (job.statement ∷ []) answers

@@ -1,4 +1,4 @@
--- What statements that ran come to, by the pages that they changed together.
+-- The outcome of statements that ran, by the pages that they changed together.
 use Rattle.std.specs.Prelude.{◌≡◌, ℕ, Bool, true, false, is_none, List, length, Option, Some, None, Result, Ok, Err}
 use Rattle.dq_base.specs.declared.images.Image.{Image}
 use Rattle.dq_base.specs.declared.pages.NumberedPage.{NumberedPage}
@@ -27,24 +27,24 @@ IsWellFormed (endings.Ended ran) = IsTable ran.answer.columns ran.answer.rows
 IsWellFormed (endings.TooLarge answer) = IsTable answer.columns answer.rows × (takes answer.after.pages ≡ false)
 IsWellFormed (endings.Stopped fault) = Unit {0}
 
--- where nothing hinders pages they can be applied
+-- if nothing hinders pages they can be applied
 abbrev pub AreTaken : List NumberedPage → Result ℕ Cause → Type 0
 AreTaken pages (Ok count) = is_none (page_fault pages) ≡ true
 AreTaken pages (Err cause) = Unit {0}
 
--- a write of a database outside a transaction, where nothing hinders it
+-- a write of a database outside a transaction, if nothing hinders it
 abbrev pub write_of : View → Machine → Gateway → ℕ → Session → List ℕ → Bool → List NumberedPage → Image → StatementResult → Note → Turned
 write_of v m g conn s name rows pages to answer note =
     unless (first_cause (log_full v) LogFull (row_cause rows answer (change_refusal m g conn name (m.base name).newest pages to)))
     (Proposes (flying v s name (change_of v name pages) (page_count to) (Writing (reply_of rows answer))) (change_of v name pages) note)
 
--- statements that ran come to this, in a transaction or outside of one
+-- statements that ran end with this, in a transaction or outside of one
 abbrev pub ran_in : View → Machine → Gateway → ℕ → Session → Option Transaction → List Statement → Bool → RuleEnding → Turned
 ran_in v m g conn s None ss rows ended = outside v m g conn s ss rows ended
 ran_in v m g conn s (Some x) ss rows ended = inside m g conn s x ss rows ended
 
--- There are answers that the engine may give to the statements over the session's image, and which it told one after the
--- other. Running uses all of them, and by them the request comes to this.
+-- There are answers that the engine may give to the statements over the session's image, and which it gave one after the
+-- other. Running uses all of them, and by them the request ends with this.
 pub record RunsTo (c : EngineCall) (at : Scene) (s : Session) (ss : List Statement) (rows : Bool) (decision : Decision) : Type 0 where
   pub answers : List Answer
   pub allowed : AllowsAll c.meaning c.kind (ground at.machine s s.tx) ss answers

@@ -3,7 +3,7 @@ use Rattle.std.specs.Prelude.{ℕ}
 use Rattle.session_spec.specs.Machine.{Machine}
 use Rattle.session_spec.specs.Sessions.{Gateway, View}
 
--- The node's view, its machine and its sessions at the moment before, and the connection that asks.
+-- The node's view, its state machine and its sessions at the moment before, and the connection that asks.
 pub record Scene : Type 0 where
   pub view : View
   pub machine : Machine

@@ -1,4 +1,4 @@
--- The reply to statements that ran, or why their rows can't be told; what hinders a change of pages.
+-- The reply to statements that ran, or why their rows can't be sent; what hinders a change of pages.
 use Rattle.std.specs.Prelude.{◌≡◌, Bool, Option, Some, Result, Ok, Err}
 use Rattle.sql_engine.specs.declared.answer.StatementResult.{StatementResult}
 use Rattle.session_spec.specs.Causes.{Cause as RuleCause}

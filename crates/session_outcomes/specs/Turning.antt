@@ -1,4 +1,4 @@
--- What comes of a request, as code tells it before anything has changed.
+-- What comes of a request, as code says it before anything has changed.
 use Rattle.std.specs.Prelude.{◌≡◌, true, List, length, Option, Some, None}
 use Rattle.std.specs.List.{AllByRecursion}
 use Rattle.session_spec.specs.Asking.{Asked, has_database}
@@ -19,7 +19,7 @@ use Rattle.session_outcomes.specs.declared.decision.Decision.TheVariants as deci
 
 -- The outcome of the rules, at a session, is what code tells: the refusal; the change of the session, which can be made, and
 -- the reply; the transaction that begins or ends; the proposal, whose entries read back; the query that is lent, with its job; or
--- what is beside the sessions.
+-- what is outside the sessions.
 abbrev pub MatchesOutcome : View → Machine → Session → Turned → Decision → Type 0
 MatchesOutcome v m s (Refused cause) (decisions.Refused told) = cause ≡ cause_named told
 MatchesOutcome v m s (Answers to reply note) (decisions.Answers change told) = (to ≡ changed_by s change) × (reply ≡ reply_named told) × CanChange s.statements change
@@ -33,7 +33,7 @@ MatchesOutcome v m s (Lends to job) (decisions.Lends query told) = (to ≡ with_
 MatchesOutcome v m s (Affects effect) (decisions.Affects told) = effect ≡ effect_named told
 MatchesOutcome v m s turned decision = ⊥
 
--- There are answers that the engine may give to what it is handed, and which it told one after the other. All of them are
+-- There are answers that the engine may give to what it is handed, and which it gave one after the other. All of them are
 -- used, and by them the rules' outcome at a session is what code tells.
 pub record MatchesOutcomeByAnswers (c : EngineCall) (v : View) (machine : Machine) (s : Session) (given : Option Handed) (outcome : List Answer → Turned)
     (decision : Decision) : Type 0 where
@@ -43,7 +43,7 @@ pub record MatchesOutcomeByAnswers (c : EngineCall) (v : View) (machine : Machin
   pub exact : used_for given answers ≡ length answers
   pub is : MatchesOutcome v machine s (outcome answers) decision
 
--- the same of what is asked of a connection's session
+-- the same for what is asked of a connection's session
 abbrev pub TurnsTo : EngineCall → Scene → Session → Asked → Decision → Type 0
 TurnsTo c at s asked decision =
     MatchesOutcomeByAnswers c at.view at.machine s (handed_for at.machine s asked) (does at.view at.machine at.sessions at.conn s asked) decision

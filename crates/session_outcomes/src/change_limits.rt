@@ -17,7 +17,7 @@ use session_requests::pages_full;
 use session_table::{Cause, Session, newest, other_holds};
 use std::alloc::{AllocError, Global};
 
-/// How many pages so many bytes fill, the last of them maybe in part.
+/// How many pages this many bytes fill, the last of them maybe in part.
 fn pages_of(bytes: usize) -> u64
     ensures count { result ≡ pages_of bytes }
     ensures small { result ≤ 2 ^ 53 }
@@ -25,7 +25,7 @@ fn pages_of(bytes: usize) -> u64
     bytes.div_ceil(PAGE_SIZE) as u64
 }
 
-/// How many pages an image has after these pages, the sizes page included; none where they can't be applied. Looks at their
+/// How many pages an image has after these pages, the sizes page included; none if they can't be applied. Looks at their
 /// numbers.
 pub(crate) fn pages_after(pages: &[NumberedPage]) -> Option<u64>
     ensures { MatchOption result (is_none (page_fault pages.now) ≡ false)
@@ -41,7 +41,7 @@ pub(crate) fn pages_after(pages: &[NumberedPage]) -> Option<u64>
     }
 }
 
-/// How many pages a database has after this change of it; none where all databases would have too many then, or it can't be
+/// How many pages a database has after this change of it; none if all databases would have too many then, or it can't be
 /// applied. There are pages.
 fn room(
     alloc: Global,
@@ -71,8 +71,8 @@ fn is_out_of_date(machine: &Machine, name: &str, mark: u64) -> bool
     newest(machine, name) != mark
 }
 
-/// What hinders a change of pages of a database by the session of a connection, which began when the database had so many
-/// commits: another session has the turn to write; there were commits since; or there would be too many pages. Where nothing
+/// What hinders a change of pages of a database by the session of a connection, which began when the database had this many
+/// commits: another session has the write lock; there were commits since; or there would be too many pages. If nothing
 /// does, how many pages the database has after it. There are pages. Looks at each session for each database. The outer `Err`
 /// means out of memory.
 pub(crate) fn change_refusal(

@@ -151,7 +151,7 @@ fn refused_commit(
     )
 }
 
-/// What the commit of a transaction's pages comes to, where there are some: a proposal, where nothing hinders it.
+/// The outcome of the commit of a transaction's pages, if there are some: a proposal, if nothing hinders it.
 fn commit(
     alloc: Global,
     view: &View,
@@ -181,8 +181,8 @@ fn commit(
     }
 }
 
-/// What COMMIT comes to at a session of a node that serves: its transaction is over, where it never took the turn to write or
-/// has changed no page; else its changes are proposed, where nothing hinders them. Where it took the turn, the pages that its
+/// The outcome of COMMIT at a session of a node that serves: its transaction is over, if it never took the write lock or
+/// has changed no page; else its changes are proposed, if nothing hinders them. If it took the write lock, the pages that its
 /// statements changed are compared with those of the pinned image, for which both are copied, one at a time; those that differ
 /// are kept. No other page is looked at but three.
 #[tactic(auto, unfolding(session_spec::specs::Requests::does, session_spec::specs::Requests::committed))]

@@ -12,16 +12,16 @@ pub enum Decision {
     Refused(Cause),
     /// The session changes so, and its client gets this reply.
     Answers(Change, Reply),
-    /// A transaction begins, at once with the turn to write or not, and its client gets an empty RESULT.
+    /// A transaction begins, at once with the write lock or not, and its client gets an empty RESULT.
     Begins(bool),
     /// The transaction ends without its changes, and its client gets an empty RESULT.
     Ends,
-    /// The session has this proposal in flight, whose entries are to be appended.
+    /// The session has this proposal pending, whose entries are to be appended.
     Proposes(PendingProposal, Entries),
-    /// The same of a new database, with barrier reads or not.
+    /// The session has this proposal of a new database pending, with barrier reads or not.
     Creates(PendingProposal, Entries, bool),
     /// The session's query is lent to a reader, as this job.
     Lends(Query, ReadJob),
-    /// Something beside the sessions.
+    /// Something outside the sessions.
     Affects(ClusterEffect),
 }

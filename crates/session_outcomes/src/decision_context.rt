@@ -11,7 +11,7 @@ pub struct DecisionContext<'a> {
     pub alloc: Global,
     /// What the node is for its sessions.
     pub view: &'a View,
-    /// The node's machine.
+    /// The node's state machine.
     pub machine: &'a Machine,
     /// The number that was drawn for the image that the statements leave.
     pub number: u64,

@@ -1,4 +1,4 @@
-//! An earlier image of a database, told page by page by the machine.
+//! An earlier image of a database, told page by page by the state machine.
 
 ghost use Rattle.std.specs.Prelude.{◌≡◌};
 ghost use Rattle.std.specs.List.{AllByRecursion};
@@ -11,7 +11,7 @@ use dq_base::{Image, Page, page_at};
 use image_diff::ImagePages;
 use std::alloc::Global;
 
-/// An earlier image of a database, lent by the machine.
+/// An earlier image of a database, lent by the state machine.
 #[derive(Clone, Copy)]
 pub(crate) enum Earlier<'a> {
     /// The one that a read mark shows.

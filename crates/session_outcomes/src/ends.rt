@@ -29,7 +29,7 @@ use session_table::{Cause, Change, PendingProposal, ProposalKind};
 use sql_engine::StatementResult;
 use std::alloc::{AllocError, Global};
 
-/// Statements that ran are refused: their rows can't be told, or else for this cause.
+/// Statements that ran are refused: their rows can't be sent, or else for this cause.
 pub(crate) fn refused(
     alloc: Global,
     rows: bool,

@@ -74,7 +74,7 @@ fn too_large(
     refused(alloc, rows, answer, cause)
 }
 
-/// Statements changed pages: the transaction takes the turn, where nothing hinders it.
+/// Statements changed pages: the transaction takes the write lock, if nothing hinders it.
 fn work(
     setting: &DecisionContext,
     sessions: &[Session],
@@ -112,8 +112,8 @@ fn work(
     }
 }
 
-/// What statements come to that ran in a transaction, over its own image: they are answered, and the transaction takes the turn to write with
-/// the first that changes pages, where nothing hinders it; the number is that of its working image then.
+/// The outcome of statements that ran in a transaction, over its own image: they are answered, and the transaction takes the write lock with
+/// the first that changes pages, if nothing hinders it; the number is that of its working image then.
 pub(crate) fn decision_inside(
     setting: &DecisionContext,
     sessions: &[Session],

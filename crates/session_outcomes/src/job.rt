@@ -31,7 +31,7 @@ pub struct ReadJob {
     pub image: Arc<Image, Global>,
     /// The query.
     pub query: Query,
-    /// The most steps that it may take, where there is a limit. Clauses don't see it.
+    /// The most steps that it may take, if there is a limit. Clauses don't see it.
     pub limit: Option<u64>,
 }
 
@@ -44,7 +44,7 @@ impl Model for ReadJob {
     ghost view = { λ j. record { name = j.name; image = arc_value j.image; statement = j.query } };
 }
 
-/// What a reader tells of its job.
+/// What a reader says of its job.
 #[derive(Drop)]
 pub enum Read {
     /// The rows that answer the query.
@@ -76,7 +76,7 @@ fn run_query<E: Engine>(engine: &mut E, image: &Image, query: &Query, limit: Opt
     run_unnumbered(engine, image, query.text(), query.params(), options)
 }
 
-/// What is told of a query that ended so.
+/// What is reported of a query that ended so.
 fn read_of(alloc: Global, ending: Ending) -> Result<Read, AllocError>
     requires { IsWellFormed ending }
     ensures { (tx : ℕ) (job : Job) (ended : engines.Ending) → Shows tx job.image ended ending → IfOk result (λ read. job_reply job ended ≡ read_named read) }
@@ -93,8 +93,8 @@ fn read_of(alloc: Global, ending: Ending) -> Result<Read, AllocError>
     }
 }
 
-/// Runs a job by an engine of the reader's own, which forgets all numbers of images: what is told of it, or that the query goes
-/// back to the node, where it would change pages. The image isn't copied. `Err` means out of memory; the job then stands.
+/// Runs a job by an engine of the reader's own, which forgets all numbers of images: what is reported of it, or that the query goes
+/// back to the node, if it would change pages. The image isn't copied. `Err` means out of memory; the job then stands.
 fn run_job<E: Engine>(alloc: Global, job: &ReadJob, engine: &mut E) -> Result<Read, AllocError>
     ensures stays { Stays (E.kind engine.old) (E.kind engine.new) (E.refused_openings engine.old) (E.refused_openings engine.new) }
     ensures ran { IfOk result (TellsJob (E.meaning (E.kind engine.old)) (E.kind engine.old) job.now (E.told engine.old) (E.told engine.new)) }
@@ -104,7 +104,7 @@ fn run_job<E: Engine>(alloc: Global, job: &ReadJob, engine: &mut E) -> Result<Re
     read_of(alloc, ending)
 }
 
-/// What is told of a query, which goes back to the node exactly where memory ran out.
+/// What is reported of a query, which goes back to the node exactly if memory ran out.
 fn or_back(told: Result<Read, AllocError>) -> Read
     ensures { MatchResult told (λ read. result ≡ read) (λ _. result ≡ reads.GivenBack) }
 {
@@ -114,8 +114,8 @@ fn or_back(told: Result<Read, AllocError>) -> Read
     }
 }
 
-/// Runs a query over the image that goes with it, and tells what it comes to there: rows, a refusal, or that the node is to run it, as it
-/// would change pages. Where memory runs out the node is to run it too. The image isn't copied.
+/// Runs a query over the image that goes with it, and tells its outcome there: rows, a refusal, or that the node is to run it, as it
+/// would change pages. If memory runs out the node is to run it too. The image isn't copied.
 ///
 /// The job's limit of steps bounds how long the query takes.
 pub fn answer_read<E: Engine>(alloc: Global, job: &ReadJob, engine: &mut E) -> Read

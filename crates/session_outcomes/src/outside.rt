@@ -60,7 +60,7 @@ fn too_large(
     refused(alloc, rows, answer, cause)
 }
 
-/// Statements changed pages: a write is proposed, where nothing hinders it.
+/// Statements changed pages: a write is proposed, if nothing hinders it.
 fn write(
     setting: &DecisionContext,
     sessions: &[Session],
@@ -98,8 +98,8 @@ fn write(
     }
 }
 
-/// What statements come to that ran outside a transaction, over the newest image of their session's database, whose name this
-/// is: they are answered, where they changed no page; else a write is proposed, where nothing hinders it.
+/// The outcome of statements that ran outside a transaction, over the newest image of their session's database, whose name this
+/// is: they are answered, if they changed no page; else a write is proposed, if nothing hinders it.
 pub(crate) fn decision_outside(
     setting: &DecisionContext,
     sessions: &[Session],

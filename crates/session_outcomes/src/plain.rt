@@ -46,7 +46,7 @@ fn opening_entry(alloc: Global, term: u64, name: &Name) -> Result<Entry, AllocEr
     })
 }
 
-/// The index behind the last one of a log that has room.
+/// The index after the last one of a log that has room.
 fn next_index(view: &View) -> u64
     requires { limits.log_full view.now ≡ false }
     ensures { result ≡ view.now.last + 1 }
@@ -54,7 +54,7 @@ fn next_index(view: &View) -> u64
     view.last + 1
 }
 
-/// The proposal of a new database, with barrier reads or not, where the log has room.
+/// The proposal of a new database, with barrier reads or not, if the log has room.
 fn opening(alloc: Global, view: &View, name: Name, barriers: bool) -> Result<Decision, AllocError>
     requires { limits.log_full view.now ≡ false }
     ensures works { IfOk result (λ decision. (tx : Option TransactionValue) → work_in decision tx ≡ []) }
@@ -121,7 +121,7 @@ pub fn beginning(sessions: &[Session], conn: u64, session: &Session, at_once: bo
     Decision::Begins(true)
 }
 
-/// What comes of PREPARE, where there is room for one more statement.
+/// What comes of PREPARE, if there is room for one more statement.
 #[tactic(auto, unfolding(session_spec::specs::Requests::does))]
 pub fn preparing(session: &Session, prepared: Prepared, tail: Option<u64>) -> Decision
     requires { statements.free_id session.now.statements.items < 64 }
@@ -140,7 +140,7 @@ pub fn preparing(session: &Session, prepared: Prepared, tail: Option<u64>) -> De
     Decision::Answers(Change::Prepares(prepared), reply)
 }
 
-/// What comes of FINALIZE, where the statement is there.
+/// What comes of FINALIZE, if the statement is there.
 #[tactic(auto, unfolding(session_spec::specs::Requests::does))]
 pub fn finalizing(session: &Session, id: u32) -> Decision
     requires { IsSome (statements.prepared_at session.now.statements.items id) }

@@ -47,7 +47,7 @@ fn refusal_by_limits(
     change_refusal(alloc, machine, sessions, conn, name.as_str(), mark, pages)
 }
 
-/// The same of the pages that statements changed.
+/// What hinders the change by the pages that statements changed.
 pub(crate) fn refused_change(
     alloc: Global,
     machine: &Machine,

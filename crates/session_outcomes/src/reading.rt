@@ -1,5 +1,5 @@
-//! Queries: statements whose rows are told. One waits for a barrier, where its connection asked for that; one that the engine
-//! cuts off is lent to a reader, where there are readers.
+//! Queries: statements whose rows are reported. One waits for a barrier, if its connection asked for that; one that the engine
+//! cuts off is lent to a reader, if there are readers.
 
 ghost use Rattle.std.specs.Prelude.{◌≡◌, ◌<◌, ◌≤◌, ◌+◌, ◌++◌, ◌∷◌, ◌&&◌, [], ℕ, List, true, false, suc, is_none, map, Some, IsSome, IfOk};
 ghost use Rattle.sql_engine.specs.Meanings.{Stays};
@@ -88,7 +88,7 @@ fn was_cut(ending: &Ending) -> bool
     }
 }
 
-/// Whether a query that ended so is lent to a reader: outside a transaction, where there are readers.
+/// Whether a query that ended so is lent to a reader: outside a transaction, if there are readers.
 fn is_lent(view: &View, session: &Session, ending: &Ending) -> bool
     ensures { result ≡ (is_none session.now.transaction && (view.now.readers && cut_off ending.now)) }
 {
@@ -101,7 +101,7 @@ fn is_lent(view: &View, session: &Session, ending: &Ending) -> bool
     was_cut(ending)
 }
 
-/// A query as a reader's job, over the newest image of the session's database, which the machine shares where it keeps it whole;
+/// A query as a reader's job, over the newest image of the session's database, which the state machine shares where it keeps it whole;
 /// else it is copied.
 fn job(setting: &DecisionContext, session: &Session, query: &Query) -> Result<ReadJob, AllocError>
     requires { IsSome session.now.database }
@@ -144,7 +144,7 @@ fn lent(
     Ok(Decision::Lends(query, job))
 }
 
-/// What a query that ran comes to: where the engine cut it off, and it may be lent, a reader runs it.
+/// The outcome of a query that ran: if the engine interrupted it, and it may be lent, a reader runs it.
 fn decision_of_query(
     setting: &DecisionContext,
     sessions: &[Session],
@@ -181,7 +181,7 @@ fn query_limit(view: &View, session: &Session) -> Option<u64> {
     view.steps.statement
 }
 
-/// What a query comes to that the node runs now.
+/// The outcome of a query that the node runs now.
 fn read_now<E: Engine>(
     setting: &DecisionContext,
     sessions: &[Session],
@@ -222,8 +222,8 @@ fn read_now<E: Engine>(
     decision_of_query(setting, sessions, session, text, params, ending)
 }
 
-/// What a query comes to at a session of a node that serves. Outside a transaction, where its connection asked for barrier reads, it
-/// waits for a barrier, and nothing is run now. Else it runs, as `run_single` runs a statement; where the engine cuts it off outside
+/// The outcome of a query at a session of a node that serves. Outside a transaction, if its connection asked for barrier reads, it
+/// waits for a barrier, and nothing is run now. Else it runs, as `run_single` runs a statement; if the engine interrupts it outside
 /// a transaction, and the node has readers, it is lent to one of them, with the newest image of the database. Nothing has changed
 /// yet. Text and parameters are moved.
 #[tactic(auto, unfolding(session_spec::specs::Requests::does))]
@@ -240,7 +240,7 @@ pub fn read_statement<E: Engine>(
     requires served { IsServed setting.now.view.now (session_of setting.now.machine.now session.now) }
     requires own { AreAmong (works_of sessions.now) (work_of session.now.transaction) }
     requires agree { Agree (E.known engine.old) (works_of sessions.now) setting.now.number (map numbered setting.now.machine.now) }
-    // No setting.now.number stands for two images then either, with the working image that the decision makes.
+    // No setting.now.number represents two images then either, with the working image that the decision makes.
     ensures agree { Agree (E.known engine.new) (works_in result session.now.transaction ++ works_of sessions.now) (setting.now.number + 1)
         (map numbered setting.now.machine.now) }
     ensures stays { Stays (E.kind engine.old) (E.kind engine.new) (E.refused_openings engine.old) (E.refused_openings engine.new) }

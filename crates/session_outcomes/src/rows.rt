@@ -1,4 +1,4 @@
-//! Rows that are to be told.
+//! Rows that are to be sent.
 
 ghost use Rattle.std.specs.Prelude.{IfOk};
 ghost use Rattle.sql_engine.specs.Replies.{IsTable};
@@ -9,7 +9,7 @@ use sql_engine::StatementResult;
 use std::alloc::{AllocError, Global};
 use wire_msgs::Response;
 
-/// The reply to statements that ran with this answer of the last: its rows, where these are to be told; or why they can't be.
+/// The reply to statements that ran with this answer of the last: its rows, if these are to be sent; or why they can't be.
 pub(crate) fn told(
     alloc: Global,
     rows: bool,

@@ -42,7 +42,7 @@ use sql_engine::{Engine, ImageNumbers};
 use std::alloc::AllocError;
 use wire_words::Value;
 
-/// How statements run with a limit of steps: for the transaction whose entries come next in the node's log, where that has room.
+/// How statements run with a limit of steps: for the transaction whose entries come next in the node's log, if that has room.
 pub(crate) fn next_run(view: &View, limit: Option<u64>) -> RunOptions
     ensures { view.now.term ≤ 4294967295 → limits.log_full view.now ≡ false → result.tx ≡ tx_of view.now.term (suc view.now.last) }
 {
@@ -52,7 +52,7 @@ pub(crate) fn next_run(view: &View, limit: Option<u64>) -> RunOptions
     }
 }
 
-/// Runs a statement over an image under its number, where it has one, and the number that was drawn for the image after; an engine
+/// Runs a statement over an image under its number, if it has one, and the number that was drawn for the image after; an engine
 /// is told to forget all numbers where it has none.
 fn run_on<E: Engine>(
     engine: &mut E,
@@ -83,7 +83,7 @@ fn run_on<E: Engine>(
     }
 }
 
-/// Runs a statement over the newest image of the database of a name, which the machine lends: where it keeps that image whole
+/// Runs a statement over the newest image of the database of a name, which the state machine lends: if it keeps that image whole
 /// nothing is copied.
 fn run_lent<E: Engine>(
     setting: &DecisionContext,
@@ -211,7 +211,7 @@ fn run_statements<E: Engine>(
     }
 }
 
-/// The same at the session at a place.
+/// Runs statements at the session at a place.
 fn run_at<E: Engine>(
     setting: &DecisionContext,
     sessions: &mut [Session],
@@ -235,7 +235,7 @@ fn run_at<E: Engine>(
     run_statements(setting, session, script, params, options, engine)
 }
 
-/// What statements that ran come to at their session: in its transaction, or outside of one.
+/// The outcome of statements that ran at their session: in its transaction, or outside of one.
 pub(crate) fn decision_of(
     setting: &DecisionContext,
     sessions: &[Session],
@@ -268,9 +268,9 @@ pub(crate) fn decision_of(
     }
 }
 
-/// What a statement comes to that runs with these parameters, and whose rows are told or not, at a session of a node that serves.
+/// The outcome of a statement that runs with these parameters, and whose rows are reported or not, at a session of a node that serves.
 /// Nothing has changed yet. The number was drawn for the image that the statement leaves. No image is copied: outside a transaction
-/// the machine lends the newest one of the database, where it keeps that whole, and inside one the statement runs over its own.
+/// the state machine lends the newest one of the database, if it keeps that whole, and inside one the statement runs over its own.
 pub fn run_single<E: Engine>(
     setting: &DecisionContext,
     sessions: &[Session],
@@ -285,7 +285,7 @@ pub fn run_single<E: Engine>(
     requires served { IsServed setting.now.view.now (session_of setting.now.machine.now session.now) }
     requires own { AreAmong (works_of sessions.now) (work_of session.now.transaction) }
     requires agree { Agree (E.known engine.old) (works_of sessions.now) setting.now.number (map numbered setting.now.machine.now) }
-    // No setting.now.number stands for two images then either, with the working image that the decision makes.
+    // No setting.now.number represents two images then either, with the working image that the decision makes.
     ensures agree { Agree (E.known engine.new) (works_in result session.now.transaction ++ works_of sessions.now) (setting.now.number + 1)
         (map numbered setting.now.machine.now) }
     ensures stays { Stays (E.kind engine.old) (E.kind engine.new) (E.refused_openings engine.old) (E.refused_openings engine.new) }
@@ -301,7 +301,7 @@ pub fn run_single<E: Engine>(
     decision_of(setting, sessions, session, rows, ending)
 }
 
-/// What the statements of a text come to, which run one after another with as many parameters as each counts, and whose rows are
+/// The outcome of the statements of a text, which run one after another with as many parameters as each counts, and whose rows are
 /// dropped, at the session at a place, of a node that serves. The number was drawn for the image that they leave. Nothing has
 /// changed yet: the statements work on the transaction's image in place, and it is put back; outside a transaction they work so on
 /// a copy of the newest image of the database. Besides that copy, only pages are copied that they change.
@@ -319,7 +319,7 @@ pub fn run_script<E: Engine>(
     requires served { (own : SessionValue) → IsServed setting.now.view.now (session_of setting.now.machine.now (get_or sessions.old place own)) }
     requires fits { CanRun params.now (wanted.RunsAll script.now) }
     requires agree { Agree (E.known engine.old) (works_of sessions.old) setting.now.number (map numbered setting.now.machine.now) }
-    // No setting.now.number stands for two images then either, with the working image that the decision makes.
+    // No setting.now.number represents two images then either, with the working image that the decision makes.
     ensures agree { (own : SessionValue) → Agree (E.known engine.new) (works_in result (get_or sessions.old place own).transaction ++ works_of sessions.old)
         (setting.now.number + 1) (map numbered setting.now.machine.now) }
     ensures kept { sessions.new ≡ sessions.old }

@@ -84,7 +84,7 @@ pub fn changing(alloc: Global, view: &View, servers: &Servers) -> Result<Decisio
     proposed_alone(alloc, view, entry, ProposalKind::Configuring)
 }
 
-/// What comes of a query that waits for a barrier: the barrier, behind which the query is run; or a refusal where nothing more is
+/// What comes of a query that waits for a barrier: the barrier, after which the query is run; or a refusal where nothing more is
 /// appended to the log.
 pub(crate) fn waiting(alloc: Global, view: &View, query: Query) -> Result<Decision, AllocError>
     ensures works { IfOk result (λ decision. (tx : Option TransactionValue) → work_in decision tx ≡ []) }

@@ -60,7 +60,7 @@ pub(crate) fn change_entries(
     entries(alloc, term, commands.as_slice())
 }
 
-/// The number of the transaction whose entries come next behind an index in a term; 0 where the two have no such number of
+/// The number of the transaction whose entries come next after an index in a term; 0 where the two have no number of
 /// 64 bits: the term is above 4,294,967,295, or the index is not below it.
 #[tactic(auto, unfolding(session_spec::specs::Entries::tx_of))]
 pub(crate) fn transaction_number(term: u64, last: u64) -> u64

@@ -1,4 +1,4 @@
--- A text with a fault can't be cut into statements, for the cause that the fault is.
+-- A text with a fault can't be split into statements, for the cause that the fault is.
 use Rattle.std.proofs.Common.{◌≡◌, ◌≢◌, List, Result, Err, refl}
 use Rattle.sql_scan.specs.declared.fault.ScanFault.{ScanFault}
 use Rattle.sql_scan.specs.declared.fault.ScanFault.TheVariants.{OpenQuote, OpenComment, Named, Number, NoMemory}

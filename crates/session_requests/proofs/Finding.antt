@@ -13,7 +13,7 @@ one_named : (b rest : Bool) (d : Database) (o : Option Database) → rest ≡ is
 one_named true rest d o e = refl
 one_named false rest d o e = e
 
--- a name is one of the databases' exactly where a database has it
+-- a name is one of the databases' exactly if a database has it
 pub named_there : (name : List ℕ) (databases : List Database) → is_named (names_of databases) name ≡ is_some (named name databases)
 named_there name [] = refl
 named_there name (d ∷ ds) = one_named (bytes_eq name d.name) (is_named (names_of ds) name) d (named name ds) (named_there name ds)

@@ -8,7 +8,7 @@ use Rattle.database_state.specs.ByName.{at_name}
 use Rattle.session_spec.specs.Machine.{with_name}
 use Rattle.session_requests.specs.Looking.{BelongsAt}
 
--- what was found so far: the name isn't among the first names, and it belongs behind them
+-- what was found so far: the name isn't among the first names, and it belongs after them
 abbrev pub SoFar : List ℕ → List (List ℕ) → ℕ → Type 0
 SoFar name names i = with_name name names ≡ take i names ++ with_name name (drop i names)
 

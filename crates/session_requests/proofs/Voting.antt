@@ -1,4 +1,4 @@
--- Servers that vote, and changes of the cluster in flight.
+-- Servers that vote, and changes of the cluster pending.
 use Rattle.std.proofs.Common.{◌≡◌, ℕ, Bool, true, false, cond, ◌&&◌, ◌||◌, List, [], ◌∷◌, map, refl, ap, ◌∙◌}
 use Rattle.std.specs.Prelude.{◌==◌}
 use Rattle.std.specs.List.{list_any, filter}

@@ -21,7 +21,7 @@ pub record StandsAt (id : ℕ) (servers : List Server) (place : ℕ) : Type 0 wh
   pub within : place ≤ length servers
   pub joined : (new : Server) → new.id ≡ id → with_server new servers ≡ insert servers place new
 
--- a session's change of the cluster is in flight
+-- a session's change of the cluster is pending
 abbrev pub is_changing : Session → Bool
 is_changing s = is_configuring s.flight
 
@@ -33,7 +33,7 @@ votes_as id server = (server.role == 0) && (server.id == id)
 abbrev pub pages_beside : Machine → Gateway → List ℕ → List ℕ → ℕ
 pages_beside m g name other = if bytes_eq other name then 0 else held_pages m g other
 
--- how many bytes so many fill up to a whole word
+-- how many bytes this many fill up to a whole word
 abbrev pub padded : ℕ → ℕ
 padded n = (n + 7) / 8 * 8
 

@@ -52,12 +52,12 @@ abbrev pub planned_or : List Value → Option RequestPlan → Asked → Asked
 planned_or params None asked = asked
 planned_or params (Some wanted) asked = meant params wanted
 
--- The statements of a text, which stand in it; or the cause for which it can't be cut into statements.
+-- The statements of a text, which are in it; or the cause for which it can't be split into statements.
 abbrev pub CutInto : List ℕ → Result (List StatementSpan) Cause → Type 0
 CutInto sql (Ok pieces) = (scan_of sql ≡ Ok pieces) × All (StandsIn sql) pieces
 CutInto sql (Err cause) = (fault : ScanFault) × (scan_of sql ≡ Err fault) × (cause_named cause ≡ scan_cause fault)
 
--- what is asked, where it isn't refused for a cause
+-- what is asked, if it isn't refused for a cause
 abbrev pub refused_by : Option Cause → Asked → Asked
 refused_by None asked = asked
 refused_by (Some cause) asked = rules.Never (cause_named cause)
@@ -67,7 +67,7 @@ abbrev pub hinders_named : Option Cause → Option RuleCause
 hinders_named None = None
 hinders_named (Some cause) = Some (cause_named cause)
 
--- the statements stand in their text, and want as many parameters as there are
+-- the statements are in their text, and want as many parameters as there are
 abbrev pub CanRun : List Value → RequestPlan → Type 0
 CanRun params (wanted.RunsAll script) = All (StandsIn script.text) script.pieces × (wants script.pieces ≡ length params)
 CanRun params wanted = Unit {0}
@@ -98,7 +98,7 @@ abbrev pub IsPlainCause : RuleCause → Type 0
 IsPlainCause rule_causes.NotADatabase = ⊥
 IsPlainCause cause = Unit {0}
 
--- What the rules ask for is asked only where this holds: of a refusal, that it needs no engine; of a new database, that the log has
+-- What the rules ask for is asked only if this holds: of a refusal, that it needs no engine; of a new database, that the log has
 -- room; of other servers, that the node serves and that they differ in one; of what is done in the session's database, that it is
 -- served; and of a transaction, that none is open where it begins, and one where it ends with its changes.
 abbrev pub IsAllowed : View → Session → Asked → Type 0

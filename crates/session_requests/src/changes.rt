@@ -36,7 +36,7 @@ pub(crate) fn change_hindrance(view: &View, sessions: &[Session]) -> Option<Caus
     None
 }
 
-/// Whether a server of this id stands in front of another one.
+/// Whether a server of this id is in front of another one.
 fn is_in_front(id: u64, server: &Server) -> bool
     ensures { result ≡ nat_lt id server.now.id }
 {

@@ -103,7 +103,7 @@ pub(crate) fn wanted_by_describe(weight: u64, format: u64) -> RequestPlan
     }
 }
 
-/// A server as it is told, with its role or not.
+/// A server as it is sent, with its role or not.
 fn info_of(alloc: Global, roles: bool, server: &Server) -> Result<NodeInfo, AllocError>
     ensures { IfOk result (λ info. info ≡ rules.info_of roles server.now) }
 {
@@ -230,7 +230,7 @@ fn is_change(kind: &ProposalKind) -> bool
     }
 }
 
-/// Whether a session's change of the cluster is in flight.
+/// Whether a session's change of the cluster is pending.
 fn is_changing(session: &Session) -> bool
     ensures { result ≡ is_changing session.now }
 {
@@ -240,7 +240,7 @@ fn is_changing(session: &Session) -> bool
     }
 }
 
-/// Whether some session's change of the cluster is in flight.
+/// Whether some session's change of the cluster is pending.
 pub(crate) fn change_in_flight(sessions: &[Session]) -> bool
     requires { AreApart sessions.now }
     ensures { (databases : List Database) (weight : ℕ) → result ≡ limits.change_in_flight (table_of databases sessions.now weight) }

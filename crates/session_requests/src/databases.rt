@@ -31,7 +31,7 @@ pub(crate) fn has_database(session: &Session) -> bool
     }
 }
 
-/// The text as a name, where it may be one. It holds no NUL.
+/// The text as a name, if it may be one. It holds no NUL.
 fn name_of(alloc: Global, text: &str) -> Result<Option<Name>, AllocError>
     requires { has_nul text.now ≡ false }
     ensures { IfOk result (λ name. MatchOption name (rules.is_name text.now ≡ false) (λ name. (rules.is_name text.now ≡ true) × (name ≡ text.now))) }
@@ -39,7 +39,7 @@ fn name_of(alloc: Global, text: &str) -> Result<Option<Name>, AllocError>
     Ok(Name::new(String::from_str(alloc, text)?))
 }
 
-/// The database of a name, lent; `None` exactly where there is none. Looks at the databases.
+/// The database of a name, lent; `None` exactly without one. Looks at the databases.
 pub fn database_named<'a>(databases: &'a [Database], name: &str) -> Option<&'a Database>
     ensures { MatchOption result (named name.now databases.now ≡ None) (λ database. named name.now databases.now ≡ Some database.now) }
 {
@@ -107,7 +107,7 @@ pub(crate) fn wanted_by_open(
     wanted_by_new(alloc, view, machine, sessions, name, barriers)
 }
 
-/// So many bytes up to a whole word, as far as a number of 64 bits counts.
+/// This many bytes up to a whole word, as far as a number of 64 bits counts.
 fn padded(bytes: u64) -> u64
     ensures { result ≡ min (padded bytes) (2 ^ 64 - 1) }
 {
@@ -139,7 +139,7 @@ fn side_name(alloc: Global, name: &str) -> Result<String, AllocError>
     Ok(side)
 }
 
-/// The files of a database as they are told.
+/// The files of a database as they are sent.
 fn files_of(alloc: Global, name: &str, image: Image) -> Result<Response, AllocError>
     ensures { IfOk result (λ response. response ≡ rules.files_of name.now image) }
 {

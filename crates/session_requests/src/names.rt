@@ -35,7 +35,7 @@ fn place_of(names: &[Name], name: &Name) -> Result<usize, usize>
     Err(names.len())
 }
 
-/// Puts a name among names that ascend, where it isn't there.
+/// Puts a name among names that ascend, if it isn't there.
 fn add_name(alloc: Global, names: &mut Vec<Name>, name: &Name) -> Result<(), AllocError>
     ensures { OnOk result (names.new.items ≡ with_name name.now names.old.items) }
 {

@@ -30,7 +30,7 @@ fn newest_pages(machine: &Machine, name: &str) -> u64
     }
 }
 
-/// The pages of a database: of its newest image, or of its proposal in flight, whichever has more.
+/// The pages of a database: of its newest image, or of its pending proposal, whichever has more.
 fn held_pages(machine: &Machine, sessions: &[Session], name: &str) -> u64
     requires { AreApart sessions.now }
     ensures { (weight : ℕ) → result ≡ limits.held_pages (machine_of machine.now) (table_of machine.now sessions.now weight) name.now }
@@ -72,7 +72,7 @@ fn is_full(own: u64, others: u64) -> bool
 }
 
 /// Whether all databases would have more than 16,384 pages together, those that are proposed counted, if the one of a name had
-/// so many. Looks at each session for each database.
+/// this many. Looks at each session for each database.
 pub fn pages_full(
     alloc: Global,
     machine: &Machine,

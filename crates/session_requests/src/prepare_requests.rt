@@ -16,7 +16,7 @@ use session_table::{Cause, MAX_STATEMENTS, Prepared, Session, prepared_count};
 use sql_scan::StatementSpan;
 use std::alloc::{AllocError, Global};
 
-/// What preparing a statement wants, with the place of the rest of its text where that is told.
+/// What preparing a statement wants, with the place of the rest of its text where that is reported.
 fn with_room(session: &Session, prepared: Prepared, tail: Option<u64>) -> RequestPlan
     ensures wants { (databases : List Database) → meant [] result ≡ rules.with_room (session_of databases session.now) prepared tail }
     ensures can { FitsStatements session.now.statements.items [] result }
@@ -28,7 +28,7 @@ fn with_room(session: &Session, prepared: Prepared, tail: Option<u64>) -> Reques
     }
 }
 
-/// The place of the rest of a text behind a statement, where that is told.
+/// The place of the rest of a text after a statement, if that is reported.
 fn tail_of(wide: bool, piece: &StatementSpan) -> Option<u64>
     ensures { result ≡ rules.tail_of wide piece.now }
 {

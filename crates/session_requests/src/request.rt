@@ -29,7 +29,7 @@ use wire_words::{Value, WireText};
 /// The flag of OPEN that asks for barrier reads.
 const BARRIERS: u64 = 4_294_967_296;
 
-/// The parameters of a request; none where it has no place for them.
+/// The parameters of a request; none if it has no place for them.
 pub fn params_of(request: &Request) -> &[Value]
     ensures { result.now ≡ params_of request.now }
 {
@@ -142,7 +142,7 @@ fn transfers(view: &View, id: u64) -> RequestPlan
     wanted_by_transfer(view, id)
 }
 
-/// The same as `wanted_by` of a session without a lost transaction, by the type of the request.
+/// What `wanted_by` answers of a session without a lost transaction, by the type of the request.
 #[tactic(auto, unfolding(session_spec::specs::Asking::asked_unless_lost))]
 fn ask(
     alloc: Global,
@@ -236,7 +236,7 @@ fn ask(
 }
 
 /// What a request wants of a session, at a node with this view, these databases, these sessions and this weight: its refusal,
-/// where one of those that need no engine comes, the first of them; or what is to be done. The name of a database that it
+/// if one of those that need no engine comes, the first of them; or what is to be done. The name of a database that it
 /// opens holds no NUL.
 ///
 /// Costs in the order of the request's bytes and of the sessions; for a prepared statement also in that of its text, which is

@@ -1,4 +1,4 @@
-//! Statements that are prepared already, or stand alone in their text.
+//! Statements that are prepared already, or are alone in their text.
 
 ghost use Rattle.std.specs.Prelude.{◌≡◌, [], ◌∷◌};
 ghost use Rattle.session_spec.specs.Asking as rules;
@@ -71,7 +71,7 @@ fn wanted_by_kind(
     }
 }
 
-/// What one statement wants whose rows are dropped, where a transaction is open or none is, and where this hinders a write.
+/// What one statement wants whose rows are dropped, if a transaction is open or none is, and if this hinders a write.
 pub(crate) fn wanted_by_one(
     hinders: Option<Cause>,
     inside: bool,
@@ -91,7 +91,7 @@ pub(crate) fn wanted_by_one(
     wanted_by_kind(hinders, inside, prepared, params)
 }
 
-/// What one statement wants whose rows are told, where this hinders a write.
+/// What one statement wants whose rows are reported, if this hinders a write.
 pub(crate) fn wanted_by_reading(
     hinders: Option<Cause>,
     prepared: Prepared,
@@ -112,7 +112,7 @@ pub(crate) fn wanted_by_reading(
     }
 }
 
-/// What an EXEC of a prepared statement wants, where a transaction is open or none is, and where this hinders a write. The
+/// What an EXEC of a prepared statement wants, if a transaction is open or none is, and if this hinders a write. The
 /// statement is that of the request's number, if there is one.
 pub(crate) fn wanted_by_exec(
     hinders: Option<Cause>,
@@ -129,7 +129,7 @@ pub(crate) fn wanted_by_exec(
     }
 }
 
-/// What a QUERY of a prepared statement wants, where this hinders a write.
+/// What a QUERY of a prepared statement wants, if this hinders a write.
 pub(crate) fn wanted_by_query(
     hinders: Option<Cause>,
     statement: Option<Prepared>,

@@ -21,7 +21,7 @@ use sql_scan::{ScanFault, StatementSpan, scan};
 use std::alloc::{AllocError, Global};
 use wire_words::{Value, WireText};
 
-/// The statement that stands at a place of a text, copied.
+/// The statement that is at a place of a text, copied.
 pub(crate) fn prepared_from(
     alloc: Global,
     sql: &str,
@@ -38,7 +38,7 @@ pub(crate) fn prepared_from(
     })
 }
 
-/// Why a text with a fault can't be cut into statements. `Err` means out of memory, where that is the fault.
+/// Why a text with a fault can't be split into statements. `Err` means out of memory, if that is the fault.
 fn scan_refusal(fault: ScanFault) -> Result<Cause, AllocError>
     ensures cause { IfOk result (λ cause. (fault ≢ NoMemory) × (cause_named cause ≡ scan_cause fault)) }
     ensures gives_up { IsErr result → fault ≡ NoMemory }
@@ -52,7 +52,7 @@ fn scan_refusal(fault: ScanFault) -> Result<Cause, AllocError>
     }
 }
 
-/// The statements of a text; or why it can't be cut into statements.
+/// The statements of a text; or why it can't be split into statements.
 pub(crate) fn cut(
     alloc: Global,
     sql: &str,
@@ -72,7 +72,7 @@ fn is_sole(pieces: &[StatementSpan]) -> bool
     pieces.len() == 1
 }
 
-/// What several statements want, or none, where this hinders a write.
+/// What several statements want, or none, if this hinders a write.
 fn wanted_by_several(
     alloc: Global,
     hinders: Option<Cause>,
@@ -99,7 +99,7 @@ fn wanted_by_several(
     }
 }
 
-/// What the statements of a text want whose rows are dropped, where this hinders a write.
+/// What the statements of a text want whose rows are dropped, if this hinders a write.
 fn wanted_by_pieces(
     alloc: Global,
     hinders: Option<Cause>,
@@ -121,7 +121,7 @@ fn wanted_by_pieces(
     Ok(wanted)
 }
 
-/// What an EXEC_SQL wants by its text and parameters, where a transaction is open or none is, and where this hinders a write.
+/// What an EXEC_SQL wants by its text and parameters, if a transaction is open or none is, and if this hinders a write.
 pub(crate) fn wanted_by_text(
     alloc: Global,
     hinders: Option<Cause>,
@@ -141,7 +141,7 @@ pub(crate) fn wanted_by_text(
     }
 }
 
-/// What the statements of a text want where one is to be, whose rows are told, and where this hinders a write.
+/// What the statements of a text want where one is to be, whose rows are reported, and if this hinders a write.
 fn wanted_by_sole(
     alloc: Global,
     hinders: Option<Cause>,
@@ -162,7 +162,7 @@ fn wanted_by_sole(
     Ok(RequestPlan::Never(Cause::OneStatementWanted))
 }
 
-/// What a QUERY_SQL wants by its text and parameters, where this hinders a write.
+/// What a QUERY_SQL wants by its text and parameters, if this hinders a write.
 pub(crate) fn wanted_by_rows(
     alloc: Global,
     hinders: Option<Cause>,

@@ -8,11 +8,11 @@ use raft_messages::Servers;
 use session_table::MAX_INDEX;
 use std::marker::Model;
 
-/// How many steps statements may take, where there is a limit; an engine gives up one that would take more. Clauses see none of
+/// How many steps statements may take, if there is a limit; an engine gives up one that would take more. Clauses see none of
 /// it: which answers an engine may give they say for any limit.
 #[derive(Clone, Copy)]
 pub struct StepLimits {
-    /// A query outside a transaction, where a reader can take it over.
+    /// A query outside a transaction, if a reader can take it over.
     pub query: Option<u64>,
     /// Any other statement.
     pub statement: Option<u64>,
@@ -47,9 +47,9 @@ pub struct View {
     pub last: u64,
     /// The servers of the applied configuration, ascending by id.
     pub servers: Servers,
-    /// Whether it has links to other nodes.
+    /// Whether it has peer connections to other nodes.
     pub links: bool,
-    /// Whether readers answer queries beside it.
+    /// Whether readers answer queries concurrently with it.
     pub readers: bool,
     /// At a leader, the peers whose log is known to reach its last index.
     pub even: Items<u64>,

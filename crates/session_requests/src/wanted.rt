@@ -10,11 +10,11 @@ use wire_words::WireText;
 pub struct Script {
     /// The text.
     pub text: WireText,
-    /// Where they stand in it.
+    /// Where they are in it.
     pub pieces: Items<StatementSpan>,
 }
 
-/// What a request does beside the sessions. It is answered by EMPTY.
+/// What a request does outside the sessions. It is answered by EMPTY.
 #[derive(Clone, Copy, Debug, PartialEq, Eq)]
 pub enum ClusterEffect {
     /// Leadership is handed to the server of this id.
@@ -32,7 +32,7 @@ pub enum RequestPlan {
     Never(Cause),
     /// A response, and nothing else.
     Tells(Response),
-    /// Something beside the sessions.
+    /// Something outside the sessions.
     Sets(ClusterEffect),
     /// A database that is there, with barrier reads or not.
     Opens(Name, bool),
@@ -40,13 +40,13 @@ pub enum RequestPlan {
     Creates(Name, bool),
     /// Other servers of the cluster.
     Changes(Servers),
-    /// A statement is to be prepared, with the place of the rest of its text where that is told.
+    /// A statement is to be prepared, with the place of the rest of its text where that is reported.
     Prepares(Prepared, Option<u64>),
     /// A prepared statement is to be let go.
     Drops(u32),
     /// A lost transaction ends, and its client gets this response.
     Forgets(Response),
-    /// A transaction begins, at once with the turn to write or not.
+    /// A transaction begins, at once with the write lock or not.
     Begins(bool),
     /// The transaction ends with its changes.
     Commits,
@@ -56,6 +56,6 @@ pub enum RequestPlan {
     RunsOne(Prepared),
     /// Statements run one after another, and their rows are dropped.
     RunsAll(Script),
-    /// A statement runs with all parameters, and its rows are told.
+    /// A statement runs with all parameters, and its rows are reported.
     Reads(Prepared),
 }

@@ -16,7 +16,7 @@ use dq_base::Name;
 use session_table::{Cause, Session, name_of, newest_of, other_holds};
 use sql_scan::{StatementSpan, WordKind};
 
-/// Whether the session of another connection has the turn to write of the database of a name.
+/// Whether the session of another connection has the write lock of the database of a name.
 fn is_held(sessions: &[Session], conn: u64, name: &Name) -> bool
     requires { AreApart sessions.now }
     ensures { (databases : List Database) (weight : ℕ) → result ≡ limits.other_holds (table_of databases sessions.now weight) conn name.now }
@@ -43,7 +43,7 @@ fn hindrance_outside(sessions: &[Session], conn: u64, name: &str) -> Option<Caus
     None
 }
 
-/// What hinders a write in a transaction, which began when the database of a name had so many commits.
+/// What hinders a write in a transaction, which began when the database of a name had this many commits.
 fn hindrance_inside(
     machine: &Machine,
     sessions: &[Session],
@@ -65,7 +65,7 @@ fn hindrance_inside(
     None
 }
 
-/// What hinders a write of a session before an engine runs it: another session has the turn to write, or its transaction's image
+/// What hinders a write of a session before an engine runs it: another session has the write lock, or its transaction's image
 /// is no longer the newest. Looks at each session.
 pub(crate) fn write_hindrance(
     machine: &Machine,
@@ -111,7 +111,7 @@ pub(crate) fn any_write(pieces: &[StatementSpan]) -> bool
     false
 }
 
-/// What hinders statements, where there is a write among them.
+/// What hinders statements, if there is a write among them.
 pub(crate) fn hindrance_of(hinders: Option<Cause>, writes: bool) -> Option<Cause>
     ensures { (asked : Asked) → (if writes then never_or (hinders_named hinders) asked else asked) ≡ refused_by result asked }
 {

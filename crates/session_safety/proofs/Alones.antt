@@ -101,7 +101,7 @@ plain_due : (ns : List (List ℕ)) → ArePlain true (map (λ (n : List ℕ). Do
 plain_due [] = tt
 plain_due (n ∷ ns) = (tt, plain_due ns)
 
--- where the node does not serve, a request appends nothing
+-- if the node does not serve, a request appends nothing
 idle_log : (w : Node) (c : ℕ) (standing : Standing) (x : Asked) (answers : List Answer) → IsIdle x → (called w c (does (view_of w standing) (databases w) w.gate c (w.gate.session c) x answers)).log ≡ w.log
 unfolding does
 idle_log w c standing (Never cause) answers h = refl

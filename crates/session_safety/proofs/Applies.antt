@@ -29,7 +29,7 @@ calm_next n k log c =
 db_empty : db ≡ empty → ⊥
 db_empty e = cc
 
--- a later index, where neither transaction nor proposal reads it
+-- a later index, if neither transaction nor proposal reads it
 tx_seen : (mean : Meaning) (log : List Entry) (t : Trail) (o : Option Transaction) (index : ℕ) → o ≡ None → TxIs mean log (record { seen = max t.seen index; at = t.at; ran = t.ran }) o
 tx_seen mean log t o index e = subst (TxIs mean log (record { seen = max t.seen index; at = t.at; ran = t.ran })) (sym e) tt
 
@@ -60,7 +60,7 @@ module _ (mean : Meaning) (log : List Entry) (applied term : ℕ) (within : suc 
       let f' : FlightOk mean log (suc applied) term t f = record { ahead = more; within = a.within; of_term = a.of_term; kind = a.kind; entry = a.entry } in
       record { at = omega arith; seen = omega arith; tx = tx; flight = subst (FlightIs mean log (suc applied) term t) (sym e) f'; apart = subst (λ x. Apart x s.tx) (sym e) apart; free = subst (IsFree t.seen t.at s.later) (sym e) free })
 
-  -- the write turn is free again, or is still held
+  -- the write lock is free again, or is still held
   pub turn_next : (s : Session) (t : Trail) (o : Option Flight) (n : List ℕ) → s.flight ≡ o → FlightIs mean log applied term t o → writes_to o n ≡ true → Calm n (suc applied) log ⊎ (writes_to (settled_by (suc applied) s o).flight n ≡ true)
   turn_next s t None n e a w = absurd (true≢false (sym w))
   turn_next s t (Some f) n e a w =

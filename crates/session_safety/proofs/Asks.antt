@@ -71,7 +71,7 @@ IsIdle (Changes servers) = ⊥
 IsIdle (Runs ss) = ⊥
 IsIdle (Reads s) = ⊥
 
--- where the node does not serve, this is all that is asked for
+-- if the node does not serve, this is all that is asked for
 pub idle_of : (v : View) (g : Gateway) (s : Session) (r : Request) (x : Asked) → v.serving ≡ false → IsAllowed v g s r x → IsIdle x
 idle_of v g s r (Never cause) off h = tt
 idle_of v g s r (Tells response) off h = tt
@@ -207,7 +207,7 @@ module _ (mean : Meaning) (standing : Standing) (w : Node) (a : NodeOk mean w) (
   run_in_ok kind None ss rows answers serves is one h = outside_ok ss rows _ serves is one (runs_ok mean kind ss _ no_answer answers h)
   run_in_ok kind (Some x) ss rows answers serves is one h = inside_ok x ss rows _ serves is one (runs_ok mean kind ss x.working no_answer answers h)
 
-  -- a query outside a transaction that was cut may be lent
+  -- a query outside a transaction that was interrupted may be lent
   read_in_ok : (kind : EngineKind) (o : Option Transaction) (s : Statement) (answers : List Answer) → w.serving ≡ true → (w.gate.session c).tx ≡ o → AllowsAll mean kind (ground (databases w) (w.gate.session c) o) (s ∷ []) answers → NodeOk mean (called w c (read_in (view_of w standing) (databases w) w.gate c (w.gate.session c) o s answers))
   read_in_ok kind o s answers serves is h =
       let k = a.sessions c in
@@ -226,7 +226,7 @@ module _ (mean : Meaning) (standing : Standing) (w : Node) (a : NodeOk mean w) (
       (λ y. record { tx = same ∙ (a.idle y c).tx; flight = off; due = ap is_due none })
       query
 
-  -- an effect beside the sessions
+  -- an effect outside the sessions
   affects_ok : (effect : Effect) → NodeOk mean (called w c (Affects effect))
   affects_ok (HandsOver id) = record { applied = a.applied; leads = a.leads; sessions = a.sessions; idle = a.idle; calm = a.calm; listed = a.listed; absent = a.absent; gone = a.gone; sole = a.sole; woven = a.woven; said = said_append mean (take w.applied w.log) w.said _ a.said (record { rows = tt; query = tt; commit = tt; ends = tt; entry = λ h. absurd (omega (arith, h)) }, tt) }
   affects_ok (JoinsPeer id) = record { applied = a.applied; leads = a.leads; sessions = a.sessions; idle = a.idle; calm = a.calm; listed = a.listed; absent = a.absent; gone = a.gone; sole = a.sole; woven = a.woven; said = said_append mean (take w.applied w.log) w.said _ a.said (record { rows = tt; query = tt; commit = tt; ends = tt; entry = λ h. absurd (omega (arith, h)) }, tt) }

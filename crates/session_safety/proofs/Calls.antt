@@ -179,7 +179,7 @@ module _ (mean : Meaning) (standing : Standing) (w : Node) (a : NodeOk mean w) (
   pub not_apart : (o : Option Transaction) → Apart (w.gate.session c).flight o
   not_apart o = subst (λ f. Apart f o) (sym free) tt
 
-  -- no other session writes where nobody else has the turn
+  -- no other session writes where no one else has the write lock
   pub others_off : (n : List ℕ) → other_holds w.gate c n ≡ false → (d : ℕ) → d ≢ c → writes_to (w.gate.session d).flight n ≡ false
   others_off n h d e = ⊎_elim
       (λ (t : (w.gate.session d).there ≡ true). holds_writes (w.gate.session d) n (none_holds w.gate c d n h e (a.listed d t)))

@@ -146,7 +146,7 @@ split_some name tx (suc more) pages = omega arith
 
 -- ---- commits are counted
 
--- where none was made, the image is the same
+-- if none was made, the image is the same
 pub record Counts (d e : Base) : Type 0 where
   pub up : d.newest ≤ e.newest
   pub same : e.newest ≡ d.newest → e.image ≡ d.image

@@ -1,4 +1,4 @@
--- What a request puts in flight comes behind the log's end.
+-- What a request puts pending comes after the log's end.
 use Rattle.std.proofs.Common.{◌≡◌, ℕ, ◌+◌, ◌<◌, Bool, true, false, List, [], ◌∷◌, length, refl, arith}
 use Rattle.std.specs.Prelude.{◌&&◌, Option, Some, None}
 use Rattle.std.proofs.lemmas.Bool.{cond_both}
@@ -18,7 +18,7 @@ use Rattle.session_spec.specs.Sessions.{Flight, Lent, Transaction, Session, Gate
 use Rattle.session_safety.proofs.Files.{split_some}
 use Rattle.session_safety.proofs.Ways.{read_in_both, barrier_both, reads_both, later_both}
 
--- an answer leaves nothing in flight and nothing to be answered, a proposal ends behind the log, and a query that is lent is yet to
+-- an answer leaves nothing pending and nothing to be answered, a proposal ends after the log, and a query that is lent is yet to
 -- be answered
 abbrev pub FlightNext : ℕ → Turned → Type 0
 FlightNext last (Refused cause) = Unit {0}

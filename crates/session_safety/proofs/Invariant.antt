@@ -42,7 +42,7 @@ abbrev pub TxIs : Meaning → List Entry → Trail → Option Transaction → Ty
 TxIs mean log t None = Unit {0}
 TxIs mean log t (Some x) = TxOk mean log t x
 
--- a write in flight
+-- a pending write
 pub record WriteOk (mean : Meaning) (log : List Entry) (t : Trail) (f : Flight) : Type 0 where
   pub calm : Calm f.name f.last log
   pub commit : CommitOk mean log (commit_of f t.ran)
@@ -71,7 +71,7 @@ IsOf (Writing reply) name content = IsResult reply
 IsOf Committing name content = Unit {0}
 IsOf (Querying statement) name content = Unit {0}
 
--- the last entry of a flight stands in the log
+-- the last entry of a pending proposal is in the log
 pub record LastOk (log : List Entry) (f : Flight) : Type 0 where
   pub content : Content
   pub stands : StandsAt log f.last f.term content
@@ -88,7 +88,7 @@ abbrev pub FlightIs : Meaning → List Entry → ℕ → ℕ → Trail → Optio
 FlightIs mean log applied term t None = Unit {0}
 FlightIs mean log applied term t (Some f) = FlightOk mean log applied term t f
 
--- a statement's write is in flight outside a transaction alone
+-- a statement's write is pending outside a transaction alone
 abbrev pub ApartBy : Kind → Option Transaction → Type 0
 ApartBy Opening o = Unit {0}
 ApartBy Configuring o = Unit {0}
@@ -100,7 +100,7 @@ abbrev pub Apart : Option Flight → Option Transaction → Type 0
 Apart None o = Unit {0}
 Apart (Some f) o = ApartBy f.kind o
 
--- where a query is yet to be answered, nothing is in flight; one that a reader runs is over an image that is no older than what its
+-- if a query waits for its answer, nothing is pending; one that a reader runs is over an image that is no older than what its
 -- connection has seen
 abbrev pub IsFree : ℕ → ℕ → Option Later → Option Flight → Type 0
 IsFree seen at None o = Unit {0}
@@ -118,7 +118,7 @@ free_flies seen at (Some (Lent statement)) f h = absurd (flies h.0)
     flies : Some f ≡ None → ⊥
     flies e = cc
 
--- nothing is in flight where a query is yet to be answered
+-- nothing is pending where a query waits for its answer
 pub free_later : (seen at : ℕ) (d : Option Later) (o : Option Flight) (s : Statement) → later_query d ≡ Some s → IsFree seen at d o → o ≡ None
 free_later seen at None o s e h = absurd cc
 free_later seen at (Some (Due statement)) o s e h = h
@@ -179,7 +179,7 @@ agree_append k xs ys h = record { right = omega (arith, length-append xs ys); sa
 pub agree_take : (k p : ℕ) (xs : List Entry) → k ≤ p → p ≤ length xs → Agree k xs (take p xs)
 agree_take k p xs h l = record { right = omega (arith, length-take-le p xs l); same = sym (take-take k p xs h) }
 
--- the log grows by entries that leave alone the databases of the writes in flight
+-- the log grows by entries that leave alone the databases of the pending writes
 pub calm_grown : (n : List ℕ) (k : ℕ) (log es : List Entry) → k ≤ length log → Free n es → Calm n k log → Calm n k (log ++ es)
 calm_grown n k log es h f c = record { free = free_grown k log es n h c.free f; still = ap (λ d. d.pending) (base_append log es k n h) ∙ c.still }
 

@@ -38,7 +38,7 @@ handed_join jobs (p ∷ xs) ys conn = handed_join (λ other. cond (p.0 == other)
 
 -- ---- what comes of a request
 
--- no query is lent; what is yet to be answered stays
+-- no query is lent; what waits for its answer stays
 abbrev LendsNone : Session → Turned → Type 0
 LendsNone own (Refused cause) = Unit {0}
 LendsNone own Lacks = Unit {0}
@@ -249,7 +249,7 @@ known_done jobs w c answers (Some s) k = known_read jobs w c s (told_at w c s an
 
 -- ---- other events
 
--- an entry is applied: a query is due behind its barrier, or none is yet to be answered
+-- an entry is applied: a query is due after its barrier, or none waits for its answer
 settled_query : (i : ℕ) (x : Session) (seen at : ℕ) (o : Option Flight) → IsFree seen at x.later o → (lent_query (settled_by i x o).later ≡ None) ⊎ ((settled_by i x o ≡ x) × ((t : Trail) → (trail_by i t o).at ≡ t.at))
 settled_query i x seen at None free = inr (refl, (λ t. refl))
 settled_query i x seen at (Some f) free =
@@ -270,7 +270,7 @@ still_query None = refl
 still_query (Some (Due statement)) = refl
 still_query (Some (Lent statement)) = refl
 
--- a client goes: nothing is lent to it, as what was in flight was no query at a reader
+-- a client goes: nothing is lent to it, as what was pending was no query at a reader
 left_query : (x : Session) (seen at : ℕ) (o : Option Flight) → IsFree seen at x.later o → lent_query (left x o).later ≡ None
 left_query x seen at None free = refl
 left_query x seen at (Some f) free = ap lent_query (free_flies seen at x.later f free)

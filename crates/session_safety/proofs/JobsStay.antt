@@ -84,7 +84,7 @@ call_job conn c s job w standing r answers low h =
     (λ e. other conn c s job w _ (λ z. some_none h.later (subst (λ d. (w.gate.session d).later ≡ None) (sym z) (none_is x.later (and_parts _ _ e).1))) low h)
     (λ e. h)
 
--- nothing of it is in flight
+-- nothing of it is pending
 settles : (i : ℕ) (x : Session) (o : Option Flight) → o ≡ None → settled_by i x o ≡ x
 settles i x None e = refl
 settles i x (Some f) e = absurd cc
@@ -93,7 +93,7 @@ trails : (i : ℕ) (t : Trail) (o : Option Flight) → o ≡ None → trail_by i
 trails i t None e = refl
 trails i t (Some f) e = absurd cc
 
--- where leadership is lost the reader goes on
+-- if leadership is lost the reader continues
 lost_job : (x : Session) (s : Statement) → x.later ≡ Some (Lent s) → x.hung ≡ false → ((lost x).later ≡ Some (Lent s)) × ((lost x).hung ≡ false) × ((lost x).database ≡ x.database)
 lost_job x s l here = cond_both x.hung absent _ (λ (z : Session). (z.later ≡ Some (Lent s)) × (z.hung ≡ false) × (z.database ≡ x.database)) (λ e. absurd (true≢false (sym e ∙ here))) (λ e. (ap still_lent l, here, refl))
 

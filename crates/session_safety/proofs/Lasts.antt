@@ -72,7 +72,7 @@ called_here w c (Proposes s contents note) = ([], sym (append-nil w.said), tt)
 abbrev pub Answers_here : Node → Node → Type 0
 Answers_here w v = (more : List Said) × (v.said ≡ w.said ++ more) × AllHere w v more
 
--- a query that is yet to be answered is run
+-- a query that waits for its answer is run
 lasts_resumed : (w : Node) (c : ℕ) (standing : Standing) (answers : List Answer) (o : Option Statement) → w.applied ≤ length w.log → Lasts w (resumed w c standing answers o)
 lasts_resumed w c standing answers None h = lasts_refl w
 lasts_resumed w c standing answers (Some s) h =

@@ -1,4 +1,4 @@
--- Queries that are yet to be answered: they are run, or a reader tells what it read.
+-- Queries that wait for their answers: they are run, or a reader says what it read.
 use Rattle.std.proofs.Common.{◌≡◌, inl, inr, ℕ, ◌≤◌, true, false, List, [], ◌∷◌, take, refl, sym, ap, ◌∙◌, subst, ⊎_elim, arith}
 use Rattle.std.specs.Prelude.{◌==◌, Option, Some, None}
 use Rattle.std.proofs.lemmas.List.{length-take-le}
@@ -52,7 +52,7 @@ pub undue_here : (w : Node) (c : ℕ) → (undue w c).gate.session c ≡ with_la
 unfolding with_session
 undue_here w c = cond-true (c == c) (with_later (w.gate.session c) None) (w.gate.session c) (eq-eqb c c refl)
 
--- a query that is yet to be answered is that of a session that is there
+-- a query that waits for its answer is that of a session that is there
 pub later_there : (mean : Meaning) (w : Node) (c : ℕ) (s : Statement) → later_query (w.gate.session c).later ≡ Some s → NodeOk mean w → (w.gate.session c).there ≡ true
 later_there mean w c s is a = ⊎_elim (λ (e : (w.gate.session c).there ≡ true). e) (λ (e : (w.gate.session c).there ≡ false). absurd (some_none is (ap later_query (a.gone c e)))) (cases_Bool (w.gate.session c).there)
 
@@ -67,7 +67,7 @@ module _ (mean : Meaning) (kind : EngineKind) where
       resumed_both (NodeOk mean) w c (outcome_later w c standing s answers) a
       (later_ok mean standing (undue w c) (undue_ok mean w c here none a) c (ap (λ (x : Session). x.flight) same ∙ none) (ap (λ (x : Session). x.there) same ∙ here) (ap (λ (x : Session). x.later) same) kind s answers h)
 
-  -- what a reader tells is what the query may give over its image
+  -- what a reader answers is what the query may give over its image
   abbrev ReplyIs : Node → ℕ → Statement → Option Reply → Type 0
   ReplyIs w c s None = Unit {0}
   ReplyIs w c s (Some reply) = QueryIs mean (take w.applied w.log) (query_for reply (w.gate.session c).database (w.trail c).at [] (s ∷ []) (w.trail c).seen)

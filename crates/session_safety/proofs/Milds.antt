@@ -159,7 +159,7 @@ change_mild : (v : View) (name : List ℕ) (pages : List NumberedPage) → AllCo
 change_mild v name pages = does_contents _
 
 module _ (v : View) (m : Machine) (g : Gateway) (c : ℕ) (s : Session) where
-  -- pages are proposed, where nothing hinders that
+  -- pages are proposed, if nothing hinders that
   proposed_mild : (o : Option Cause) (t : Session) (name : List ℕ) (pages : List NumberedPage) (note : Note) → NoneOrMild o → TurnedMild (unless (first_cause (log_full v) LogFull o) (Proposes t (change_of v name pages) note))
   proposed_mild o t name pages note a = unless_mild (first_cause (log_full v) LogFull o) (Proposes t (change_of v name pages) note) (first_mild (log_full v) LogFull o tt a) (change_mild v name pages)
 

@@ -1,4 +1,4 @@
--- A session with a query that is yet to be answered has opened a database.
+-- A session with a query that waits for its answer has opened a database.
 use Rattle.std.proofs.Common.{◌≡◌, ℕ, Bool, true, false, true≢false, cond, List, [], ◌∷◌, refl, sym, ap, ◌∙◌}
 use Rattle.std.specs.Prelude.{◌==◌, ◌&&◌, not, is_some, is_none, Option, Some, None, IsSome}
 use Rattle.std.proofs.lemmas.Bool.{cond_both, and_parts}
@@ -23,7 +23,7 @@ use Rattle.session_safety.proofs.Laters.{resumed_both, undue_here}
 use Rattle.session_safety.proofs.Lives.{none_is}
 use Rattle.session_safety.proofs.Ways.{read_in_both, barrier_both, reads_both, later_both}
 
--- a session with a query that is yet to be answered has opened a database, and has nothing in flight beside it
+-- a session with a query that waits for its answer has opened a database, and has nothing pending beside it
 pub record IsOpened (s : Session) : Type 0 where
   pub opened : HasOpened s
   pub sole : (f : Flight) → s.flight ≡ Some f → s.later ≡ None
@@ -31,7 +31,7 @@ pub record IsOpened (s : Session) : Type 0 where
 some_none : {A : Type 0} {x : A} {o : Option A} → o ≡ Some x → o ≡ None → ⊥
 some_none e n = cc
 
--- no query is yet to be answered
+-- no query waits for its answer
 pub asks_none : (s : Session) → awaits_barrier s.flight ≡ false → s.later ≡ None → IsOpened s
 asks_none s e n = record {
   opened = record { awaits = λ b. absurd (true≢false (sym b ∙ e)); later = λ x. absurd (true≢false (sym x ∙ ap is_some n)) };
@@ -41,7 +41,7 @@ asks_none s e n = record {
 pub at_rest : (s : Session) → s.flight ≡ None → s.later ≡ None → IsOpened s
 at_rest s e n = asks_none s (ap awaits_barrier e) n
 
--- a query waits behind its barrier
+-- a query waits after its barrier
 pub waits : (s : Session) → has_database s ≡ true → s.later ≡ None → IsOpened s
 waits s h n = record { opened = record { awaits = λ b. h; later = λ x. h }; sole = λ f q. n }
 
@@ -125,7 +125,7 @@ later_opened v m g c s answers free rest =
 
 -- ---- all sessions
 
--- so it is with each session
+-- this holds for each session
 abbrev pub AllOpened : Gateway → Type 0
 AllOpened g = (conn : ℕ) → IsOpened (g.session conn)
 

@@ -20,7 +20,7 @@ use Rattle.session_safety.proofs.Calls.{unless_ok}
 use Rattle.session_safety.proofs.Lives.{none_is}
 use Rattle.session_safety.proofs.Ways.{read_in_both, barrier_both, reads_both, later_both}
 
--- no rows are told
+-- no rows are reported
 abbrev pub NoRows : Reply → Type 0
 NoRows (Refusal cause) = Unit {0}
 NoRows (Single response) = Unit {0}

@@ -19,7 +19,7 @@ use Rattle.session_spec.proofs.Asked.{all_allowed}
 use Rattle.session_safety.proofs.Answers.{is_query}
 use Rattle.session_safety.proofs.Ways.{read_in_both, reads_both}
 
--- no barrier is in flight
+-- no barrier is pending
 abbrev pub NoBarrier : Option Flight → Type 0
 NoBarrier None = Unit {0}
 NoBarrier (Some f) = is_query f.kind ≡ false

@@ -48,7 +48,7 @@ to_other c x xs e = cond-false (x.conn == c) (x ∷ said_to c xs) (said_to c xs)
 
 -- ---- pairs of requests and replies
 
--- a reply to this request, where it is asked what it rests on
+-- a reply to this request, if it is asked what it rests on
 abbrev pub Replies : Bool → Handled → Said → Type 0
 Replies b h x = b ≡ true → IsReplyTo h x
 
@@ -76,7 +76,7 @@ pairs_append b (x ∷ xs) ys (h ∷ hs) gs mid end one two = (one.0, pairs_appen
 pair_one : (b : Bool) (c : ℕ) (x : Said) (h : Handled) → x.conn ≡ c → Replies b h x → Paired b (said_to c (x ∷ [])) (h ∷ []) []
 pair_one b c x h e r = subst (λ l. Paired b l (h ∷ []) []) (sym (to_it c x [] e)) (r, refl)
 
--- ---- a request that is yet to be answered
+-- ---- a request that waits for its answer
 
 -- this request asks for that one statement, and no transaction is open
 abbrev pub AsksFor : Bool → Option Transaction → Handled → Statement → Type 0
@@ -86,7 +86,7 @@ abbrev pub AllReply : Bool → Handled → List Said → Type 0
 AllReply b h [] = Unit {0}
 AllReply b h (x ∷ xs) = Replies b h x × AllReply b h xs
 
--- what the proposal leads to when it lands is for this request: its reply, or the query behind its barrier
+-- what the proposal leads to when it lands is for this request: its reply, or the query after its barrier
 abbrev pub LandsFor : Bool → ℕ → Option Transaction → Trail → Handled → Flight → Kind → Type 0
 LandsFor b c o t h f Opening = AllReply b h (said_landed c t f Opening)
 LandsFor b c o t h f Configuring = AllReply b h (said_landed c t f Configuring)
@@ -101,7 +101,7 @@ pub record Waiting (b : Bool) (c : ℕ) (s : Session) (t : Trail) (h : Handled) 
   pub later : s.later ≡ None
   pub reply : LandsFor b c s.tx t h flight flight.kind
 
--- its query is yet to be answered, with nothing in flight
+-- its query waits for its answer, with nothing pending
 pub record Deferred (b : Bool) (s : Session) (h : Handled) : Type 0 where
   pub statement : Statement
   pub is : later_query s.later ≡ Some statement
@@ -293,7 +293,7 @@ own_called b w c h own o (Lends s job) is free rest here ok told owns =
     }
 own_called b w c h own o (Affects effect) is free rest here ok told owns = record { more = tells c empty ∷ []; said = refl; after = None; pending = (ap (λ (x : Session). x.flight) (effect_same w.gate effect c) ∙ free, ap (λ (x : Session). x.later) (effect_same w.gate effect c) ∙ rest); paired = pair_one b c (tells c empty) h refl (λ s. record { query = tt; commit = tt }) }
 
--- ---- a query that is yet to be answered is run
+-- ---- a query that waits for its answer is run
 
 -- a node that has said the same
 next_from : (b : Bool) (c : ℕ) (u w v : Node) (p : Option Handled) (asks : List Handled) → u.said ≡ w.said → Next b c u v p asks → Next b c w v p asks
@@ -455,7 +455,7 @@ apply_next b mean c w p a wait = by p wait
     all : List Said
     all = said_applied (suc w.applied) w.trail w.gate.session w.gate.conns
 
-    -- with nothing in flight, nothing changes
+    -- with nothing pending, nothing changes
     still : (q : Option Handled) → (w.gate.session c).flight ≡ None → Pending b c (w.gate.session c) (w.trail c) q → Next b c w (happens w Apply) q []
     still q none x = quiet b c w (happens w Apply) q all refl
         (applied_none (suc w.applied) w.trail w.gate.session c w.gate.conns (ap (said_by (suc w.applied) c (w.trail c) (w.gate.session c).hung) none))
@@ -493,7 +493,7 @@ apply_next b mean c w p a wait = by p wait
 
 -- ---- leadership is lost
 
--- how often a number is among these
+-- how many times a number is among these
 abbrev hits : ℕ → List ℕ → ℕ
 hits c [] = 0
 hits c (d ∷ ds) = cond (d == c) (suc (hits c ds)) (hits c ds)
@@ -541,7 +541,7 @@ hits_once c (d ∷ ds) o e = ⊎_elim
     (λ (q : d ≢ c). cond-false (d == c) (suc (hits c ds)) (hits c ds) (ne_eqb d c q) ∙ hits_once c ds o.1 (⊎_elim (λ (r : (d == c) ≡ true). absurd (q (eqb-true d c r))) (λ (r : among ds c ≡ true). r) (or_cases (d == c) (among ds c) e)))
     (cases_eq d c)
 
--- so many refusals
+-- this many refusals
 abbrev copies : ℕ → ℕ → List Said
 copies c zero = []
 copies c (suc n) = tells c (Refusal LeadershipLost) ∷ copies c n
@@ -574,7 +574,7 @@ lose_next b mean c w term p a wait = by p wait
     told : (n : ℕ) → cond (f c) (hits c w.gate.conns) 0 ≡ n → said_to c (told_all (told_lost w.gate)) ≡ copies c n
     told n e = told_hits c (ordered (λ d. last_of (w.gate.session d).flight) (filter f w.gate.conns)) ∙ ap (copies c) (hits_ordered (λ d. last_of (w.gate.session d).flight) c (filter f w.gate.conns) ∙ hits_filter f c w.gate.conns ∙ e)
 
-    -- a client that waits for nothing that is lost is told nothing
+    -- a client that waits for nothing that is lost is sent nothing
     none_told : is_none (w.gate.session c).flight ≡ true → is_due (w.gate.session c).later ≡ false → said_to c (told_all (told_lost w.gate)) ≡ []
     none_told e d = told 0 (cond-false (f c) (hits c w.gate.conns) 0 (and_right (not (w.gate.session c).hung) (is_flying (w.gate.session c) || is_due (w.gate.session c).later) (ap (λ z. not z || is_due (w.gate.session c).later) e ∙ d)))
 
@@ -820,7 +820,7 @@ owes_by b c s t (Some h) (inr x) = or_right (is_flying s) (not (is_none s.later)
     some_later None e = absurd (some_other refl e)
     some_later (Some l) e = refl
 
--- nothing is yet to be answered
+-- nothing waits for its answer
 pub free_of : (s : Session) → is_busy s ≡ false → (s.flight ≡ None) × (s.later ≡ None)
 free_of s e = let p = or_parts (is_flying s) (not (is_none s.later)) e in (none_is s.flight (not-false (is_none s.flight) p.0), none_is s.later (not-false (is_none s.later) p.1))
 

@@ -17,7 +17,7 @@ use Rattle.session_spec.proofs.Images.{apply_changed}
 abbrev pub Led : Image → Image → Type 0
 Led from to = (to ≡ from) ⊎ IsShort to
 
--- the reply of the last statement; where there is none, this one
+-- the reply of the last statement; without one, this one
 abbrev pub last_reply : Reply → List Reply → Reply
 last_reply first [] = first
 last_reply first (r ∷ rs) = last_reply r rs

@@ -156,7 +156,7 @@ resumed_steps w c d standing answers None = steps_none c w w refl refl
 resumed_steps w c d standing answers (Some s) =
     let t = outcome_later w d standing s answers in resumed_both (Steps c w) w d t (steps_none c w w refl refl) (called_steps (undue w d) c d t)
 
--- a reader tells a reply
+-- a reader answers a reply
 told_steps : (w : Node) (c d : ℕ) (s : Statement) (o : Option Reply) → Steps c w (read_by w d s o)
 told_steps w c d s None = steps_none c w w refl refl
 told_steps w c d s (Some r) = (
@@ -238,7 +238,7 @@ not_step c n m xs h a = record {
   see = subst (SeeEarlier c) (append-nil xs) (see_none c xs [] a tt);
 }
 
--- others' replies in front of it, and behind it
+-- others' replies in front of it, and after it
 before_step : (c n m : ℕ) (xs ys : List Said) → NotTo c xs → Step c n m ys → Step c n m (xs ++ ys)
 before_step c n m xs ys a b = record {
   more = b.more;

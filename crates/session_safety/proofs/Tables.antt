@@ -76,7 +76,7 @@ any_none f (x ∷ xs) d h m =
     let p = or_parts (f x) (list_any f xs) h in
     ⊎_elim (λ (q : (x == d) ≡ true). ap f (sym (eqb-true x d q)) ∙ p.0) (λ (q : among xs d ≡ true). any_none f xs d p.1 q) (or_cases (x == d) (among xs d) m)
 
--- no other session has the turn
+-- no other session has the write lock
 pub none_holds : (g : Gateway) (c d : ℕ) (n : List ℕ) → other_holds g c n ≡ false → d ≢ c → among g.conns d ≡ true → holds (g.session d) n ≡ false
 unfolding other_holds
 none_holds g c d n h e m =
@@ -157,7 +157,7 @@ none_any f (x ∷ xs) h = ⊎_elim (λ (y : f x ≡ true). absurd (h x y)) (λ (
     or_none true b x y = x
     or_none false b x y = y
 
--- nobody else has the turn
+-- no one else has the write lock
 pub others_none : (g : Gateway) (c : ℕ) (n : List ℕ) → ((d : ℕ) → d ≢ c → holds (g.session d) n ≡ true → ⊥) → other_holds g c n ≡ false
 unfolding other_holds
 others_none g c n h = none_any (λ d. not (d == c) && holds (g.session d) n) g.conns (λ d e. let p = and_parts (not (d == c)) (holds (g.session d) n) e in h d (eqb-false d c (not-true (d == c) p.0)) p.1)

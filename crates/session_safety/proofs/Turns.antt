@@ -1,4 +1,4 @@
--- The write turn.
+-- The write lock.
 use Rattle.std.proofs.Common.{◌≡◌, ◌≢◌, ℕ, suc, ◌+◌, ◌≤◌, Bool, true, false, true≢false, cond, List, [], ◌∷◌, ◌++◌, length, refl, sym, ap, ◌∙◌, subst, ⊎_elim, arith}
 use Rattle.std.specs.Prelude.{◌==◌, ◌&&◌, ◌||◌, not, is_none, bytes_eq, Option, Some, None}
 use Rattle.std.proofs.lemmas.Bool.{cond_both, cases_Bool, eqb-true, eqb-false, and_parts, and_from, and_cases, or_cases, or_right}
@@ -40,7 +40,7 @@ use Rattle.session_safety.proofs.Ways.{read_in_both, barrier_both, reads_both, l
 use Rattle.session_safety.proofs.Lives.{none_is, happens_ok, run_ok, started_ok}
 use Rattle.session_safety.proofs.Alones.{call_same}
 
--- what is so of an open transaction: without the turn it has changed nothing; with it, nobody else's pages are on their way
+-- what is so of an open transaction: without the write lock it has changed nothing; with it, no one else's pages are on their way
 record TurnFacts (log : List Entry) (applied : ℕ) (f : Option Flight) (x : Transaction) : Type 0 where
   kept : x.turn ≡ false → x.pinned ≡ x.working
   calm : x.turn ≡ true → writes_to f x.name ≡ false → Calm x.name applied log
@@ -77,7 +77,7 @@ put_turn log applied session c s old alone others is = record {
   each = λ d. cond_both (d == c) s (session d) (λ y. TurnIs log applied y.flight y.tx) (λ e. is) (λ e. others d (eqb-false d c e));
 }
 
--- the log grows by entries that leave alone whatever a transaction with the turn needs
+-- the log grows by entries that leave alone whatever a transaction with the write lock needs
 turn_grown : (log es : List Entry) (applied : ℕ) (f : Option Flight) (o : Option Transaction) → applied ≤ length log → ((n : List ℕ) → holds_write_lock o n ≡ true → Free n es) → TurnIs log applied f o → TurnIs (log ++ es) applied f o
 turn_grown log es applied f None h free a = tt
 turn_grown log es applied f (Some x) h free a = record {
@@ -140,7 +140,7 @@ left_turn log applied s (Some f) a = a
 abbrev WTurn : Node → Type 0
 WTurn w = TurnOk w.log w.applied w.gate.session
 
--- another flight that writes where the old one did
+-- another pending proposal that writes where the old one did
 turn_flight : (log : List Entry) (applied : ℕ) (f g : Option Flight) (o : Option Transaction) → ((n : List ℕ) → writes_to g n ≡ false → writes_to f n ≡ false) → TurnIs log applied f o → TurnIs log applied g o
 turn_flight log applied f g None h a = tt
 turn_flight log applied f g (Some x) h a = record { kept = a.kept; calm = λ t w. a.calm t (h x.name w); newest = λ t w. a.newest t (h x.name w) }
@@ -149,7 +149,7 @@ turn_name : (x : Transaction) (n : List ℕ) → holds_write_lock (Some x) n ≡
 turn_name x n e = sym (name_is _ _ (and_parts _ _ e).1)
 
 module _ (mean : Meaning) (standing : Standing) (w : Node) (a : NodeOk mean w) (t : WTurn w) (c : ℕ) (free : (w.gate.session c).flight ≡ None) (here : (w.gate.session c).there ≡ true) where
-  -- no other session has the turn
+  -- no other session has the write lock
   none_other : (n : List ℕ) → other_holds w.gate c n ≡ false → (d : ℕ) → d ≢ c → holds (w.gate.session d) n ≡ true → ⊥
   none_other n h d ne e = ⊎_elim
       (λ (y : (w.gate.session d).there ≡ true). true≢false (sym e ∙ none_holds w.gate c d n h ne (a.listed d y)))
@@ -169,7 +169,7 @@ module _ (mean : Meaning) (standing : Standing) (w : Node) (a : NodeOk mean w) (
   off : (n : List ℕ) → writes_to (w.gate.session c).flight n ≡ false
   off n = ap (λ o. writes_to o n) free
 
-  -- a session that has the turn no more than the old one
+  -- a session that has the write lock no more than the old one
   less : (s : Session) (r : Reply) (note : Note) → ((n : List ℕ) → holds s n ≡ true → holds (w.gate.session c) n ≡ true) → TurnIs w.log w.applied s.flight s.tx → WTurn (called w c (Answers s r note))
   less s r note h is = answered s r note (λ d n ne x y. t.single c d n (λ z. ne (sym z)) (h n x) y) is
 
@@ -206,7 +206,7 @@ module _ (mean : Meaning) (standing : Standing) (w : Node) (a : NodeOk mean w) (
       (or_cases (writes_to (w.gate.session c).flight n) (bytes_eq x.name n) y))
       (record { kept = λ e. no (sym e); calm = λ e q. calm_here mean standing w a c free here x.name serves u.turn; newest = λ e q. u.newest })
 
-  -- a change of pages is proposed: no other session has the turn
+  -- a change of pages is proposed: no other session has the write lock
   write_turn : (name : List ℕ) (from to : Image) (pages : ℕ) (kind : Kind) (note : Note) → other_holds w.gate c name ≡ false → ((n : List ℕ) → holds_write_lock (w.gate.session c).tx n ≡ true → n ≡ name) → ((f : Flight) (log : List Entry) → f.name ≡ name → f.kind ≡ kind → TurnIs log w.applied (Some f) (w.gate.session c).tx) → WTurn (called w c (Proposes (flying (view_of w standing) (w.gate.session c) name (block_for w.log w.term name from to) pages kind) (block_for w.log w.term name from to) note))
   unfolding holds
   write_turn name from to pages kind note alone only is =
@@ -321,7 +321,7 @@ module _ (mean : Meaning) (standing : Standing) (w : Node) (a : NodeOk mean w) (
   later_turn s answers = later_both (λ y. WTurn (called w c y)) (view_of w standing) (databases w) w.gate c s answers (refuse NotLeader) (λ e. run_turn (w.gate.session c).tx (s ∷ []) true answers e refl)
 
 module _ (mean : Meaning) (kind : EngineKind) where
-  -- where the node does not serve, no session has the turn
+  -- if the node does not serve, no session has the write lock
   call_bare : (w : Node) (c : ℕ) (standing : Standing) (r : Request) (answers : List Answer) → WTurn w → NodeOk mean w → Fits mean kind w (Call c standing r answers) → w.serving ≡ false → WTurn (happens w (Call c standing r answers))
   call_bare w c standing r answers t a h off =
       let v = happens_ok mean kind w (Call c standing r answers) h a in
@@ -339,7 +339,7 @@ module _ (mean : Meaning) (kind : EngineKind) where
       (λ e. let p = and_parts _ _ (and_parts _ _ e).0 in request_turn w c standing r answers a t (none_is (w.gate.session c).flight p.1) (and_parts _ _ p.0).0 serves)
       (λ e. t)
 
-  -- a session whose query isn't to be answered any more has the turn as before
+  -- a session whose query isn't to be answered any more has the write lock as before
   free_turn : (w : Node) (c : ℕ) → WTurn w → TurnOk w.log w.applied (λ d. cond (d == c) (with_later (w.gate.session c) None) (w.gate.session d))
   unfolding holds
   free_turn w c t = put_turn w.log w.applied w.gate.session c (with_later (w.gate.session c) None) t.single (λ d n ne x y. t.single c d n (λ z. ne (sym z)) x y) (λ d ne. t.each d) (t.each c)

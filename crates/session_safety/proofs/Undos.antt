@@ -40,7 +40,7 @@ named_files : (log : List Entry) → Named (files log)
 unfolding files
 named_files log = named_from log nothing (λ n h. refl)
 
--- Undo entries over a machine
+-- Undo entries over a state machine
 
 after : ℕ → Machine → List Content → Machine
 after t m cs = files_from m (entries_of t cs)

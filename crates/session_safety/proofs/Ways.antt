@@ -1,4 +1,4 @@
--- The ways that a query may take: behind a barrier, at once, to a reader, or later than it was asked.
+-- The ways that a query may take: after a barrier, at once, to a reader, or later than it was asked.
 use Rattle.std.proofs.Common.{◌≡◌, ℕ, Bool, true, false, List, [], ◌∷◌, refl}
 use Rattle.std.specs.Prelude.{◌&&◌, Option, Some, None}
 use Rattle.std.proofs.lemmas.Bool.{cond_both}

@@ -23,7 +23,7 @@ get_right [] ys k j h = let e : j ≡ k = omega arith in ap (slice_get ys) e
 get_right (x ∷ xs) ys k zero h = absurd (omega arith)
 get_right (x ∷ xs) ys k (suc j) h = get_right xs ys k j (omega arith)
 
--- what stands at an index stands there in a longer list, and in a front that reaches it
+-- what is at an index is there in a longer list, and in a front that reaches it
 pub stands_more : (log es : List Entry) (i t : ℕ) (c : Content) → StandsAt log i t c → StandsAt (log ++ es) i t c
 stands_more log es i t c a = get_left log es (i - 1) (slice_get_within log (i - 1) _ a) ∙ a
 
@@ -37,7 +37,7 @@ content_at t [] k h = absurd (omega (arith, h))
 content_at t (c ∷ cs) zero h = (c, refl)
 content_at t (c ∷ cs) (suc k) h = content_at t cs k (omega (arith, h))
 
--- the last of entries behind a log
+-- the last of entries after a log
 pub last_stands : (log : List Entry) (t : ℕ) (cs : List Content) → 0 < length cs → (c : Content) × StandsAt (log ++ entries_of t cs) (length log + length cs) t c
 last_stands log t cs h =
     let r = content_at t cs (length cs - 1) (omega arith) in

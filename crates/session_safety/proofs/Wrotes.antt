@@ -22,11 +22,11 @@ use Rattle.session_safety.proofs.Weaves.{last_stands}
 abbrev pub block_for : List Entry → ℕ → List ℕ → Image → Image → List Content
 block_for log term name from to = contents_of (split name (record { tx = tx_of term (suc (length log)); pages = changed from to }))
 
--- its last entry stands behind the log
+-- its last entry follows the log
 pub block_end : (log : List Entry) (term : ℕ) (name : List ℕ) (from to : Image) → (content : Content) × StandsAt (log ++ entries_of term (block_for log term name from to)) (length log + length (block_for log term name from to)) term content
 block_end log term name from to = last_stands log term (block_for log term name from to) (split_some name (tx_of term (suc (length log))) (before_last (changed from to)) (changed from to))
 
--- the entries of a change of pages from one image to another, behind a log at whose applied index nothing of the database is on its way
+-- the entries of a change of pages from one image to another, after a log at whose applied index nothing of the database is on its way
 module _ (log : List Entry) (applied term : ℕ) (name : List ℕ) (from to : Image) (low : applied ≤ length log) (calm : Calm name applied log) (is : image_at log applied name ≡ from) (fits : takes (changed from to) ≡ true) (short : IsShort to) where
   end_base : (xs : List Entry) (n : List ℕ) → base_at xs (length xs) n ≡ (files xs).base n
   end_base xs n = ap (λ l. (files l).base n) (take_all (length xs) xs (omega arith))

@@ -94,8 +94,8 @@ abbrev pub NoneLost : List Said → Type 0
 NoneLost [] = Unit {0}
 NoneLost (x ∷ xs) = (x.reply ≢ Refusal LeadershipLost) × NoneLost xs
 
--- The one node has applied its whole log; each reply is right by it; the entries of each transaction stand in one piece; and
--- no request waits for its answer. No entry changes the servers, and no reply says that leadership was lost. Where the node
+-- The one node has applied its whole log; each reply is right by it; the entries of each transaction are in one piece; and
+-- no request waits for its answer. No entry changes the servers, and no reply says that leadership was lost. If the node
 -- leads, it serves, in term 1.
 pub record SafeAlone (m : Meaning) (w : Node) : Type 0 where
   pub applied : w.applied ≡ length w.log
@@ -107,7 +107,7 @@ pub record SafeAlone (m : Meaning) (w : Node) : Type 0 where
   pub serves : w.serving ≡ w.leads
   pub term : w.term ≡ (if w.leads then 1 else 0)
 
--- So it is after each list of turns.
+-- This holds after each list of turns.
 abbrev pub AloneIsSafe : Meaning → EngineKind → Type 0
 AloneIsSafe m kind = (ts : List Turn) → AllowsTurns m kind (started [] 0 0) ts → SafeAlone m (alone ts)
 
@@ -118,7 +118,7 @@ pub record SaidIn (before : ℕ) (v : Node) (x : Said) : Type 0 where
   pub term : x.term ≡ v.term
   pub leads : v.leads ≡ true
 
--- so it is with each of these replies that waited
+-- this holds for each of these replies that waited
 abbrev pub AllIn : ℕ → Node → List Said → Type 0
 AllIn before v [] = Unit {0}
 AllIn before v (x ∷ xs) = (0 < x.index → SaidIn before v x) × AllIn before v xs
@@ -129,7 +129,7 @@ pub record SaysInTime (w v : Node) : Type 0 where
   pub said : v.said ≡ w.said ++ later
   pub here : AllIn w.applied v later
 
--- So it is in each turn.
+-- This holds in each turn.
 abbrev pub TurnsSay : Meaning → EngineKind → Type 0
 TurnsSay m kind =
     (ts : List Turn) (t : Turn) → AllowsTurns m kind (started [] 0 0) ts → AllowsTurn m kind (alone ts) t → SaysInTime (alone ts) (takes_turn (alone ts) t)
@@ -162,11 +162,11 @@ pub data Line : Type 0 where
   Closes : (conn : ℕ) → Line
   Sends : (conn : ℕ) (request : Request) → Line
 
--- what the request lacks of the journal, where it is handled at all
+-- what the request lacks of the journal, if it is handled at all
 abbrev pub lacks_now : Standing → Node → ℕ → Request → List Answer → Bool
 lacks_now standing w conn request journal = may_ask (w.gate.session conn) && lacks (on_request (view_of w standing) (databases w) w.gate conn request journal)
 
--- the journal behind the answers that the request uses
+-- the journal after the answers that the request uses
 abbrev pub rest_of : Standing → Node → ℕ → Request → List Answer → List Answer
 rest_of standing w conn request journal =
     drop (if may_ask (w.gate.session conn) then used_for (handed (view_of w standing) (databases w) w.gate conn request) journal else 0) journal
@@ -182,10 +182,10 @@ turns_of standing w journal (Sends conn request ∷ lines) =
     if lacks_now (standing w) w conn request journal then []
     else Ask conn (standing w) request journal ∷ turns_of standing (takes_turn w (Ask conn (standing w) request journal)) (rest_of (standing w) w conn request journal) lines
 
--- the turns of a script's lines with its journal, where a node's standing is told by what it is
+-- the turns of a script's lines with its journal, if a node's standing is described by what it is
 abbrev pub script_turns : (Node → Standing) → List Line → List Answer → List Turn
 script_turns standing lines journal = turns_of standing (started [] 0 0) journal lines
 
--- Where each answer that the journal gives is one that the engine may give, the run of a script with its journal is safe.
+-- If each answer that the journal gives is one that the engine may give, the run of a script with its journal is safe.
 abbrev pub ScriptsAreSafe : Meaning → EngineKind → Type 0
 ScriptsAreSafe m kind = (standing : Node → Standing) (lines : List Line) (journal : List Answer) → AllowsTurns m kind (started [] 0 0) (script_turns standing lines journal) → SafeAlone m (alone (script_turns standing lines journal))

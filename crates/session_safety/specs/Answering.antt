@@ -23,7 +23,7 @@ asks_for w conn standing request = statements_asked (asked (view_of w standing) 
 abbrev pub outcome : Node → ℕ → Standing → Request → List Answer → Turned
 outcome w conn standing request answers = on_request (view_of w standing) (databases w) w.gate conn request answers
 
--- the statements of the open transaction so far; none where none is open
+-- the statements of the open transaction so far; none if none is open
 abbrev pub transaction_ran : Node → ℕ → List Statement
 transaction_ran w conn = if in_tx (w.gate.session conn) then (w.trail conn).ran else []
 
@@ -116,7 +116,7 @@ abbrev pub QueryFrom : Handled → Option Query → Type 0
 QueryFrom h None = Unit {0}
 QueryFrom h (Some q) = (q.before ≡ h.before) × (h.own ≡ q.statement ∷ [])
 
--- a commit stands for the statements of the transaction and those of the request
+-- a commit represents the statements of the transaction and those of the request
 abbrev pub CommitFrom : Handled → Option Commit → Type 0
 CommitFrom h None = Unit {0}
 CommitFrom h (Some c) = c.statements ≡ h.before ++ h.own
@@ -132,7 +132,7 @@ ArePaired [] hs owed = hs ≡ owed
 ArePaired (x ∷ xs) [] owed = ⊥
 ArePaired (x ∷ xs) (h ∷ hs) owed = IsReplyTo h x × ArePaired xs hs owed
 
--- a reply is owed exactly where a proposal is in flight, or a query is yet to be answered
+-- a reply is owed exactly if a proposal is pending, or a query waits for its answer
 abbrev pub Owes : Session → List Handled → Type 0
 Owes s [] = is_busy s ≡ false
 Owes s (h ∷ []) = is_busy s ≡ true
@@ -152,7 +152,7 @@ pub record RepliesTo (conn : ℕ) (w : Node) (es : List Event) : Type 0 where
   pub paired : ArePaired (said_to conn more) (handled_in conn w es) owed
   pub owes : Owes ((run_from w es).gate.session conn) owed
 
--- So it is from each moment at which it is owed nothing, as the one at which it came, up to each at which it is
+-- This holds from each moment at which it is owed nothing, as the one at which it came, up to each at which it is
 -- still open.
 abbrev pub RequestsAreAnswered : Meaning → EngineKind → Type 0
 RequestsAreAnswered m kind =

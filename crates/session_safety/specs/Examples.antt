@@ -29,7 +29,7 @@ set_text digit = codes "SET 1 " ++ (48 + digit) ∷ []
 abbrev pub set_on : Image → ℕ → StatementResult
 set_on image value = record { after = record { tx = 0; pages = changed image (with_value image value) }; affected = 1; columns = []; rows = [] }
 
--- and where it is read
+-- and if it is read
 abbrev pub got_on : Image → StatementResult
 got_on image = record { after = record { tx = 0; pages = [] }; affected = 0; columns = codes "v" ∷ []; rows = cell_rows (page_at image 2) }
 
@@ -60,7 +60,7 @@ two_open = Lead 1 ∷ Append (Other ∷ []) ∷ Apply ∷ Serve ∷ Connect 1 �
 unfoldable pub after : List Event → Node
 after es = run_from (started [] 0 0) (two_open ++ es)
 
--- what is said to whom behind the two opens
+-- what is said to whom after the two opens
 abbrev pub replies : List Event → List (ℕ × Reply)
 replies es = map (λ (x : Said). (x.conn, x.reply)) (after es).said
 
@@ -89,7 +89,7 @@ OldImages =
     replies (sets 2 empty_image 7 ∷ Apply ∷ says_so 1 (codes "BEGIN") ∷ gets 1 (one 7) ∷ sets 2 (one 7) 8 ∷ Apply ∷ gets 1 (one 7) ∷ sets 1 (one 7) 9 ∷ says_so 1 (codes "ROLLBACK") ∷ gets 1 (two 7 8) ∷ [])
     ≡ opened ((2, result 1) ∷ (1, result 0) ∷ (1, Rows (got_on (one 7))) ∷ (2, result 1) ∷ (1, Rows (got_on (one 7))) ∷ (1, Refusal OutOfDate) ∷ (1, result 0) ∷ (1, Rows (got_on (two 7 8))) ∷ [])
 
--- The write turn keeps others' writes out, and not their reads; a hang-up ends it.
+-- The write lock keeps others' writes out, and not their reads; a hang-up ends it.
 abbrev pub TurnEnds : Type 0
 TurnEnds =
     replies (says_so 1 (codes "BEGIN IMMEDIATE") ∷ sets 2 empty_image 1 ∷ gets 2 empty_image ∷ Hangup 1 ∷ sets 2 empty_image 1 ∷ Apply ∷ [])
@@ -117,7 +117,7 @@ pub record BarrierWaits : Type 0 where
   pub reads : replies (Connect 3 ∷ opens_fresh 3 ∷ sets 1 empty_image 9 ∷ gets 3 empty_image ∷ Apply ∷ Apply ∷ Resume 3 alone_here (Ok (got_on (one 9)) ∷ []) ∷ []) ≡ opened ((3, db) ∷ (1, result 1) ∷ (3, Rows (got_on (one 9))) ∷ [])
   pub lost : replies (Connect 3 ∷ opens_fresh 3 ∷ gets 3 empty_image ∷ Lose 2 ∷ []) ≡ opened ((3, db) ∷ (3, Refusal LeadershipLost) ∷ [])
 
--- the same node with readers beside it
+-- the same node with readers that work for it
 abbrev pub with_readers : Standing
 with_readers = record alone_here { readers = true }
 
@@ -125,7 +125,7 @@ with_readers = record alone_here { readers = true }
 abbrev pub gets_long : ℕ → Event
 gets_long conn = Call conn with_readers (QuerySql 0 (codes "GET 1") [] false) (Err engine_faults.Cut ∷ [])
 
--- A query that is cut is lent to a reader, who tells what it read in the image of that moment: others write meanwhile, and the
+-- A query that is interrupted is lent to a reader, who says what it read in the image of that moment: others write meanwhile, and the
 -- connection handles nothing else. Without readers, and inside a transaction, it is refused.
 pub record ReadersTell : Type 0 where
   pub lent : replies (gets_long 1 ∷ sets 2 empty_image 9 ∷ Apply ∷ says_so 1 (codes "BEGIN") ∷ Done 1 (Ok (got_on empty_image) ∷ []) ∷ gets 1 (one 9) ∷ []) ≡ opened ((2, result 1) ∷ (1, Rows (got_on empty_image)) ∷ (1, Rows (got_on (one 9))) ∷ [])

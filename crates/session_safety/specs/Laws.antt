@@ -53,12 +53,12 @@ AllHere w v (x ∷ xs) = SaidHere w v x × AllHere w v xs
 abbrev pub AnsweredHere : Meaning → EngineKind → Type 0
 AnsweredHere m kind = (log : List Entry) (applied term : ℕ) (es : List Event) (e : Event) → Starts log applied → AllFit m kind (started log applied term) (es ++ e ∷ []) → (more : List Said) × ((life log applied term (es ++ e ∷ [])).said ≡ (life log applied term es).said ++ more) × AllHere (life log applied term es) (life log applied term (es ++ e ∷ [])) more
 
--- some reply is to this connection, and such as the test says
+-- some reply is to this connection, and passes the test
 abbrev pub SaidTo : ℕ → (Said → Type 0) → List Said → Type 0
 SaidTo conn P [] = ⊥
 SaidTo conn P (x ∷ xs) = ((x.conn ≡ conn) × P x) ⊎ SaidTo conn P xs
 
--- A proposal is answered where its last entry is applied; where it is a barrier its query is due then.
+-- A proposal is answered where its last entry is applied; if it is a barrier its query is due then.
 abbrev pub Lands : Node → ℕ → Flight → Kind → Type 0
 Lands w conn f Opening = SaidTo conn (λ x. x.index ≡ f.last) (happens w Apply).said
 Lands w conn f Configuring = SaidTo conn (λ x. x.index ≡ f.last) (happens w Apply).said
@@ -66,7 +66,7 @@ Lands w conn f (Writing reply) = SaidTo conn (λ x. x.index ≡ f.last) (happens
 Lands w conn f Committing = SaidTo conn (λ x. x.index ≡ f.last) (happens w Apply).said
 Lands w conn f (Querying statement) = ((happens w Apply).gate.session conn).later ≡ Some (Due statement)
 
--- So it is with a proposal in flight whose client is there; and it is answered with a refusal where leadership is lost before.
+-- This holds for a pending proposal whose client is there; and it is answered with a refusal where leadership is lost before.
 abbrev pub IsAnswered : Node → ℕ → Flight → Type 0
 IsAnswered w conn f = (f.last ≡ suc w.applied → Lands w conn f f.kind) × ((term : ℕ) → SaidTo conn (λ x. x.reply ≡ Refusal LeadershipLost) (happens w (Lose term)).said)
 
@@ -77,7 +77,7 @@ DueIsTold w conn = is_due (w.gate.session conn).later ≡ true → (w.gate.sessi
 abbrev pub AnswersCome : Meaning → EngineKind → Type 0
 AnswersCome m kind = OfLives m kind (λ w. (conn : ℕ) → ((f : Flight) → (w.gate.session conn).flight ≡ Some f → (w.gate.session conn).hung ≡ false → IsAnswered w conn f) × DueIsTold w conn)
 
--- each reply to this connection is such as the test says
+-- each reply to this connection passes the test
 abbrev pub EachTo : ℕ → (Said → Type 0) → List Said → Type 0
 EachTo conn P [] = Unit {0}
 EachTo conn P (x ∷ xs) = (x.conn ≡ conn → P x) × EachTo conn P xs
@@ -123,14 +123,14 @@ pub record Sees (conn : ℕ) (w v : Node) : Type 0 where
 abbrev pub LivesSee : Meaning → EngineKind → Type 0
 LivesSee m kind = (log : List Entry) (applied term : ℕ) (es fs : List Event) (conn : ℕ) → Starts log applied → AllFit m kind (started log applied term) (es ++ fs) → NoneComes conn fs → Sees conn (life log applied term es) (life log applied term (es ++ fs))
 
--- no transaction is open at the session, nothing is in flight, and no query is due
+-- no transaction is open at the session, nothing is pending, and no query is due
 pub record HasNothingOpen (s : Session) : Type 0 where
   pub tx : s.tx ≡ None
   pub flight : s.flight ≡ None
   pub due : is_due s.later ≡ false
 
--- So it is with each session wherever the node doesn't serve. Between a lost leadership and the next service none begins a
--- transaction, so a machine that comes in a snapshot meanwhile has no marks to carry over.
+-- This holds for each session wherever the node doesn't serve. Between a lost leadership and the next service none begins a
+-- transaction, so a state machine that comes in a snapshot meanwhile has no marks to carry over.
 abbrev pub IdleIsEmpty : Meaning → EngineKind → Type 0
 IdleIsEmpty m kind = OfLives m kind (λ w. w.serving ≡ false → (conn : ℕ) → HasNothingOpen (w.gate.session conn))
 
@@ -138,24 +138,24 @@ IdleIsEmpty m kind = OfLives m kind (λ w. w.serving ≡ false → (conn : ℕ) 
 abbrev pub LivesWeave : Meaning → EngineKind → Type 0
 LivesWeave m kind = OfLives m kind (λ w. Woven w.log)
 
--- At most one session has the write turn of a database.
+-- At most one session has the write lock of a database.
 abbrev pub OneTurn : Meaning → EngineKind → Type 0
 OneTurn m kind = OfLives m kind (λ w. (one other : ℕ) (name : List ℕ) → one ≢ other → holds (w.gate.session one) name ≡ true → holds (w.gate.session other) name ≡ true → ⊥)
 
--- A transaction that never took the write turn has the image that it pinned.
+-- A transaction that never took the write lock has the image that it pinned.
 abbrev pub ChangesTakeTurns : Meaning → EngineKind → Type 0
 ChangesTakeTurns m kind = OfLives m kind (λ w. (conn : ℕ) (x : Transaction) → (w.gate.session conn).tx ≡ Some x → x.turn ≡ false → x.working ≡ x.pinned)
 
--- The commit of a transaction meets nothing that others did: nobody else has the turn, and no commit came between.
+-- The commit of a transaction meets nothing that others did: no one else has the write lock, and no commit came between.
 pub record Passes (w : Node) (conn : ℕ) (x : Transaction) : Type 0 where
   pub turn : other_holds w.gate conn x.name ≡ false
   pub newest : ((databases w).base x.name).newest ≡ x.mark
 
--- So it is with each transaction that changed pages: its COMMIT is refused neither for the turn nor for an old image.
+-- This holds for each transaction that changed pages: its COMMIT is refused neither for the write lock nor for an old image.
 abbrev pub CommitsPass : Meaning → EngineKind → Type 0
 CommitsPass m kind = OfLives m kind (λ w. (conn : ℕ) (x : Transaction) → (w.gate.session conn).tx ≡ Some x → (w.gate.session conn).flight ≡ None → no_pages (changed x.pinned x.working) ≡ false → Passes w conn x)
 
--- A write in flight already stands whole in the node's log, ahead of what is applied, in the node's term: as a commit it is
+-- A pending write already is whole in the node's log, ahead of what is applied, in the node's term: as a commit it is
 -- right by that log.
 pub record Stands (m : Meaning) (w : Node) (conn : ℕ) (f : Flight) : Type 0 where
   pub commit : CommitOk m w.log (commit_of f (w.trail conn).ran)
@@ -165,7 +165,7 @@ pub record Stands (m : Meaning) (w : Node) (conn : ℕ) (f : Flight) : Type 0 wh
 abbrev pub FlightsStand : Meaning → EngineKind → Type 0
 FlightsStand m kind = OfLives m kind (λ w. (conn : ℕ) (f : Flight) → (w.gate.session conn).flight ≡ Some f → is_write f.kind ≡ true → Stands m w conn f)
 
--- ---- queries that are yet to be answered
+-- ---- queries that wait for their answers
 
 abbrev pub is_barrier : Kind → Bool
 is_barrier Opening = false
@@ -174,17 +174,17 @@ is_barrier (Writing reply) = false
 is_barrier Committing = false
 is_barrier (Querying statement) = true
 
--- the barrier before a query is in flight
+-- the barrier before a query is pending
 abbrev pub awaits_barrier : Option Flight → Bool
 awaits_barrier None = false
 awaits_barrier (Some f) = is_barrier f.kind
 
--- The session has opened a database where a query of it is yet to be answered: behind its barrier, to be run next, or at a reader.
+-- The session has opened a database where a query of it waits for its answer: after its barrier, to be run next, or at a reader.
 pub record HasOpened (s : Session) : Type 0 where
   pub awaits : awaits_barrier s.flight ≡ true → has_database s ≡ true
   pub later : IsSome s.later → has_database s ≡ true
 
--- So it is with each session after any list of events, whatever the engine answers: a query that is run later than it was asked has
+-- This holds for each session after any list of events, whatever the engine answers: a query that is run later than it was asked has
 -- a database to run over.
 abbrev pub QueriesHaveDatabases : Type 0
 QueriesHaveDatabases = (log : List Entry) (applied term : ℕ) (es : List Event) (conn : ℕ) → HasOpened ((life log applied term es).gate.session conn)

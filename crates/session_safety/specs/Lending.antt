@@ -14,7 +14,7 @@ use Rattle.session_safety.specs.Laws.{life, Starts}
 
 -- ---- jobs
 
--- the job that is handed to a reader, with its connection, where a request comes to that
+-- the job that is handed to a reader, with its connection, if a request comes to that
 abbrev pub lends_by : ℕ → Turned → List (ℕ × Job)
 lends_by conn (Refused cause) = []
 lends_by conn Lacks = []
@@ -46,7 +46,7 @@ lent_in w (e ∷ es) = lent_by w e ++ lent_in (happens w e) es
 abbrev pub LatersStay : Type 0
 LatersStay = (v : View) (m : Machine) (g : Gateway) (conn : ℕ) (statement : Statement) (answers : List Answer) → lends_by conn (on_later v m g conn statement answers) ≡ []
 
--- the last job of each connection, where these are handed out behind those before
+-- the last job of each connection, if these are handed out after those before
 abbrev pub handed_on : (ℕ → Option Job) → List (ℕ × Job) → ℕ → Option Job
 handed_on jobs [] conn = jobs conn
 handed_on jobs (p ∷ more) conn = handed_on (λ other. if p.0 == other then Some p.1 else jobs other) more conn
@@ -88,7 +88,7 @@ pub record HasJob (conn : ℕ) (s : Statement) (job : Job) (w : Node) : Type 0 w
   pub here : (w.gate.session conn).hung ≡ false
   pub is : job_at w conn s ≡ job
 
--- It stays so over any such events.
+-- It stays so over any of these events.
 abbrev pub JobsStay : Meaning → EngineKind → Type 0
 JobsStay m kind =
     (log : List Entry) (applied term : ℕ) (es fs : List Event) (conn : ℕ) (s : Statement) (job : Job) → Starts log applied → AllFit m kind (started log applied term) (es ++ fs) →
@@ -105,7 +105,7 @@ answers_later w conn standing answers None = []
 answers_later w conn standing answers (Some statement) = uses (handed_later (view_of w standing) (databases w) (undue w conn).gate conn statement) answers
 
 -- The answers of the node's engine that an event uses: those to a request that is handled, and to a query that the node runs later than
--- it was asked. What a reader told rests on answers of the reader's engine, which are none of these.
+-- it was asked. What a reader answered rests on answers of the reader's engine, which are not among these.
 abbrev pub answers_by : Node → Event → List Answer
 answers_by w (Call conn standing request answers) = if may_ask (w.gate.session conn) then uses (handed (view_of w standing) (databases w) w.gate conn request) answers else []
 answers_by w (Resume conn standing answers) = answers_later w conn standing answers (later_query (w.gate.session conn).later)

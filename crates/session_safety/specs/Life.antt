@@ -16,9 +16,9 @@ use Rattle.session_safety.specs.Nodes.{Query, Commit, Said, Trail, Node, Standin
 use Rattle.session_safety.specs.Woven.{Woven}
 
 -- What may happen: a connection comes, or goes; a request is handled, with the answers of an engine; a query that is yet to be
--- answered is run, behind its barrier or as a reader gave it back; a reader has run one, with the engine's answer; the next entry
--- is applied; leadership is lost, or won, in a term; the node begins to serve; a leader appends entries of its own, as its first
--- one, an Undo or a Checkpoint; and where others lead they change the log past what is applied.
+-- answered is run, after its barrier or as a reader gave it back; a reader has run one, with the engine's answer; the next entry
+-- is applied; leadership is lost, or won, in a term; the node begins to serve; a leader appends its own entries, as its first
+-- one, an Undo or a Checkpoint; and if others lead they change the log past what is applied.
 pub data Event : Type 0 where
   Connect : (conn : ℕ) → Event
   Hangup : (conn : ℕ) → Event
@@ -126,7 +126,7 @@ abbrev pub trail_by : ℕ → Trail → Option Flight → Trail
 trail_by index t None = t
 trail_by index t (Some f) = if f.last == index then landed_trail index t f.kind else t
 
--- ---- a query that is yet to be answered
+-- ---- a query that waits for its answer
 
 -- the node where the connection has none
 abbrev pub undue : Node → ℕ → Node
@@ -136,7 +136,7 @@ undue w conn = record w { gate = without_later w.gate conn }
 abbrev pub outcome_later : Node → ℕ → Standing → Statement → List Answer → Turned
 outcome_later w conn standing statement answers = on_later (view_of w standing) (databases w) (undue w conn).gate conn statement answers
 
--- the node after it; where an answer lacks, the query waits on
+-- the node after it; if an answer lacks, the query waits on
 abbrev pub resumed_by : Node → ℕ → Turned → Node
 resumed_by w conn (Refused cause) = called (undue w conn) conn (Refused cause)
 resumed_by w conn Lacks = w
@@ -172,7 +172,7 @@ said_read w conn statement reply = record {
 abbrev pub read_trail : Trail → Trail
 read_trail t = record t { seen = max t.seen t.at }
 
--- the node after a reader told a reply, or gave its job back without one
+-- the node after a reader answered a reply, or gave its job back without one
 abbrev pub read_by : Node → ℕ → Statement → Option Reply → Node
 read_by w conn statement None = w
 read_by w conn statement (Some reply) = record w {
@@ -242,7 +242,7 @@ AllowsLater m kind w conn standing answers None = Unit {0}
 AllowsLater m kind w conn standing answers (Some statement) =
     AllowsFor m kind (handed_later (view_of w standing) (databases w) (undue w conn).gate conn statement) answers
 
--- the same of a reader's answers
+-- the same for a reader's answers
 abbrev pub AllowsRead : Meaning → EngineKind → Node → ℕ → List Answer → Option Statement → Type 0
 AllowsRead m kind w conn answers None = Unit {0}
 AllowsRead m kind w conn answers (Some statement) = AllowsAll m kind (job_at w conn statement).image (statement ∷ []) answers

@@ -17,7 +17,7 @@ pub record Query : Type 0 where
   pub answer : StatementResult
   pub seen : ℕ
 
--- An answered commit: its entries from first to last, of this term, and the statements that it stands for.
+-- An answered commit: its entries from first to last, of this term, and the statements that it represents.
 pub record Commit : Type 0 where
   pub name : List ℕ
   pub first : ℕ
@@ -26,7 +26,7 @@ pub record Commit : Type 0 where
   pub statements : List Statement
 
 -- A reply that was said, with the query or the commit that it rests on, if any, and the database that was opened by an entry,
--- if one was. Where it waited for a proposal, `index` is that of the proposal's last entry and `term` the proposal's; else the
+-- if one was. If it waited for a proposal, `index` is that of the proposal's last entry and `term` the proposal's; else the
 -- index is 0.
 pub record Said : Type 0 where
   pub conn : ℕ
@@ -57,7 +57,7 @@ pub record Node : Type 0 where
   pub trail : ℕ → Trail
   pub said : List Said
 
--- what else a node is at a moment: who it is, the leader that it knows, the servers, its links and readers, and who is even
+-- what else a node is at a moment: who it is, the leader that it knows, the servers, its peer connections and readers, and who is even
 -- with it
 pub record Standing : Type 0 where
   pub id : ℕ

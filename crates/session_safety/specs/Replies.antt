@@ -30,7 +30,7 @@ pub record QueryOk (m : Meaning) (log : List Entry) (q : Query) : Type 0 where
 abbrev pub change_entries : ℕ → ℕ → List ℕ → Image → Image → List Entry
 change_entries term first name before after = entries_of term (map Does (split name (record { tx = tx_of term first; pages = changed before after })))
 
--- The commit's entries stand in this list, and nothing between them: they are the change of pages from the image right before
+-- The commit's entries are in this list, and nothing between them: they are the change of pages from the image right before
 -- the first of them to the image after the last. Between these two images its statements ran.
 pub record CommitOk (m : Meaning) (log : List Entry) (c : Commit) : Type 0 where
   pub low : 0 < c.first
@@ -73,8 +73,8 @@ abbrev pub IsOpening : Option (List ℕ) → Content → Type 0
 IsOpening None content = ⊥
 IsOpening (Some name) content = content ≡ Does (OpenDb name)
 
--- The entry that a reply waited for stands in this list, in the reply's term. Where the reply is DB the entry opens the
--- reply's database, and where it is EMPTY the entry changes the servers.
+-- The entry that a reply waited for is in this list, in the reply's term. If the reply is DB the entry opens the
+-- reply's database, and if it is EMPTY the entry changes the servers.
 pub record EntryOk (log : List Entry) (x : Said) : Type 0 where
   pub content : Content
   pub stands : StandsAt log x.index x.term content

@@ -1,4 +1,4 @@
--- How the entries of transactions stand in a log.
+-- How the entries of transactions are in a log.
 use Rattle.std.specs.Prelude.{◌≡◌, ℕ, ◌-◌, ◌<◌, ◌≤◌, ◌^◌, Bool, false, List, slice_get, Some}
 use Rattle.dq_base.specs.declared.pages.NumberedPage.{NumberedPage}
 use Rattle.log_commands.specs.declared.command.Command.TheVariants.{Frames}
@@ -19,6 +19,6 @@ pub record Follows (log : List Entry) (index : ℕ) (name : List ℕ) (tx term :
   pub high : first ≤ index
   pub before : first < index → (pages : List NumberedPage) × Bears log (index - 1) name tx false term pages
 
--- A woven log: the entries of each transaction stand in one piece.
+-- A woven log: the entries of each transaction are in one piece.
 pub record Woven (log : List Entry) : Type 0 where
   pub at : (index : ℕ) (name : List ℕ) (tx term : ℕ) (commit : Bool) (pages : List NumberedPage) → 0 < index → Bears log index name tx commit term pages → Follows log index name tx term

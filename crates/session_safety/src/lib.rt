@@ -59,49 +59,49 @@ pub fn lives_see<E: Engine>()
     ensures { (kind : _) → LivesSee (E.meaning kind) kind }
 {}
 
-/// A proposal in flight whose client is there is answered in the event that applies its last entry, or with the refusal of
+/// A pending proposal whose client is there is answered in the event that applies its last entry, or with the refusal of
 /// a lost leadership where that is lost before.
 pub fn answers_come<E: Engine>()
     ensures { (kind : _) → AnswersCome (E.meaning kind) kind }
 {}
 
 /// The replies to a connection are those to its requests that are handled, one by one and in order: rows are of the request's
-/// statement, a commit is of its statements and those of its transaction, and a reply is owed exactly where a proposal is in
-/// flight. A transaction's statements are those of its requests that weren't refused, in order.
+/// statement, a commit is of its statements and those of its transaction, and a reply is owed exactly if a proposal is in
+/// pending proposal. A transaction's statements are those of its requests that weren't refused, in order.
 pub fn requests_are_answered<E: Engine>()
     ensures replies { (kind : _) → RequestsAreAnswered (E.meaning kind) kind }
     ensures transactions { TransactionsRun }
 {}
 
-/// At most one session has the write turn of a database, at any time.
+/// At most one session has the write lock of a database, at any time.
 pub fn one_turn<E: Engine>()
     ensures { (kind : _) → OneTurn (E.meaning kind) kind }
 {}
 
-/// A transaction that never took the write turn has the image that it pinned: no change is lost where its COMMIT ends it at
+/// A transaction that never took the write lock has the image that it pinned: no change is lost where its COMMIT ends it at
 /// once.
 pub fn changes_take_turns<E: Engine>()
     ensures { (kind : _) → ChangesTakeTurns (E.meaning kind) kind }
 {}
 
-/// Where a transaction changed pages, nobody else has the turn of its database and no commit came since it began: its
-/// COMMIT is refused neither for the turn nor for an old image.
+/// If a transaction changed pages, no one else has the write lock of its database and no commit came since it began: its
+/// COMMIT is refused neither for the write lock nor for an old image.
 pub fn commits_pass<E: Engine>()
     ensures { (kind : _) → CommitsPass (E.meaning kind) kind }
 {}
 
-/// Where a node doesn't serve, no session has a transaction, a proposal in flight or a query that is due: so none begins between a
-/// lost leadership and the next service, and a machine that comes in a snapshot meanwhile has no marks to carry over.
+/// If a node doesn't serve, no session has a transaction, a pending proposal or a query that is due: so none begins between a
+/// lost leadership and the next service, and a state machine that comes in a snapshot meanwhile has no marks to carry over.
 pub fn idle_is_empty<E: Engine>()
     ensures { (kind : _) → IdleIsEmpty (E.meaning kind) kind }
 {}
 
-/// The log of each life is woven: the entries of each transaction stand in one piece.
+/// The log of each life is woven: the entries of each transaction are in one piece.
 pub fn lives_weave<E: Engine>()
     ensures { (kind : _) → LivesWeave (E.meaning kind) kind }
 {}
 
-/// In a woven log a transaction has at most one commit and no pages behind it, and a commit applies the pages of its own
+/// In a woven log a transaction has at most one commit and no pages after it, and a commit applies the pages of its own
 /// entries and no others. In any log an image changes by commits alone.
 pub fn commits_stand_alone()
     ensures once { OneCommit }
@@ -114,14 +114,14 @@ pub fn undos_clear()
     ensures { UndosClear }
 {}
 
-/// A write in flight already stands whole in the node's log, ahead of what is applied and in the node's term, and is right
+/// A pending write already is whole in the node's log, ahead of what is applied and in the node's term, and is right
 /// by that log as a commit.
 pub fn flights_stand<E: Engine>()
     ensures { (kind : _) → FlightsStand (E.meaning kind) kind }
 {}
 
-/// A session with a query that is yet to be answered has opened a database: while the query's barrier is in flight, once it is due,
-/// and while a reader has it. So it is after any list of events, whatever an engine answers.
+/// A session with a query that waits for its answer has opened a database: while the query's barrier is pending, once it is due,
+/// and while a reader has it. This holds after any list of events, whatever an engine answers.
 pub fn queries_have_databases()
     ensures { QueriesHaveDatabases }
 {}
@@ -145,7 +145,7 @@ pub fn transactions_stay()
 
 /// One voter that never stops: after each turn all of its log is applied, each reply is right by it, its log is woven, and
 /// no request waits; a reply that waited for an entry is said in the turn that applies this entry; and what a connection has
-/// seen is not below what its earlier replies rest on. The same of the lines of a script with one journal, of which each
+/// seen is not below what its earlier replies rest on. This also holds for the lines of a script with one journal, of which each
 /// request takes its answers off the front; that run ends before a request that lacks one.
 pub fn alone_is_safe<E: Engine>()
     ensures turns { (kind : _) → AloneIsSafe (E.meaning kind) kind }
@@ -155,7 +155,7 @@ pub fn alone_is_safe<E: Engine>()
 {}
 
 /// Small lives under the engine of cells, computed: a write is answered when it is applied, a transaction reads its own image
-/// and can't write over an old one, a hang-up ends the write turn and leaves a proposal, a leader that is deposed refuses
+/// and can't write over an old one, a hang-up ends the write lock and leaves a proposal, a leader that is deposed refuses
 /// what it proposed, a query with barrier reads waits for its barrier, and one that is cut is lent to a reader. And a life in
 /// which a transaction is committed and read, each event of which fits. So no law is empty.
 pub fn lives_are_made()

@@ -138,7 +138,7 @@ module _ (v : View) (g : Gateway) (s : Session) (r : Request) where
         either (is_left_out p.word) (Never NotAllowed) (cond (wrong_params (p ∷ []) params) (Never WrongParameters) (asking.asks_kind hinders (in_tx s) p.word (with_all p params))) tt
         (either (wrong_params (p ∷ []) params) (Never WrongParameters) (asking.asks_kind hinders (in_tx s) p.word (with_all p params)) tt (kind_too (in_tx s) refl p.word p params))
 
-    -- what runs, or is refused where it is a write
+    -- what runs, or is refused if it is a write
     write_too : (is_write : Bool) (asked : Asked) → IsAllowed v g s r asked → IsAllowed v g s r (cond is_write (asking.never_or hinders asked) asked)
     write_too is_write asked a = either is_write (asking.never_or hinders asked) asked (never_too hinders early asked a) a
 

@@ -30,7 +30,7 @@ some_pages : (xs : List NumberedPage) (p : NumberedPage) → no_pages (xs ++ p �
 some_pages [] p = refl
 some_pages (x ∷ xs) p = refl
 
--- where a change has no pages, nothing changed
+-- if a change has no pages, nothing changed
 pub unchanged : (a b : Image) → no_pages (changed a b) ≡ true → a ≡ b
 unchanged a b e = ⊎_elim (λ (x : same_image a b ≡ true). same_is a b x)
     (λ (x : same_image a b ≡ false). absurd (true≢false (sym e ∙ ap no_pages (changed_is a b (differ a b x)) ∙ some_pages (changed_from 2 (numbers_above_one b) a b) (sizes_of b))))

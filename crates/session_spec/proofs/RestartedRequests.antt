@@ -1,4 +1,4 @@
--- A request comes to the same wherever the counts of commits begin.
+-- A request gives the same wherever the counts of commits begin.
 use Rattle.std.proofs.Common.{◌≡◌, ◌≢◌, ℕ, ◌+◌, Bool, true, false, cond, List, [], ◌∷◌, refl, sym, ap, ◌∙◌, ⊎_elim, arith}
 use Rattle.std.specs.Prelude.{◌==◌, ◌&&◌, ◌||◌, not, is_none, Option, Some, None}
 use Rattle.std.specs.Option.{option_map}

@@ -47,7 +47,7 @@ pub record IsJoin (old new : List Server) : Type 0 where
   pub room : length old < 9
   pub is : new ≡ with_server server old
 
--- Another server than this node has another role. Where it becomes a voter, there were fewer than 7, and it has all of the log.
+-- Another server than this node has another role. If it becomes a voter, there were fewer than 7, and it has all of the log.
 pub record IsRole (v : View) (old new : List Server) : Type 0 where
   pub id : ℕ
   pub role : ℕ

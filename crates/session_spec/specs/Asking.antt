@@ -23,10 +23,10 @@ use Rattle.session_spec.specs.Servers.{has_server, has_address, server_of, with_
 use Rattle.session_spec.specs.Statements.{prepared_from, any_barred, is_left_out, is_write_word, any_write, wrong_params, with_params, with_all, prepared_at, prepared_count}
 use Rattle.session_spec.specs.Limits.{change_in_flight, one_too_many, log_full, write_hindrance}
 
--- What is asked for: nothing, as it is refused; a response, and nothing else; an effect beside the sessions; a database
--- that is there, or a new one (either with barrier reads, or without); a statement to be prepared, with the place of the rest of its text where that is told, or to be
--- let go; a lost transaction to end, with a response; a transaction to begin (at once with the write turn, or not) or to end; other servers of the cluster; statements
--- to run, or one whose rows are told.
+-- What is asked for: nothing, as it is refused; a response, and nothing else; an effect outside the sessions; a database
+-- that is there, or a new one (with barrier reads or without); a statement to be prepared, with the place of the rest of its text if that is reported, or to be
+-- let go; a lost transaction to end, with a response; a transaction to begin (at once with the write lock, or not) or to end; other servers of the cluster; statements
+-- to run, or one whose rows are reported.
 pub data Asked : Type 0 where
   Never : (cause : Cause) → Asked
   Tells : (response : Response) → Asked
@@ -45,12 +45,12 @@ pub data Asked : Type 0 where
 
 -- ---- what needs no database
 
--- a server as the leader; id 0 and no address where there is none
+-- a server as the leader; id 0 and no address without one
 abbrev pub told_leader : Option Server → Response
 told_leader None = responses.Server 0 []
 told_leader (Some server) = responses.Server server.id server.address
 
--- the leader that the node knows, where it is one of the servers
+-- the leader that the node knows, if it is one of the servers
 abbrev pub leader_known : List Server → Option ℕ → Response
 leader_known servers None = told_leader None
 leader_known servers (Some id) = told_leader (server_of servers id)
@@ -58,7 +58,7 @@ leader_known servers (Some id) = told_leader (server_of servers id)
 abbrev pub asks_describe : ℕ → ℕ → Asked
 asks_describe weight format = if format == 0 then Tells (responses.Metadata 0 weight) else Never BadFormat
 
--- a server as it is told, with its role or not
+-- a server as it is sent, with its role or not
 abbrev pub info_of : Bool → Server → NodeInfo
 info_of roles server = record { id = server.id; address = server.address; role = if roles then Some server.role else None }
 
@@ -212,7 +212,7 @@ abbrev pub asks_text : Option Cause → Bool → List ℕ → Result (List State
 asks_text hinders active sql (Err fault) params = Never (scan_cause fault)
 asks_text hinders active sql (Ok pieces) params = asks_statements hinders active (map (prepared_from sql) pieces) params
 
--- one statement, whose rows are told
+-- one statement, whose rows are reported
 abbrev pub asks_query : Option Cause → Prepared → List Value → Asked
 asks_query hinders p params =
     if any_barred (p ∷ []) then Never NotAllowed
@@ -247,7 +247,7 @@ abbrev pub asks_finalize : Option Prepared → ℕ → Asked
 asks_finalize None id = Never NoStatement
 asks_finalize (Some p) id = Drops id
 
--- a statement is prepared, where there is room
+-- a statement is prepared, if there is room
 abbrev pub with_room : Session → Prepared → Option ℕ → Asked
 with_room s p tail = if nat_le 64 (prepared_count s.statements) then Never TooManyStatements else Prepares p tail
 
@@ -323,9 +323,9 @@ abbrev pub at_leader : View → Asked → Asked
 at_leader v asked = if v.serving then asked else Never NotLeader
 
 -- What a session without a lost transaction asks for by a request. The refusals are tried in this order: not a serving leader; a second
--- database, or a change of the cluster while one is in flight; no such database or statement; a text, statement, parameters,
--- name, node or format that may not be; a limit on statements, databases or the log; a write that couldn't be kept, as another
--- session has the turn or the image is old.
+-- database, or a change of the cluster while one is pending; a missing database or statement; a text, statement, parameters,
+-- name, node or format that must not be; a limit on statements, databases or the log; a write that couldn't be kept, as another
+-- session has the write lock or the image is old.
 unfoldable pub asked_unless_lost : View → Machine → Gateway → ℕ → Session → Request → Asked
 asked_unless_lost v m g conn s requests.Leader = Tells (leader_known v.servers v.leader)
 asked_unless_lost v m g conn s (requests.Client id) = Tells (responses.Welcome 15000)
@@ -351,7 +351,7 @@ asked_unless_lost v m g conn s (requests.Weight weight) = Sets (Weighs weight)
 unfoldable pub asked_by : View → Machine → Gateway → ℕ → Session → Request → Asked
 asked_by v m g conn s request = unless_lost s.lost (asks_lost s request) (asked_unless_lost v m g conn s request)
 
--- the same of a connection's session
+-- the same for a connection's session
 abbrev pub asked : View → Machine → Gateway → ℕ → Request → Asked
 asked v m g conn request = asked_by v m g conn (g.session conn) request
 

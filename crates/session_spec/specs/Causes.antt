@@ -25,7 +25,7 @@ pub data Cause : Type 0 where
   NulInText AnswerTooBig : Cause
   Locked OutOfDate DatabaseFull : Cause
 
--- the code that the client is told
+-- the code that the client is sent
 abbrev pub code : Cause → ℕ
 code BadRequest = 1005
 code FloatParameter = 20
@@ -107,7 +107,7 @@ message Locked = codes "database is locked"
 message OutOfDate = codes "snapshot is out of date"
 message DatabaseFull = codes "database is full"
 
--- a refusal as it is told
+-- a refusal as it is sent
 abbrev pub failure : Cause → Response
 failure cause = responses.Failure (code cause) (message cause)
 
@@ -116,7 +116,7 @@ abbrev pub unread_cause : MsgFault → Cause
 unread_cause (Word (Float at)) = FloatParameter
 unread_cause fault = BadRequest
 
--- of a text that can't be cut into statements
+-- of a text that can't be split into statements
 abbrev pub scan_cause : ScanFault → Cause
 scan_cause (scan_faults.OpenQuote at) = OpenQuote
 scan_cause (scan_faults.OpenComment at) = OpenComment

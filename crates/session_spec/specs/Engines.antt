@@ -43,7 +43,7 @@ is_cut engine_faults.NoMemory = false
 abbrev pub no_answer : StatementResult
 no_answer = record { after = record { tx = 0; pages = [] }; affected = 0; columns = []; rows = [] }
 
--- Statements run over an image, one after another: each over the image before with the pages that the engine told.
+-- Statements run over an image, one after another: each over the image before with the pages that the engine answered.
 unfoldable pub runs : Image → StatementResult → List Statement → List Answer → Ending
 runs image last [] answers = Ended image last
 runs image last (s ∷ ss) [] = Lacking
@@ -64,7 +64,7 @@ abbrev pub Allows : Meaning → EngineKind → Image → Statement → Answer �
 Allows m kind image s (Ok ran) = (tx : ℕ) × MayAnswer m image s tx ran
 Allows m kind image s (Err fault) = Faults m kind image s fault
 
--- where pages were told that can't be applied, no further statement runs
+-- if pages were told that can't be applied, no further statement runs
 abbrev pub AllowsRest : Bool → Type 0 → Type 0
 AllowsRest true rest = rest
 AllowsRest false rest = Unit {0}

@@ -22,7 +22,7 @@ pub record Entry : Type 0 where
 abbrev pub entries_of : ℕ → List Content → List Entry
 entries_of term contents = map (λ (content : Content). record { term = term; content = content }) contents
 
--- the same as they stand in a node's log
+-- the same as they are in a node's log
 abbrev pub written_in : ℕ → Content → raft.Entry
 written_in term (Does command) = record { term = term; kind = raft.Command; bytes = command_bytes command }
 written_in term (Configures servers) = record { term = term; kind = raft.Change; bytes = servers_bytes servers }

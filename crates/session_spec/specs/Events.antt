@@ -27,7 +27,7 @@ settled_by index s (Some f) = if f.last == index then (if s.hung then absent els
 unfoldable pub on_applied : ℕ → Gateway → Gateway
 on_applied index g = tidy g (λ conn. settled_by index (g.session conn) (g.session conn).flight)
 
--- the reply to a proposal that is done; the query behind a barrier is yet to be run
+-- the reply to a proposal that is done; the query after a barrier has not been run yet
 abbrev pub landed_reply : Kind → Option Reply
 landed_reply Opening = Some db
 landed_reply Configuring = Some empty
@@ -49,7 +49,7 @@ told_applied index g = flat_map (λ (conn : ℕ). told_by index conn (g.session 
 
 -- ---- leadership is lost
 
--- a query behind a barrier ends; a reader goes on
+-- a query after a barrier ends; a reader continues
 abbrev pub still_lent : Option Later → Option Later
 still_lent None = None
 still_lent (Some (Due statement)) = None
@@ -78,7 +78,7 @@ lost s = if s.hung then absent else with_lost (with_later (with_flight (with_tx 
 unfoldable pub on_lost : Gateway → Gateway
 on_lost g = tidy g (λ conn. lost (g.session conn))
 
--- a number put behind those with a smaller key
+-- a number put after those with a smaller key
 abbrev pub placed : (ℕ → ℕ) → ℕ → List ℕ → List ℕ
 placed key n [] = n ∷ []
 placed key n (other ∷ others) = if nat_le (key n) (key other) then n ∷ other ∷ others else other ∷ placed key n others
@@ -96,7 +96,7 @@ last_of (Some f) = f.last
 abbrev pub waits : Session → Bool
 waits s = not s.hung && (is_flying s || is_due s.later)
 
--- Each client that waits is told so, ascending by the last index of its proposal, of which a query that is run next has none.
+-- Each client that waits is informed, ascending by the last index of its proposal, of which a query that is run next has none.
 unfoldable pub told_lost : Gateway → List (ℕ × Reply)
 told_lost g = map (λ (conn : ℕ). (conn, Refusal LeadershipLost)) (ordered (λ (conn : ℕ). last_of (g.session conn).flight) (filter (λ (conn : ℕ). waits (g.session conn)) g.conns))
 
@@ -106,7 +106,7 @@ abbrev pub left : Session → Option Flight → Session
 left s None = absent
 left s (Some f) = record { there = s.there; hung = true; database = s.database; barriers = s.barriers; later = s.later; statements = s.statements; tx = s.tx; lost = s.lost; flight = s.flight }
 
--- The client goes. A proposal in flight, and the write turn with it, stays until it is applied or lost.
+-- The client goes. A pending proposal, and the write lock with it, stays until it is applied or lost.
 unfoldable pub on_hangup : Gateway → ℕ → Gateway
 on_hangup g conn = tidy g (λ other. if other == conn then left (g.session conn) (g.session conn).flight else g.session other)
 

@@ -43,7 +43,7 @@ pub record NothingDone (g : Gateway) (conn : ℕ) (turned : Turned) : Type 0 whe
   pub gateway : (gateway_after g conn turned ≡ g) ⊎ LossEnds g conn (gateway_after g conn turned)
   pub none : proposed_by turned ≡ []
 
--- So it is with each request that is answered by a FAILURE.
+-- This holds for each request that is answered by a FAILURE.
 abbrev pub RefusalsKeep : Type 0
 RefusalsKeep = (v : View) (m : Machine) (g : Gateway) (conn : ℕ) (request : Request) (answers : List Answer) → IsRefused (reply_at_once (on_request v m g conn request answers)) → NothingDone g conn (on_request v m g conn request answers)
 
@@ -104,7 +104,7 @@ ProposesPages = (v : View) (m : Machine) (g : Gateway) (conn : ℕ) (request : R
 
 -- ---- queries that are run later than they were asked
 
--- The same of a query that the node runs behind its barrier, or as a reader gave it back.
+-- What holds of a query that the node runs after its barrier, or as a reader gave it back.
 pub record LaterKeeps (v : View) (m : Machine) (g : Gateway) (conn : ℕ) (statement : Statement) (answers : List Answer) : Type 0 where
   pub refusals : IsRefused (reply_at_once (on_later v m g conn statement answers)) → NothingDone g conn (on_later v m g conn statement answers)
   pub notes : TurnedTells (handed_later v m g conn statement) (on_later v m g conn statement answers)
@@ -151,7 +151,7 @@ pub record TakesTransaction (g : Gateway) (conn : ℕ) : Type 0 where
 abbrev pub LossesAreMarked : Type 0
 LossesAreMarked = (g : Gateway) (conn : ℕ) → (g.session conn).hung ≡ false → TakesTransaction g conn
 
--- ---- machines
+-- ---- state machines
 
 -- A command does to the databases of a node what it does to the map from names that they are.
 abbrev pub MachinesFollow : Type 0

@@ -1,4 +1,4 @@
--- What one session's open work means for the others: who has the write turn, and what counts toward the limits.
+-- What one session's open work means for the others: who has the write lock, and what counts toward the limits.
 use Rattle.std.specs.Prelude.{ℕ, ◌+◌, Bool, true, false, not, ◌&&◌, ◌||◌, ◌==◌, nat_lt, nat_le, max, List, [], ◌∷◌, length, map, sum_by, bytes_eq, Option, Some, None, if◌then◌else◌}
 use Rattle.std.specs.List.{list_any, flat_map}
 use Rattle.dq_base.specs.declared.images.Image.{Image}
@@ -9,7 +9,7 @@ use Rattle.session_spec.specs.Machine.{Machine, is_named, with_name}
 use Rattle.session_spec.specs.Engines.{takes}
 use Rattle.session_spec.specs.Sessions.{Kind, Opening, Configuring, Writing, Committing, Querying, Flight, Transaction, Session, Gateway, View}
 
--- ---- the write turn
+-- ---- the write lock
 
 -- the proposal changes the pages of its database
 abbrev pub is_write : Kind → Bool
@@ -27,7 +27,7 @@ abbrev pub holds_write_lock : Option Transaction → List ℕ → Bool
 holds_write_lock None name = false
 holds_write_lock (Some x) name = x.turn && bytes_eq x.name name
 
--- The session has the write turn of the database: by a proposal, or by its transaction.
+-- The session has the write lock of the database: by a proposal, or by its transaction.
 unfoldable pub holds : Session → List ℕ → Bool
 holds s name = writes_to s.flight name || holds_write_lock s.tx name
 
@@ -48,7 +48,7 @@ abbrev pub is_configuring : Option Flight → Bool
 is_configuring None = false
 is_configuring (Some f) = configures f.kind
 
--- some session's change of the cluster is in flight
+-- some session's change of the cluster is pending
 unfoldable pub change_in_flight : Gateway → Bool
 change_in_flight g = list_any (λ (conn : ℕ). is_configuring (g.session conn).flight) g.conns
 
@@ -89,15 +89,15 @@ abbrev pub most : List ℕ → ℕ
 most [] = 0
 most (n ∷ ns) = max n (most ns)
 
--- the most pages that a proposal in flight gives a database
+-- the most pages that a pending proposal gives a database
 unfoldable pub pending_pages : Gateway → List ℕ → ℕ
 pending_pages g name = most (map (λ (conn : ℕ). flown_by (g.session conn).flight name) g.conns)
 
--- the pages of a database: of its newest image, or of its proposal in flight, whichever has more
+-- the pages of a database: of its newest image, or of its pending proposal, whichever has more
 abbrev pub held_pages : Machine → Gateway → List ℕ → ℕ
 held_pages m g name = max (page_count (m.base name).image) (pending_pages g name)
 
--- the pages of all databases, also of those that are proposed, where this one has so many
+-- the pages of all databases, also of those that are proposed, if this one has this many
 unfoldable pub pages_with : Machine → Gateway → List ℕ → ℕ → ℕ
 pages_with m g name pages = max (held_pages m g name) pages + sum_by (λ (other : List ℕ). if bytes_eq other name then 0 else held_pages m g other) (all_names m g)
 
@@ -105,7 +105,7 @@ pages_with m g name pages = max (held_pages m g name) pages + sum_by (λ (other 
 abbrev pub pages_full : Machine → Gateway → List ℕ → Image → Bool
 pages_full m g name to = nat_lt 16384 (pages_with m g name (page_count to))
 
--- the same of a change of pages, or the pages can't be applied
+-- the same for a change of pages, or the pages can't be applied
 unfoldable pub too_full : Machine → Gateway → List ℕ → List NumberedPage → Image → Bool
 too_full m g name pages to = not (takes pages) || pages_full m g name to
 
@@ -119,8 +119,8 @@ log_full v = nat_le 4294900000 v.last
 abbrev pub first_cause : Bool → Cause → Option Cause → Option Cause
 first_cause holds cause others = if holds then Some cause else others
 
--- What hinders a change of pages of a database: another session has the turn; there were commits since the image was
--- pinned, when there were so many; or there would be too many pages.
+-- What hinders a change of pages of a database: another session has the write lock; there were commits since the image was
+-- pinned, when there were this many; or there would be too many pages.
 unfoldable pub change_refusal : Machine → Gateway → ℕ → List ℕ → ℕ → List NumberedPage → Image → Option Cause
 change_refusal m g conn name mark pages to = first_cause (other_holds g conn name) Locked (first_cause (not ((m.base name).newest == mark)) OutOfDate (first_cause (too_full m g name pages to) DatabaseFull None))
 
@@ -129,6 +129,6 @@ abbrev pub hinders_in : Machine → Gateway → ℕ → Session → Option Trans
 hinders_in m g conn s None = first_cause (other_holds g conn s.database) Locked None
 hinders_in m g conn s (Some x) = first_cause (other_holds g conn x.name) Locked (first_cause (not ((m.base x.name).newest == x.mark)) OutOfDate None)
 
--- What hinders a session's write before an engine runs it: its changes would be refused for the turn, or for an old image.
+-- What hinders a session's write before an engine runs it: its changes would be refused for the write lock, or for an old image.
 unfoldable pub write_hindrance : Machine → Gateway → ℕ → Session → Option Cause
 write_hindrance m g conn s = hinders_in m g conn s s.tx

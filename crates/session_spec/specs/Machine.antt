@@ -39,7 +39,7 @@ blank = record { image = empty_image; pending = None; newest = 0; since = 0 }
 abbrev pub nothing : Machine
 nothing = record { names = []; base = λ name. blank }
 
--- ---- what a node's machine holds
+-- ---- what a node's state machine holds
 
 abbrev pub base_of : Option Database → Base
 base_of None = blank
@@ -55,7 +55,7 @@ machine_of databases = record { names = names_of databases; base = λ name. base
 abbrev pub with_name : List ℕ → List (List ℕ) → List (List ℕ)
 with_name name names = at_name (λ (other : List ℕ). other) name name (λ (other : List ℕ). other) names
 
--- the pages are one more commit, where they can be applied; else the database stays
+-- the pages are one more commit, if they can be applied; else the database stays
 unfoldable pub with_commit : List NumberedPage → Base → Base
 with_commit pages base =
     if is_none (page_fault pages)
@@ -104,7 +104,7 @@ files_from m (e ∷ es) = files_from (done m e.content) es
 unfoldable pub files : List Entry → Machine
 files entries = files_from nothing entries
 
--- the database of the name after the first so many entries
+-- the database of the name after the first this many entries
 abbrev pub base_at : List Entry → ℕ → List ℕ → Base
 base_at entries index name = (files (take index entries)).base name
 

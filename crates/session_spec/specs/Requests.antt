@@ -44,7 +44,7 @@ with_database s name = record { there = s.there; hung = s.hung; database = name;
 abbrev pub with_barriers : Session → Bool → Session
 with_barriers s barriers = record { there = s.there; hung = s.hung; database = s.database; barriers = barriers; later = s.later; statements = s.statements; tx = s.tx; lost = s.lost; flight = s.flight }
 
--- the session with a query that is yet to be answered, or none
+-- the session with a query that waits for its answer, or none
 abbrev pub with_later : Session → Option Later → Session
 with_later s later = record { there = s.there; hung = s.hung; database = s.database; barriers = s.barriers; later = later; statements = s.statements; tx = s.tx; lost = s.lost; flight = s.flight }
 
@@ -69,12 +69,12 @@ flying v s name contents pages kind = with_flight s (Some (record { name = name;
 
 -- ---- statements
 
--- refused where there is a cause
+-- refused if there is a cause
 abbrev pub unless : Option Cause → Turned → Turned
 unless None turned = turned
 unless (Some cause) turned = Refused cause
 
--- why rows can't be told
+-- why rows can't be sent
 abbrev pub rows_cause : Result (List (List ℕ)) RowFault → Option Cause
 rows_cause (Ok parts) = None
 rows_cause (Err (row_faults.Nul row column)) = Some NulInText
@@ -85,7 +85,7 @@ abbrev pub or_cause : Option Cause → Option Cause → Option Cause
 or_cause None later = later
 or_cause (Some cause) later = Some cause
 
--- where rows are to be told, why they can't be; else what hinders besides
+-- if rows are to be sent, why they can't be; else what hinders besides
 unfoldable pub row_cause : Bool → StatementResult → Option Cause → Option Cause
 row_cause rows answer others = if rows then or_cause (rows_cause (parts_of answer.columns answer.rows)) others else others
 
@@ -98,13 +98,13 @@ reply_of false answer = result answer.affected
 abbrev pub change_of : View → List ℕ → List NumberedPage → List Content
 change_of v name pages = map Does (split name (record { tx = tx_of v.term (suc v.last); pages = pages }))
 
--- outside a transaction a write is proposed, where nothing hinders it: the log's end, rows that can't be told, the turn, pages
+-- outside a transaction a write is proposed, if nothing hinders it: the log's end, rows that can't be sent, the write lock, pages
 unfoldable pub outside_write : View → Machine → Gateway → ℕ → Session → List Statement → Bool → List NumberedPage → Image → StatementResult → Turned
 outside_write v m g conn s ss rows pages to answer =
     unless (first_cause (log_full v) LogFull (row_cause rows answer (change_refusal m g conn s.database (m.base s.database).newest pages to)))
     (Proposes (flying v s s.database (change_of v s.database pages) (page_count to) (Writing (reply_of rows answer))) (change_of v s.database pages) (Outside s.database ss))
 
--- Statements outside a transaction came to an end, over the newest image.
+-- Statements outside a transaction ended, over the newest image.
 unfoldable pub outside : View → Machine → Gateway → ℕ → Session → List Statement → Bool → Ending → Turned
 outside v m g conn s ss rows Lacking = Lacks
 outside v m g conn s ss rows (TooLarge answer) = unless (first_cause (log_full v) LogFull (row_cause rows answer (change_refusal m g conn s.database (m.base s.database).newest answer.after.pages (m.base s.database).image))) (Refused DatabaseFull)
@@ -115,7 +115,7 @@ outside v m g conn s ss rows (Ended to answer) =
     then unless (row_cause rows answer None) (Answers s (reply_of rows answer) (Outside s.database ss))
     else outside_write v m g conn s ss rows pages to answer
 
--- Statements inside a transaction came to an end, over its working image. The first that changes pages takes the turn.
+-- Statements inside a transaction ended, over its working image. The first that changes pages takes the write lock.
 unfoldable pub inside : Machine → Gateway → ℕ → Session → Transaction → List Statement → Bool → Ending → Turned
 inside m g conn s x ss rows Lacking = Lacks
 inside m g conn s x ss rows (TooLarge answer) = unless (row_cause rows answer (change_refusal m g conn x.name x.mark answer.after.pages x.working)) (Refused DatabaseFull)
@@ -137,7 +137,7 @@ run_in v m g conn s (Some x) ss rows answers = inside m g conn s x ss rows (runs
 
 -- ---- the end of a transaction
 
--- whether a transaction has nothing to commit: it never took the turn to write, or no page differs
+-- whether a transaction has nothing to commit: it never took the write lock, or no page differs
 abbrev pub has_nothing : Transaction → Bool
 has_nothing x = not x.turn || no_pages (changed x.pinned x.working)
 
@@ -156,7 +156,7 @@ commit_in v m g conn s (Some x) = committed v m g conn s x
 
 -- ---- barrier reads
 
--- a query waits for a barrier: outside a transaction, where the connection asks for it
+-- a query waits for a barrier: outside a transaction, if the connection asks for it
 abbrev pub waits_first : Session → Bool
 waits_first s = s.barriers && is_none s.tx
 
@@ -177,7 +177,7 @@ was_cut (TooLarge answer) = false
 was_cut (Stopped fault) = is_cut fault
 was_cut (Ended to answer) = false
 
--- outside a transaction a query that was cut is lent to a reader, where there are readers
+-- outside a transaction a query that was interrupted is lent to a reader, if there are readers
 abbrev pub read_outside : View → Machine → Gateway → ℕ → Session → Statement → Ending → Turned
 read_outside v m g conn s statement end = if v.readers && was_cut end then Lends (with_later s (Some (Lent statement))) (job_of m s statement) else outside v m g conn s (statement ∷ []) true end
 
@@ -185,16 +185,16 @@ abbrev pub read_in : View → Machine → Gateway → ℕ → Session → Option
 read_in v m g conn s None statement answers = read_outside v m g conn s statement (runs (m.base s.database).image no_answer (statement ∷ []) answers)
 read_in v m g conn s (Some x) statement answers = run_in v m g conn s (Some x) (statement ∷ []) true answers
 
--- a statement whose rows are told
+-- a statement whose rows are reported
 abbrev pub reads : View → Machine → Gateway → ℕ → Session → Statement → List Answer → Turned
 reads v m g conn s statement answers = if waits_first s then barrier_first v s statement else read_in v m g conn s s.tx statement answers
 
--- rows as they are told, or why they can't be
+-- rows as they are sent, or why they can't be
 abbrev pub rows_or : Option Cause → StatementResult → Reply
 rows_or None answer = Rows answer
 rows_or (Some cause) answer = Refusal cause
 
--- What a reader tells, by the engine's answer to its job; nothing where that lacks, and where the query would change pages: then
+-- What a reader answers, by the engine's answer to its job; nothing if that lacks, and if the query would change pages: then
 -- it goes back to the node.
 unfoldable pub job_reply : Job → Ending → Option Reply
 job_reply job Lacking = None
@@ -204,17 +204,17 @@ job_reply job (Ended to answer) = if no_pages (changed job.image to) then Some (
 
 -- ---- requests
 
--- a new database is proposed, where it has room
+-- a new database is proposed, if it has room
 abbrev pub creates : View → Machine → Gateway → Session → List ℕ → Turned
 creates v m g s name =
     if pages_full m g name empty_image then Refused DatabaseFull
     else Proposes (flying v s name (Does (OpenDb name) ∷ []) 0 Opening) (Does (OpenDb name) ∷ []) Nothing
 
--- a transaction begins; at once with the write turn, or without it
+-- a transaction begins; at once with the write lock, or without it
 abbrev pub begins : Machine → Gateway → ℕ → Session → Bool → Turned
 begins m g conn s at_once = if at_once && other_holds g conn s.database then Refused Locked else Answers (begun m s at_once) (result 0) Began
 
--- What comes of what is asked, with the refusals that come at or behind the engine.
+-- What comes of what is asked, with the refusals that come at or after the engine.
 unfoldable pub does : View → Machine → Gateway → ℕ → Session → Asked → List Answer → Turned
 does v m g conn s (Never cause) answers = Refused cause
 does v m g conn s (Tells response) answers = Answers s (Single response) Nothing
@@ -231,7 +231,7 @@ does v m g conn s (Changes servers) answers = if log_full v then Refused LogFull
 does v m g conn s (Runs ss) answers = run_in v m g conn s s.tx ss false answers
 does v m g conn s (Reads statement) answers = reads v m g conn s statement answers
 
--- A request at a session that is there, is not hung up and has no proposal in flight.
+-- A request at a session that is there, is not hung up and has no pending proposal.
 unfoldable pub on_request : View → Machine → Gateway → ℕ → Request → List Answer → Turned
 on_request v m g conn request answers = does v m g conn (g.session conn) (asked v m g conn request) answers
 
@@ -257,7 +257,7 @@ handed v m g conn request = handed_for m (g.session conn) (asked v m g conn requ
 
 -- ---- a query that was yet to be answered
 
--- What comes of it where the node runs it after all, at its session without it: as if it was asked now, but with no barrier and
+-- What comes of it if the node runs it after all, at its session without it: as if it was asked now, but with no barrier and
 -- no reader any more.
 unfoldable pub on_later : View → Machine → Gateway → ℕ → Statement → List Answer → Turned
 on_later v m g conn statement answers = if v.serving then run_in v m g conn (g.session conn) (g.session conn).tx (statement ∷ []) true answers else Refused NotLeader
@@ -272,11 +272,11 @@ handed_later v m g conn statement = if v.serving then handed_over (ground m (g.s
 unfoldable pub with_session : Gateway → ℕ → Session → Gateway
 with_session g conn s = record { conns = g.conns; session = λ other. if other == conn then s else g.session other; weight = g.weight }
 
--- the gateway where no query of the connection is yet to be answered: it is run now, or a reader has told its reply
+-- the gateway where no query of the connection waits for its answer: it is run now, or a reader has given its reply
 abbrev pub without_later : Gateway → ℕ → Gateway
 without_later g conn = with_session g conn (with_later (g.session conn) None)
 
--- the gateway after an effect beside the sessions
+-- the gateway after an effect outside the sessions
 abbrev pub affected_by : Gateway → Effect → Gateway
 affected_by g (HandsOver id) = g
 affected_by g (JoinsPeer id) = g

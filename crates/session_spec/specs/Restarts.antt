@@ -1,4 +1,4 @@
--- Counts of commits that begin again: a machine that was restored from a snapshot counts from nothing, and all comes to the
+-- Counts of commits that begin again: a state machine that was restored from a snapshot counts from nothing, and all comes to the
 -- same.
 use Rattle.std.specs.Prelude.{◌≡◌, ℕ, ◌+◌, List}
 use Rattle.std.specs.Option.{option_map}
@@ -11,7 +11,7 @@ use Rattle.session_spec.specs.Machine.{Machine, act}
 use Rattle.session_spec.specs.Requests.{on_request, handed, on_later, handed_later, with_session, without_later}
 use Rattle.session_spec.specs.Sessions.{Transaction, Session, Gateway, View, Turned, Refused, Lacks, Answers, Proposes, Lends, Affects}
 
--- What the counts of a restored machine lack, by the names of databases, the marks of open transactions lack too.
+-- What the counts of a restored state machine lack, by the names of databases, the marks of open transactions lack too.
 abbrev pub shifted_tx : (List ℕ → ℕ) → Transaction → Transaction
 shifted_tx lacks x = record { name = x.name; mark = lacks x.name + x.mark; pinned = x.pinned; working = x.working; turn = x.turn; touched = x.touched }
 
@@ -21,7 +21,7 @@ shifted_session lacks s = record { there = s.there; hung = s.hung; database = s.
 abbrev pub shifted : (List ℕ → ℕ) → Gateway → Gateway
 shifted lacks g = record { conns = g.conns; session = λ conn. shifted_session lacks (g.session conn); weight = g.weight }
 
--- the databases of such a machine, with what its counts lack; pages since a checkpoint may be counted otherwise
+-- the databases of a restored state machine, with what its counts lack; pages since a checkpoint may be counted otherwise
 abbrev pub restarted : (List ℕ → ℕ) → (List ℕ → ℕ) → Machine → Machine
 restarted lacks since m = record { names = m.names; base = λ name. record { image = (m.base name).image; pending = (m.base name).pending; newest = lacks name + (m.base name).newest; since = since name } }
 
@@ -34,7 +34,7 @@ shifted_turned lacks (Proposes s contents note) = Proposes (shifted_session lack
 shifted_turned lacks (Lends s job) = Lends (shifted_session lacks s) job
 shifted_turned lacks (Affects effect) = Affects effect
 
--- A request comes to the same wherever the counts of commits begin, and hands the same to the engine.
+-- A request gives the same wherever the counts of commits begin, and hands the same to the engine.
 pub record RequestSame (v : View) (lacks since : List ℕ → ℕ) (m : Machine) (g : Gateway) (conn : ℕ) (request : Request) : Type 0 where
   pub turned : (answers : List Answer) → on_request v (restarted lacks since m) (shifted lacks g) conn request answers ≡ shifted_turned lacks (on_request v m g conn request answers)
   pub handed : handed v (restarted lacks since m) (shifted lacks g) conn request ≡ handed v m g conn request
@@ -42,7 +42,7 @@ pub record RequestSame (v : View) (lacks since : List ℕ → ℕ) (m : Machine)
 abbrev pub CountsRestart : Type 0
 CountsRestart = (v : View) (lacks since : List ℕ → ℕ) (m : Machine) (g : Gateway) (conn : ℕ) (request : Request) → RequestSame v lacks since m g conn request
 
--- So it is with a query that is run later than it was asked.
+-- This holds for a query that is run later than it was asked.
 pub record LaterSame (v : View) (lacks since : List ℕ → ℕ) (m : Machine) (g : Gateway) (conn : ℕ) (statement : Statement) : Type 0 where
   pub turned : (answers : List Answer) → on_later v (restarted lacks since m) (shifted lacks g) conn statement answers ≡ shifted_turned lacks (on_later v m g conn statement answers)
   pub handed : handed_later v (restarted lacks since m) (shifted lacks g) conn statement ≡ handed_later v m g conn statement
@@ -50,7 +50,7 @@ pub record LaterSame (v : View) (lacks since : List ℕ → ℕ) (m : Machine) (
 abbrev pub LatersRestart : Type 0
 LatersRestart = (v : View) (lacks since : List ℕ → ℕ) (m : Machine) (g : Gateway) (conn : ℕ) (statement : Statement) → LaterSame v lacks since m g conn statement
 
--- So it is with all else that happens to sessions: entries that are applied, a lost leadership, connections that come and go.
+-- This holds for all else that happens to sessions: entries that are applied, a lost leadership, connections that come and go.
 pub record EventsSame (lacks : List ℕ → ℕ) (g : Gateway) : Type 0 where
   pub applied : (index : ℕ) → on_applied index (shifted lacks g) ≡ shifted lacks (on_applied index g)
   pub told_applied : (index : ℕ) → told_applied index (shifted lacks g) ≡ told_applied index g
@@ -65,6 +65,6 @@ pub record EventsSame (lacks : List ℕ → ℕ) (g : Gateway) : Type 0 where
 abbrev pub EventsShift : Type 0
 EventsShift = (lacks : List ℕ → ℕ) (g : Gateway) → EventsSame lacks g
 
--- And a command does to such a machine what it does to the other.
+-- And a command does to a restored state machine what it does to the other.
 abbrev pub CommandsRestart : Type 0
 CommandsRestart = (lacks since : List ℕ → ℕ) (m : Machine) (command : Command) → (later : List ℕ → ℕ) × (act (restarted lacks since m) command ≡ restarted lacks later (act m command))

@@ -21,7 +21,7 @@ abbrev pub with_server : Server → List Server → List Server
 with_server new [] = new ∷ []
 with_server new (server ∷ servers) = if nat_lt new.id server.id then new ∷ server ∷ servers else server ∷ with_server new servers
 
--- the server with another role, where it has the id
+-- the server with another role, if it has the id
 abbrev pub in_role : ℕ → ℕ → Server → Server
 in_role id role server = if server.id == id then record { id = server.id; address = server.address; role = role } else server
 

@@ -19,7 +19,7 @@ pub data Reply : Type 0 where
   Single : (response : Response) → Reply
   Rows : (answer : StatementResult) → Reply
 
--- the responses that it is told in: rows in as many as they have parts
+-- the responses that it is sent in: rows in as many as they have parts
 abbrev pub responses_of : Reply → List Response
 responses_of (Refusal cause) = failure cause ∷ []
 responses_of (Single response) = response ∷ []
@@ -44,7 +44,7 @@ pub record Prepared : Type 0 where
   pub word : WordKind
   pub params : ℕ
 
--- what a proposal in flight is for: a new database; other servers of the cluster; the write of statements outside a
+-- what a pending proposal is for: a new database; other servers of the cluster; the write of statements outside a
 -- transaction, with the reply that it gets; the commit of the open transaction; the barrier before a query
 pub data Kind : Type 0 where
   Opening : Kind
@@ -53,7 +53,7 @@ pub data Kind : Type 0 where
   Committing : Kind
   Querying : (statement : Statement) → Kind
 
--- A proposal in flight: its entries were appended in the term, at the indexes from first to last. Where it is for a
+-- A pending proposal: its entries were appended in the term, at the indexes from first to last. If it is for a
 -- database, it has the name, and how many pages the database has after it.
 pub record Flight : Type 0 where
   pub name : List ℕ
@@ -64,7 +64,7 @@ pub record Flight : Type 0 where
   pub kind : Kind
 
 -- An open transaction: its database; how many commits this had when the transaction began, and the image then; that image
--- with the transaction's own changes; whether it has the write turn; and the numbers of the pages that its statements changed,
+-- with the transaction's own changes; whether it has the write lock; and the numbers of the pages that its statements changed,
 -- in the order in which they did.
 pub record Transaction : Type 0 where
   pub name : List ℕ
@@ -74,14 +74,14 @@ pub record Transaction : Type 0 where
   pub turn : Bool
   pub touched : List ℕ
 
--- A query that its session has yet to answer, with nothing in flight for it: its barrier is applied, and it is run next; or a
+-- A query that its session has yet to answer, with nothing pending for it: its barrier is applied, and it is run next; or a
 -- reader beside the node runs it.
 pub data Later : Type 0 where
   Due : (statement : Statement) → Later
   Lent : (statement : Statement) → Later
 
 -- A session. `there` is false of a connection that has none. A session is `hung` whose client has gone while its proposal
--- is in flight. The database is the empty name where none was opened. Where the connection asked for `barriers`, its queries
+-- is pending. The database is the empty name where none was opened. If the connection asked for `barriers`, its queries
 -- outside a transaction wait for a barrier. A statement's number is its place in the list. A session is `lost` whose transaction
 -- was open when leadership was lost, and which neither COMMIT nor ROLLBACK has ended since.
 pub record Session : Type 0 where
@@ -115,7 +115,7 @@ no_sessions = record { conns = []; session = λ conn. absent; weight = 0 }
 abbrev pub in_tx : Session → Bool
 in_tx s = not (is_none s.tx)
 
--- a proposal is in flight
+-- a proposal is pending
 abbrev pub is_flying : Session → Bool
 is_flying s = not (is_none s.flight)
 
@@ -137,7 +137,7 @@ lent_query None = None
 lent_query (Some (Due statement)) = None
 lent_query (Some (Lent statement)) = Some statement
 
--- the last request is yet to be answered
+-- the last request waits for its answer
 abbrev pub is_busy : Session → Bool
 is_busy s = is_flying s || not (is_none s.later)
 
@@ -146,7 +146,7 @@ unfoldable pub may_ask : Session → Bool
 may_ask s = s.there && not s.hung && is_none s.flight && is_none s.later
 
 -- What a node is at the moment: its id; the leader that it knows in its term; whether it serves as the leader; its term and
--- its last index; the servers of the applied configuration; whether it has links to other nodes, and readers beside it; and,
+-- its last index; the servers of the applied configuration; whether it has peer connections to other nodes, and readers that work for it; and,
 -- at a leader, the peers whose log is known to reach its last index.
 pub record View : Type 0 where
   pub id : ℕ
@@ -168,7 +168,7 @@ pub data Note : Type 0 where
   Inside : (name : List ℕ) (statements : List Statement) → Note
   Outside : (name : List ℕ) (statements : List Statement) → Note
 
--- what a request does beside the sessions, which is answered by EMPTY: leadership is handed to a node; the connection
+-- what a request does outside the sessions, which is answered by EMPTY: leadership is handed to a node; the connection
 -- carries a peer's messages from then on; the node has another weight
 pub data Effect : Type 0 where
   HandsOver : (id : ℕ) → Effect
@@ -181,9 +181,9 @@ pub record Job : Type 0 where
   pub image : Image
   pub statement : Statement
 
--- What comes of a request: a refusal, which changes nothing; nothing, where an answer of the engine is missing; the session
+-- What comes of a request: a refusal, which changes nothing; nothing, if an answer of the engine is missing; the session
 -- after it, with a reply at once, with entries to be appended in the view's term, or with a query that a reader runs; or an
--- effect beside the sessions.
+-- effect outside the sessions.
 pub data Turned : Type 0 where
   Refused : (cause : Cause) → Turned
   Lacks : Turned

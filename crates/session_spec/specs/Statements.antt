@@ -38,11 +38,11 @@ is_write_word words.Write = true
 is_write_word words.LeftOut = false
 is_write_word words.Other = false
 
--- one of these statements is such a write
+-- one of these statements writes
 abbrev pub any_write : List Prepared → Bool
 any_write ps = list_any (λ (p : Prepared). is_write_word p.word) ps
 
--- one of these statements may not stand in a query, or among several
+-- one of these statements must not be in a query, or among several
 abbrev pub any_barred : List Prepared → Bool
 any_barred ps = list_any (λ (p : Prepared). is_control p.word || is_left_out p.word) ps
 

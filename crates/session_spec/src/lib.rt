@@ -33,7 +33,7 @@ pub fn proposes_pages()
     ensures { ProposesPages }
 {}
 
-/// A query that the node runs later than it was asked, behind its barrier or as a reader gave it back, keeps the same: its
+/// A query that the node runs later than it was asked, after its barrier or as a reader gave it back, keeps the same: its
 /// refusals leave all as it was, what is noted is what was handed over, and what it proposes is a change of pages.
 pub fn laters_keep()
     ensures { LatersKeep }
@@ -52,19 +52,19 @@ pub fn machines_follow()
     ensures { MachinesFollow }
 {}
 
-/// What is written into a log is seen there again, in its term: commands and configurations that have a spelling.
+/// What is written into a log is seen there again, in its term: commands and configurations that have an encoding.
 pub fn written_is_seen()
     ensures { WrittenIsSeen }
 {}
 
-/// A request comes to the same wherever a machine's counts of commits begin, and hands the same to the engine: so a node that
+/// A request gives the same wherever a state machine's counts of commits begin, and hands the same to the engine: so a node that
 /// was restored from a snapshot, and counts from there, answers as one that counts from the first entry.
 pub fn counts_restart()
     ensures requests { CountsRestart }
     ensures later { LatersRestart }
 {}
 
-/// So it is with applied entries, a lost leadership, and connections that come and go; and a command does to such a machine
+/// This holds for applied entries, a lost leadership, and connections that come and go; and a command does to a restored state machine
 /// what it does to the other.
 pub fn events_restart()
     ensures events { EventsShift }

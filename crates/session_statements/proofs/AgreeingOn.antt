@@ -1,4 +1,4 @@
--- No number stands for two images after a command either.
+-- No number represents two images after a command either.
 use Rattle.std.proofs.Common.{◌≡◌, ℕ, zero, suc, ◌<◌, ◌≤◌, Bool, false, cond, List, [], ◌∷◌, length, map, get_or, Contains, Option, Some, None, IfSome, refl, sym, ap, subst, ◌∙◌, arith, inl, inr}
 use Rattle.std.specs.Prelude.{◌==◌}
 use Rattle.std.specs.List.{AllByRecursion}
@@ -36,7 +36,7 @@ base_of (x ∷ xs) d apart (suc k, lt, is) =
       | inr other ↦ cond-false (x.place == d.place) (Some (numbered x)) (base_at d.place (map numbered xs)) other ∙ rest
     ]
 
--- the database that stands at a place
+-- the database that is at a place
 pub record FoundAt (place : ℕ) (ds : List Database) (base : Numbered) : Type 0 where
   pub database : Database
   pub among : Contains ds database
@@ -101,7 +101,7 @@ module _ (known works : List Known) (next : ℕ) (before after : List Database) 
   now : ℕ → ℕ → Image
   now place commits = chosen (base_at place (map numbered after)) commits (a.newest place commits)
 
-  -- what a database's number stood for
+  -- what a database's number represented
   stood : (d : Database) → Contains before d → newest_image d.store ≡ a.newest d.place (newest d.store)
   stood d c = (of_contained (λ (b : Numbered). IsNamed a.working a.newest next (map numbered before) b.number b.image) (map numbered before) (numbered d) a.stands_so (numbered_in before d c)).is
 

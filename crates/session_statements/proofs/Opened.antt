@@ -1,4 +1,4 @@
--- An engine's count of refused openings rose where running ended for one, and there was a limit of steps where it was cut off.
+-- An engine's count of refused openings rose where running ended for one, and there was a limit of steps where it was interrupted.
 use Rattle.std.proofs.Common.{◌≡◌, ℕ, ◌<◌, true, Err, refl, ap}
 use Rattle.std.specs.Prelude.{Option, IsSome, Result}
 use Rattle.std.proofs.lemmas.Bool.{false≢true}

@@ -157,7 +157,7 @@ led_ran m kind tx image statements before now to answer led = record {
   ends = subst (λ (e : Ending). Shows tx image e (codes.Ended (record { together = Some (record { tx = tx; pages = changed image to }); answer = answer }))) (sym led.ends) (record { together = Some (record { tx = tx; pages = changed image to }); answer = answer }, refl, refl, refl, led.leads);
 }
 
--- where they all led, told by the pages that they touched
+-- if they all led, told by the pages that they touched
 pub came_through : (m : Meaning) (kind : EngineKind) (tx : ℕ) (image : Image) (ss : List Statement) (before now : Option Told) (to : Image) (answer : StatementResult) (o : Option CodeEnding) (touched known : List ℕ) (reached : There) → o ≡ None
     → AdvancedTo (call_of m kind before now) tx image ss to answer o → (o ≡ None → ListsAll touched image to) → IsShort to → known ≡ touched → reached ≡ reached_at (put_in_order [] known) to → CameTo (call_of m kind before now) tx image ss answer (came.Through reached)
 came_through m kind tx image ss before now to answer o touched known reached none ran touches short same is = (
@@ -166,7 +166,7 @@ came_through m kind tx image ss before now to answer o touched known reached non
   ap (change_to image) (is ∙ ap (λ (ns : List ℕ). reached_at (put_in_order [] ns) to) same) ∙ arrives touched image to (touches none) short.main short.side,
 )
 
--- how running ends that came to this
+-- how running ends that ended with this
 pub came_ran : (m : Meaning) (kind : EngineKind) (tx : ℕ) (image back : Image) (ss : List Statement) (before now : Option Told) (answer : StatementResult) (c : UnsettledRun) (ending : CodeEnding) → CameTo (call_of m kind before now) tx image ss answer c → back ≡ image → ending ≡ ended tx back answer c → RanTo (call_of m kind before now) tx image ss ending
 came_ran m kind tx image back ss before now answer (came.Through reached) ending (to, led, change) same is =
     subst (RanTo (call_of m kind before now) tx image ss)

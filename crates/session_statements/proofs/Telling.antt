@@ -1,4 +1,4 @@
--- What an engine told, one list of answers after another.
+-- What an engine answered, one list of answers after another.
 use Rattle.std.proofs.Common.{List, [], ◌∷◌, ◌++◌, Option, refl, sym, subst}
 use Rattle.sql_engine.specs.Meanings.{Told}
 use Rattle.session_spec.specs.Engines.{Answer}

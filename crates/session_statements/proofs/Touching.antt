@@ -19,7 +19,7 @@ is_change m image s tx ran a = record { to = a.after; main_fits = a.short.main; 
 change_of : (m : Meaning) (image to : Image) (s : Statement) (tx : ℕ) (ran : StatementResult) → Answers m image s tx ran → to ≡ applied image ran.after.pages → ran.after.pages ≡ changed image to
 change_of m image to s tx ran a is = ap (λ set. set.pages) a.pages ∙ ap (changed image) (sym (is ∙ leads_on m image s tx ran a))
 
--- its numbers behind those of the pages that differ so far
+-- its numbers after those of the pages that differ so far
 pub touches_more : (m : Meaning) (s : Statement) (tx : ℕ) (ran : StatementResult) (ns ms : List ℕ) (a b c : Image) → Answers m b s tx ran → c ≡ applied b ran.after.pages → ms ≡ ns ++ numbers_of ran.after.pages → ListsAll ns a b → ListsAll ms a c
 touches_more m s tx ran ns ms a b c answers is more lists =
     subst (λ (numbers : List ℕ). ListsAll numbers a c) (sym more) (lists_next ns ran.after.pages a b c lists (change_of m b c s tx ran answers is))

@@ -1,4 +1,4 @@
--- That no number stands for two images: neither for an engine, nor for the open transactions, nor for the databases.
+-- That no number represents two images: neither for an engine, nor for the open transactions, nor for the databases.
 use Rattle.std.specs.Prelude.{◌≡◌, ℕ, ◌<◌, ◌≤◌, ◌==◌, Bool, false, List, length, find, All, Contains, Option, IfSome}
 use Rattle.dq_base.specs.declared.images.Image.{Image}
 use Rattle.dq_base.specs.declared.image_number.ImageNumber.{ImageNumber}
@@ -6,7 +6,7 @@ use Rattle.dq_base.specs.declared.image_number.ImageNumber.TheVariants.{Newest, 
 use Rattle.sql_engine.specs.Known.{Known}
 use Rattle.database_state.specs.ImageNumbers.{Numbered}
 
--- the image that each number stands for: a working image, or a database's newest image by its place and its commits
+-- the image that each number represents: a working image, or a database's newest image by its place and its commits
 abbrev pub image_by : (ℕ → Image) → (ℕ → ℕ → Image) → ImageNumber → Image
 image_by working newest (Working number) = working number
 image_by working newest (Newest place commits) = newest place commits
@@ -19,23 +19,23 @@ is_at place (Working number) = false
 abbrev pub base_at : ℕ → List Numbered → Option Numbered
 base_at place bases = find (λ (base : Numbered). is_at place base.number) bases
 
--- so many commits are no more than those of the number
+-- this many commits are no more than those of the number
 abbrev pub IsReached : ℕ → ImageNumber → Type 0
 IsReached commits (Newest place others) = commits ≤ others
 IsReached commits (Working number) = Unit {0}
 
 -- A number has been given: a working image's is below the next one; the place of a newest image's is that of a database, which
--- has as many commits or more, where it is there.
+-- has as many commits or more, if it is there.
 abbrev pub IsGiven : ℕ → List Numbered → ImageNumber → Type 0
 IsGiven next bases (Working number) = number < next
 IsGiven next bases (Newest place commits) = (place < length bases) × IfSome (base_at place bases) (λ base. IsReached commits base.number)
 
--- the number has been given, and it stands for this image
+-- the number has been given, and it represents this image
 pub record IsNamed (working : ℕ → Image) (newest : ℕ → ℕ → Image) (next : ℕ) (bases : List Numbered) (number : ImageNumber) (image : Image) : Type 0 where
   pub is : image ≡ image_by working newest number
   pub given : IsGiven next bases number
 
--- All numbers have been given, and each stands for one image: those of what an engine knows, those of the working images, and
+-- All numbers have been given, and each represents one image: those of what an engine knows, those of the working images, and
 -- those of the databases' newest images.
 pub record Agree (known works : List Known) (next : ℕ) (bases : List Numbered) : Type 0 where
   pub working : ℕ → Image

@@ -3,7 +3,7 @@ use Rattle.std.specs.Prelude.{Option}
 use Rattle.sql_engine.specs.declared.kind.EngineKind.{EngineKind}
 use Rattle.sql_engine.specs.Meanings.{Meaning, Told}
 
--- What its answers mean, of which kind it is, and what it had told before the call and has told after it, where it tells its answers.
+-- What its answers mean, of which kind it is, and what it had told before the call and has told after it, if it reports its answers.
 pub record EngineCall : Type 1 where
   pub meaning : Meaning
   pub kind : EngineKind

@@ -9,7 +9,7 @@ use Rattle.session_statements.specs.declared.ending.Ending.{Ending}
 use Rattle.session_statements.specs.declared.ending.Ending.TheVariants as endings
 use Rattle.session_statements.specs.Running.{change_in}
 
--- the image that statements left, by how running them ended; where they left none, the image that they ran over
+-- the image that statements left, by how running them ended; if they left none, the image that they ran over
 abbrev pub left_by : Image → Ending → Image
 left_by image (endings.Ended ran) = applied image (change_in ran).pages
 left_by image (endings.TooLarge answer) = applied image answer.after.pages

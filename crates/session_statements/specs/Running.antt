@@ -1,4 +1,4 @@
--- What running statements one after another came to.
+-- The outcome of running statements one after another.
 use Rattle.std.specs.Prelude.{◌≡◌, ℕ, Bool, true, false, List, [], ◌∷◌, length, unwrap_or, Option, Some, None, Ok, Err, if◌then◌else◌}
 use Rattle.dq_base.specs.declared.images.Image.{Image}
 use Rattle.dq_base.specs.declared.pages.PageSet.{PageSet}
@@ -35,7 +35,7 @@ Shows tx from (Stopped fault) ending = ending ≡ codes.Stopped fault
 Shows tx from (Ended to answer) ending = (ran : AllRan) × (ending ≡ codes.Ended ran) × (ran.answer ≡ answer)
     × (change_in ran ≡ record { tx = tx; pages = changed from to }) × (applied from (changed from to) ≡ to)
 
--- What running came to: there are answers that the engine may give and told, all of them are used, and by them it ends so.
+-- The outcome of running: there are answers that the engine may give and gave, all of them are used, and by them it ends so.
 pub record RanTo (c : EngineCall) (tx : ℕ) (image : Image) (statements : List Statement) (ending : CodeEnding) : Type 0 where
   pub answers : List Answer
   pub allowed : AllowsAll c.meaning c.kind image statements answers
@@ -43,7 +43,7 @@ pub record RanTo (c : EngineCall) (tx : ℕ) (image : Image) (statements : List 
   pub exact : used image statements answers ≡ length answers
   pub ends : Shows tx image (runs image no_answer statements answers) ending
 
--- All ran: there are answers that the engine may give and told, all of them are used, and by them the statements lead to this
+-- All ran: there are answers that the engine may give and gave, all of them are used, and by them the statements lead to this
 -- image and this last answer.
 pub record Led (c : EngineCall) (image : Image) (statements : List Statement) (to : Image) (answer : StatementResult) : Type 0 where
   pub answers : List Answer
@@ -104,7 +104,7 @@ came_cut (came.Short ending) = ends_cut ending
 abbrev pub ending_of : StatementResult → CodeEnding
 ending_of ran = if takes ran.after.pages then codes.Ended (record { together = None; answer = ran }) else codes.TooLarge ran
 
--- how running ended that came to this over an image, with this last answer
+-- how running ended that ended with this over an image, with this last answer
 abbrev pub ended : ℕ → Image → StatementResult → UnsettledRun → CodeEnding
 ended tx image answer (came.Through reached) =
     codes.Ended (record { together = Some (record { tx = tx; pages = change_to image reached }); answer = answer })

@@ -1,4 +1,4 @@
--- The statements of a text, by the places where they stand in it.
+-- The statements of a text, by the places where they are in it.
 use Rattle.std.specs.Prelude.{ℕ, List, map, sum_by}
 use Rattle.wire_words.specs.declared.value.Value.{Value}
 use Rattle.sql_scan.specs.declared.pieces.StatementSpan.{StatementSpan}
@@ -6,7 +6,7 @@ use Rattle.sql_engine.specs.Replies.{Statement}
 use Rattle.session_spec.specs.Sessions.{Prepared}
 use Rattle.session_spec.specs.Statements.{prepared_from, with_params}
 
--- the statements that stand at these places
+-- the statements that are at these places
 abbrev pub cut_at : List ℕ → List StatementSpan → List Prepared
 cut_at text pieces = map (prepared_from text) pieces
 

@@ -9,15 +9,15 @@ use sql_engine::{EngineFault, StatementResult};
 /// Statements that all ran.
 #[derive(Drop)]
 pub struct AllRan {
-    /// The pages that they changed together, where there isn't exactly one statement; those of the only one stand in its
+    /// The pages that they changed together, if there isn't exactly one statement; those of the only one are in its
     /// answer.
     pub together: Option<PageSet>,
-    /// The answer of the last one; where none ran, one that affected nothing.
+    /// The answer of the last one; if none ran, one that affected nothing.
     pub answer: StatementResult,
 }
 
 impl AllRan {
-    /// The pages that lead from the image before to the image after; none where the two are the same.
+    /// The pages that lead from the image before to the image after; none if the two are the same.
     pub fn change(&self) -> &PageSet
         ensures { result.now ≡ change_in self.now }
     {

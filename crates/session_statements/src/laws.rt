@@ -1,4 +1,4 @@
-//! That no number stands for two images, whatever happens.
+//! That no number represents two images, whatever happens.
 
 ghost use Rattle.std.specs.Prelude.{◌≡◌, ◌+◌, ℕ, [], ◌∷◌, List, Option, Some, All, map};
 ghost use Rattle.dq_base.specs.declared.image_number.ImageNumber.{ImageNumber};
@@ -11,10 +11,10 @@ ghost use Rattle.database_state.specs.Machines.{IsMachine};
 ghost use Rattle.session_statements.specs.Agreeing.{Agree, Stands};
 ghost use Rattle.session_statements.specs.Learning.{IsLearnt};
 
-/// A law: where no number stands for two images, neither for an engine, nor for the working images of transactions, nor for the
+/// A law: if no number represents two images, neither for an engine, nor for the working images of transactions, nor for the
 /// databases, a statement may run over one of these under its number and the next number that is drawn. After the run it is so
-/// still, with the image that the statement left under the number that was drawn; and where an engine forgets, where a
-/// transaction begins over one of these images, and where a command is done.
+/// still, with the image that the statement left under the number that was drawn; and if an engine forgets, if a
+/// transaction begins over one of these images, and if a command is done.
 pub fn numbers_stand_for_one_image()
     ensures runs { (known works : List Known) (next : ℕ) (bases : List Numbered) (number : ImageNumber) (image : Image) →
         Agree known works next bases → Stands works bases number image → MayRun known image (record { before = number; after = next }) }

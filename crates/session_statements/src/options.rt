@@ -5,6 +5,6 @@
 pub struct RunOptions {
     /// The number of the transaction that their pages are told for.
     pub tx: u64,
-    /// The most steps that one of them may take; none where none is ever cut off.
+    /// The most steps that one of them may take; none if none is ever interrupted.
     pub limit: Option<u64>,
 }

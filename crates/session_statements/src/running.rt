@@ -70,7 +70,7 @@ pub fn run_one<E: Engine>(
     requires { MayRun (E.known engine.old) image.now numbers }
     ensures stays { Stays (E.kind engine.old) (E.kind engine.new) (E.refused_openings engine.old) (E.refused_openings engine.new) }
     ensures unopened { running.ends_unopened result ≡ true → E.refused_openings engine.old < E.refused_openings engine.new }
-    // Nothing is cut off without a limit.
+    // Nothing is interrupted without a limit.
     ensures cut { running.ends_cut result ≡ true → IsSome options.limit }
     ensures learnt { All (IsLearnt (E.known engine.old) (Some numbers.before) image.now numbers.after (left_by image.now result)) (E.known engine.new) }
     ensures ran { RanTo (call_on E.meaning E.kind E.told engine.old engine.new) options.tx image.now
@@ -82,7 +82,7 @@ pub fn run_one<E: Engine>(
     }
 }
 
-/// The same over an image that has no number: the engine forgets all numbers before and after.
+/// Runs one statement over an image that has no number: the engine forgets all numbers before and after.
 pub fn run_unnumbered<E: Engine>(
     engine: &mut E,
     image: &Image,
@@ -92,7 +92,7 @@ pub fn run_unnumbered<E: Engine>(
 ) -> Ending
     ensures stays { Stays (E.kind engine.old) (E.kind engine.new) (E.refused_openings engine.old) (E.refused_openings engine.new) }
     ensures unopened { running.ends_unopened result ≡ true → E.refused_openings engine.old < E.refused_openings engine.new }
-    // Nothing is cut off without a limit.
+    // Nothing is interrupted without a limit.
     ensures cut { running.ends_cut result ≡ true → IsSome options.limit }
     ensures known { E.known engine.new ≡ [] }
     ensures ran { RanTo (call_on E.meaning E.kind E.told engine.old engine.new) options.tx image.now
@@ -143,7 +143,7 @@ struct Progress {
     answer: StatementResult,
 }
 
-/// What running several statements came to, before the image is put back.
+/// The outcome of running several statements, before the image is put back.
 #[derive(Drop)]
 enum UnsettledRun {
     /// All ran, and led there.
@@ -167,7 +167,7 @@ impl Progress {
         }
     }
 
-    /// Applies pages to the image, and notes what they touch and what puts it back; false where they can't be applied.
+    /// Applies pages to the image, and notes what they touch and what puts it back; false if they can't be applied.
     fn apply(&mut self, image: &mut Image, pages: &[NumberedPage]) -> Result<bool, AllocError>
         requires change { IsChange image.old pages.now }
         ensures taken { IfOk result (λ taken. taken ≡ rules.takes pages.now) }
@@ -224,7 +224,7 @@ fn no_answer(alloc: Global) -> StatementResult
     }
 }
 
-/// Runs one more statement over the image, by an engine that forgets all numbers. How running ends, where this is the last for
+/// Runs one more statement over the image, by an engine that forgets all numbers. How running ends, if this is the last for
 /// another reason than that all ran.
 fn step<E: Engine>(
     engine: &mut E,
@@ -253,7 +253,7 @@ fn step<E: Engine>(
     }
 }
 
-/// Runs the statements of a text one after another, from where nothing ran yet. How running ends, where that is for another
+/// Runs the statements of a text one after another, from where nothing ran yet. How running ends, if that is for another
 /// reason than that all ran.
 fn advance<E: Engine>(
     engine: &mut E,
@@ -289,7 +289,7 @@ fn advance<E: Engine>(
     Ok(None)
 }
 
-/// Runs the statements of a text one after another, and tells where they led, or how they ended before. The image isn't put
+/// Runs the statements of a text one after another, and says where they led, or how they ended before. The image isn't put
 /// back.
 fn lead<E: Engine>(
     engine: &mut E,
@@ -321,7 +321,7 @@ fn lead<E: Engine>(
     }
 }
 
-/// How running ended that came to this, over the image that was put back; `answer` is the last one's.
+/// How running ended that ended with this, over the image that was put back; `answer` is the last one's.
 fn ended(
     alloc: Global,
     image: &Image,
@@ -362,7 +362,7 @@ pub fn run_all<E: Engine>(
     ensures kept { image.new ≡ image.old }
     ensures stays { Stays (E.kind engine.old) (E.kind engine.new) (E.refused_openings engine.old) (E.refused_openings engine.new) }
     ensures unopened { IfOk result (λ ending. running.ends_unopened ending ≡ true → E.refused_openings engine.old < E.refused_openings engine.new) }
-    // Nothing is cut off without a limit.
+    // Nothing is interrupted without a limit.
     ensures cut { IfOk result (λ ending. running.ends_cut ending ≡ true → IsSome options.limit) }
     ensures known { All (Contains (E.known engine.old)) (E.known engine.new) }
     ensures ran { IfOk result (RanTo (call_on E.meaning E.kind E.told engine.old engine.new) options.tx image.old (assigned text.now pieces.now params.now)) }

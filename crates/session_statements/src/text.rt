@@ -31,7 +31,7 @@ pub fn is_left_out(word: WordKind) -> bool
     }
 }
 
-/// Whether one of the statements of a text may not stand in a query or among several: it begins or ends a transaction, or is
+/// Whether one of the statements of a text must not be in a query or among several: it begins or ends a transaction, or is
 /// left out. Looks at each once at most.
 pub fn any_barred(pieces: &[StatementSpan]) -> bool
     ensures { (text : List ℕ) → result ≡ rules.any_barred (cut_at text pieces.now) }
@@ -44,7 +44,7 @@ pub fn any_barred(pieces: &[StatementSpan]) -> bool
     false
 }
 
-/// Whether the statements take exactly so many parameters together. Looks at each once at most.
+/// Whether the statements take exactly this many parameters together. Looks at each once at most.
 pub fn params_fit(pieces: &[StatementSpan], params: &[Value]) -> bool
     ensures sum { result ≡ (wants pieces.now == length params.now) }
     ensures rule { (text : List ℕ) → rules.wrong_params (cut_at text pieces.now) params.now ≡ not result }

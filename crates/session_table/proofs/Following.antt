@@ -40,7 +40,7 @@ same_pin gone old new None released beside live = refl
 same_pin gone old new (Some x) released beside live =
     ap (λ (image : _). Some (record { name = x.name; mark = x.mark; pinned = image; working = x.working; turn = x.turn; touched = x.touched.items })) (same_image gone old new x.pin released beside live)
 
--- so it is with all sessions whose marks stay
+-- this holds for all sessions whose marks stay
 pub same_pins : (gone : List Pinning) (old new : List Database) (ss : List Session) → Released gone old new → AreBeside gone (pins_of ss) → AllByRecursion (IsPinned old) (pins_of ss) → AllByRecursion (λ (s : Session). IsSame old new s.transaction) ss
 same_pins gone old new [] released beside live = tt
 same_pins gone old new (s ∷ ss) released beside live = (
@@ -186,7 +186,7 @@ module _ (old new : List Database) where
     weight = weight;
   }
 
--- What is left of the sessions is what the rules leave of the table, where the marks that are let go are released.
+-- What is left of the sessions is what the rules leave of the table, if the marks that are let go are released.
 pub follows : (event : Event) (ss : List Session) (weight : ℕ) (old new : List Database) → AreApart ss → AreMarks (pins_of ss) old → Released (all_freed event ss) old new
     → table_of new (all_kept event ss) weight ≡ after event (table_of old ss weight)
 follows event ss weight old new apart marks released =

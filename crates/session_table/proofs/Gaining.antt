@@ -37,7 +37,7 @@ mark_where (m ∷ ms) (suc id) (suc other) mark live = elim (mark_where ms id ot
   | inr same ↦ inr (ap (λ (n : ℕ). suc n) same)
 ]
 
--- ---- one mark more in a machine
+-- ---- one mark more in a state machine
 
 pub some_same : (a b : Database) → Some a ≡ Some b → a ≡ b
 some_same a b e = cc
@@ -138,7 +138,7 @@ still_pin old new None still live = refl
 still_pin old new (Some x) still live =
     ap (λ (image : Image). Some (record { name = x.name; mark = x.mark; pinned = image; working = x.working; turn = x.turn; touched = x.touched.items })) (still_image old new x.pin still live)
 
--- where all marks still show what they showed, all transactions have pinned the same images
+-- if all marks still show what they showed, all transactions have pinned the same images
 pub still_pins : (old new : List Database) (ss : List Session) → ((pin : Pinning) → StillPinned old new pin) → AllByRecursion (IsPinned old) (pins_of ss) → AllByRecursion (λ (s : Session). IsSame old new s.transaction) ss
 still_pins old new [] still live = tt
 still_pins old new (s ∷ ss) still live =
@@ -180,7 +180,7 @@ marks_more front back gained old new marks g =
       ];
     }
 
--- the marks before and behind a session that has none, and with those that it got
+-- the marks before and after a session that has none, and with those that it got
 record Around (ss : List Session) (place : ℕ) (to : Session) : Type 0 where
   front : List Pinning
   back : List Pinning

@@ -84,7 +84,7 @@ kept_table event ss table =
     let few : length ss ≤ 64 = table.few in
     record { apart = kept_apart event ss table.apart; few = omega arith }
 
--- nothing is told at once but where an entry is applied
+-- nothing is reported at once, except if an entry is applied
 pub lost_says_nothing : (ss : List Session) → all_said Lost ss ≡ []
 lost_says_nothing [] = refl
 lost_says_nothing (s ∷ ss) = lost_says_nothing ss

@@ -17,7 +17,7 @@ next_free (Some p) others e = refl
 pub free_later : (xs : List (Option Prepared)) (i : ℕ) (d : Option Prepared) → i < length xs → is_none (get_or xs i d) ≡ false → free_id (drop i xs) ≡ suc (free_id (drop (i + 1) xs))
 free_later xs i d h some = at_drop_more free_id xs i d h ∙ next_free (get_or xs i d) (drop (i + 1) xs) some
 
--- a statement stands under the least free number, behind the others where none is free
+-- a statement is under the least free number, after the others where none is free
 pub put_inside : (p : Prepared) (xs : List (Option Prepared)) → free_id xs < length xs → with_prepared p xs ≡ set xs (free_id xs) (Some p)
 put_inside p [] h = absurd (omega arith)
 put_inside p (None ∷ xs) h = refl

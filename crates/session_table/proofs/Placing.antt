@@ -27,7 +27,7 @@ at_place P [] place d within all = absurd (omega arith)
 at_place P (x ∷ xs) zero d within all = all.0
 at_place P (x ∷ xs) (suc place) d within all = let h : place < length xs = omega arith in at_place P xs place d h all.1
 
--- the session that stands at a place is that of its connection
+-- the session that is at a place is that of its connection
 pub stands : (databases : List Database) (ss : List Session) (place : ℕ) (d : Session) → AreApart ss → place < length ss → session_at databases ss (get_or ss place d).conn ≡ session_of databases (get_or ss place d)
 stands databases [] place d apart within = absurd (omega arith)
 stands databases (s ∷ ss) zero d apart within = here databases s ss

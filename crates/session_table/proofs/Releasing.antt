@@ -109,7 +109,7 @@ released_both xs ys old mid new first later = record {
       (early.0, all_both (λ (other : Pinning). pin ≢ other) xs ys early.1 late.1);
 }
 
--- marks that are live and are none of those that are released stay live
+-- marks that are live and are not among those that are released stay live
 pub stay_live : (gone pins : List Pinning) (old new : List Database) → Released gone old new → AreBeside gone pins → AllByRecursion (IsPinned old) pins → AllByRecursion (IsPinned new) pins
 stay_live gone [] old new released beside live = tt
 stay_live gone (p ∷ pins) old new released beside live = ((released.still p beside.0).live live.0, stay_live gone pins old new released beside.1 live.1)

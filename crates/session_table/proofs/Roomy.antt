@@ -75,7 +75,7 @@ live_few (Some m ∷ table) place number ps apart all =
 
 -- ---- room
 
--- a database of a machine with room has fewer live marks than it can have
+-- a database of a state machine with room has fewer live marks than it can have
 not_full : (name : List ℕ) (databases : List Database) (d : Database) → IsMachine databases → HasRoom databases → named name databases ≡ Some d → live_count d.store.marks < 64
 not_full name databases d m room found =
     let here : at_place d.place databases ≡ Some d = own_place (has_name name) databases d m.apart found in
@@ -88,7 +88,7 @@ not_full name databases d m room found =
     let less : length room.0 < 64 = room.2 in
     omega (arith, few, less)
 
--- where a mark is refused there is no such database
+-- if a mark is refused the database is missing
 refused_where : (o : Option Database) (fault : PinFault) → ((d : Database) → o ≡ Some d → live_count d.store.marks < 64) → IsRefused o fault → o ≡ None
 refused_where None fault room refused = refl
 refused_where (Some d) fault room refused =
@@ -120,7 +120,7 @@ marks_few (s ∷ ss) =
     let all : length (pin_of s.transaction ++ pins_of ss) ≡ length (pin_of s.transaction) + length (pins_of ss) = length-append (pin_of s.transaction) (pins_of ss) in
     omega (arith, one, rest, all)
 
--- fewer than sessions, where one of these has none
+-- fewer than sessions, if one of these has none
 marks_fewer : (ss : List Session) (place : ℕ) (d : Session) → place < length ss → pin_of (get_or ss place d).transaction ≡ [] → length (pins_of ss) < length ss
 marks_fewer [] place d within none = absurd (omega (arith, within))
 marks_fewer (s ∷ ss) zero d within none =

@@ -18,7 +18,7 @@ none_there databases (s ∷ ss) conn none = elsewhere databases s ss conn (λ (e
 pub its_session : (databases : List Database) (s : Session) (ss : List Session) (conn : ℕ) → s.conn ≡ conn → session_at databases (s ∷ ss) conn ≡ session_of databases s
 its_session databases s ss conn e = subst (λ (n : ℕ). session_at databases (s ∷ ss) n ≡ session_of databases s) e (here databases s ss)
 
--- nothing is left of a session, where it is to be absent; or one of its connection, which is what it is to be
+-- nothing is left of a session, if it is to be absent; or one of its connection, which is what it is to be
 abbrev pub Fits : List Database → ℕ → RuleSession → List Session → Type 0
 Fits new conn to [] = to ≡ absent
 Fits new conn to (t ∷ []) = (t.conn ≡ conn) × (session_of new t ≡ to)

@@ -32,7 +32,7 @@ unfolding no_marks
 fresh_has_none mark live = true≢false (sym live ∙ none_at 64 mark)
 
 module _ (f : Database → Database) (k : MakesNone f) (place mark : ℕ) where
-  -- one database, and others behind it
+  -- one database, and others after it
   one : (d : Database) (now before : Option Database) → (is_live_in now mark → is_live_in before mark)
       → is_live_in (cond (has_place place (f d)) (Some (f d)) now) mark → is_live_in (cond (has_place place d) (Some d) before) mark
   one d now before rest live =
@@ -83,7 +83,7 @@ module _ (f : Database → Database) (k : MakesNone f) (place mark : ℕ) where
   changed_one : (name : List ℕ) (ds : List Database) → is_live_in (find (has_place place) (changed name f ds)) mark → is_live_in (find (has_place place) ds) mark
   changed_one name ds = named_one (opened (length ds) name) (λ l. fresh_has_none mark (k.marks (opened (length ds) name) mark l)) name ds
 
--- the commands' changes are such
+-- the commands' changes are of this kind
 
 stays_as : MakesNone (λ d. d)
 stays_as = record { place = λ d. refl; marks = λ d mark live. live }

@@ -20,12 +20,12 @@ use Rattle.session_table.specs.declared.change.Change.TheVariants as changes
 abbrev pub IsAbsent : ℕ → List Session → Type 0
 IsAbsent conn sessions = AllByRecursion (λ (s : Session). conn ≢ s.conn) sessions
 
--- the session of the connection stands at this place
+-- the session of the connection is at this place
 pub record StandsAt (conn : ℕ) (sessions : List Session) (place : ℕ) : Type 0 where
   pub within : place < length sessions
   pub own : (s : Session) → (get_or sessions place s).conn ≡ conn
 
--- a transaction that has changed pages, and so has the turn
+-- a transaction that has changed pages, and so has the write lock
 abbrev pub worked_on : List NumberedPage → Option RuleTransaction → Option RuleTransaction
 worked_on pages None = None
 worked_on pages (Some x) = Some (record { name = x.name; mark = x.mark; pinned = x.pinned; working = applied x.working pages; turn = true; touched = x.touched ++ numbers_of pages })

@@ -1,4 +1,4 @@
--- Read marks in a machine: which are live, and what it is to release some of them.
+-- Read marks in a state machine: which are live, and what it is to release some of them.
 use Rattle.std.specs.Prelude.{◌≡◌, ◌≢◌, ◌<◌, List, [], ◌∷◌, length, ◌⊎◌}
 use Rattle.std.specs.List.{AllByRecursion, Contains}
 use Rattle.database_state.specs.declared.database.Database.{Database}
@@ -6,7 +6,7 @@ use Rattle.database_state.specs.ImageNumbers.{NumbersStay}
 use Rattle.database_state.specs.Pins.{Pinning, IsPinned, StillPinned}
 use Rattle.session_spec.specs.Machine.{machine_of}
 
--- the mark is none of these
+-- the mark is not one of these
 abbrev pub IsNoneOf : List Pinning → Pinning → Type 0
 IsNoneOf pins pin = AllByRecursion (λ (other : Pinning). pin ≢ other) pins
 
@@ -15,7 +15,7 @@ abbrev pub AreDifferent : List Pinning → Type 0
 AreDifferent [] = Unit {0}
 AreDifferent (pin ∷ pins) = IsNoneOf pins pin × AreDifferent pins
 
--- The live marks of a machine are these: each is live, no two are one, and no other is live.
+-- The live marks of a state machine are these: each is live, no two are one, and no other is live.
 pub record AreMarks (pins : List Pinning) (databases : List Database) : Type 0 where
   pub live : AllByRecursion (IsPinned databases) pins
   pub apart : AreDifferent pins

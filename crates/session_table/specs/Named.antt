@@ -75,7 +75,7 @@ name_for (kinds.Writing name pages reply) = name
 name_for (kinds.Committing name pages) = name
 name_for (kinds.Querying query) = []
 
--- how many pages it has after the proposal, where that changes them
+-- how many pages it has after the proposal, if that changes them
 abbrev pub pages_for : ProposalKind → ℕ
 pages_for (kinds.Opening name) = 0
 pages_for kinds.Configuring = 0
@@ -87,7 +87,7 @@ abbrev pub later_named : WaitingQuery → RuleLater
 later_named (laters.Due query) = Due query
 later_named (laters.Lent query) = Lent query
 
--- The rows of an answer are told, where they can be; else the cause is that for which they can't.
+-- The rows of an answer are told, if they can be; else the cause is that for which they can't.
 abbrev pub TellsRows : StatementResult → Result StatementResult Cause → Type 0
 TellsRows answer (Ok told) = (told ≡ answer) × (rows_cause (parts_of answer.columns answer.rows) ≡ None)
 TellsRows answer (Err cause) = rows_cause (parts_of answer.columns answer.rows) ≡ Some (cause_named cause)

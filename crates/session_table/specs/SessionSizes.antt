@@ -1,4 +1,4 @@
--- How many bytes sessions keep of what their clients have said, and of what they are to be told.
+-- How many bytes sessions keep of what their clients have said, and of what they are to be sent.
 use Rattle.std.specs.Prelude.{◌+◌, ◌==◌, ℕ, cond, List, [], ◌∷◌, length, Option, Some, None}
 use Rattle.wire_rows.specs.Answering.{held}
 use Rattle.wire_rows.specs.Cut.{cut, bodies, total_size}
@@ -17,13 +17,13 @@ abbrev pub all_prepared_size : List (Option Prepared) → ℕ
 all_prepared_size [] = 0
 all_prepared_size (s ∷ ss) = prepared_size s + all_prepared_size ss
 
--- the parts in which rows are told
+-- the parts in which rows are reported
 abbrev pub reply_size : Reply → ℕ
 reply_size (Refusal cause) = 0
 reply_size (Single response) = 0
 reply_size (Rows answer) = total_size (bodies answer.columns (cut answer.columns answer.rows))
 
--- the reply that waits for its entry, or the query behind a barrier
+-- the reply that waits for its entry, or the query after a barrier
 abbrev pub kind_size : Kind → ℕ
 kind_size Opening = 0
 kind_size Configuring = 0
@@ -35,13 +35,13 @@ abbrev pub flight_size : Option Flight → ℕ
 flight_size None = 0
 flight_size (Some flight) = kind_size flight.kind
 
--- the query that is yet to be answered
+-- the query that waits for its answer
 abbrev pub later_size : Option WaitingQuery → ℕ
 later_size None = 0
 later_size (Some (Due query)) = statement_size query
 later_size (Some (Lent query)) = statement_size query
 
--- its prepared statements, its proposal in flight, and the query that it has yet to answer
+-- its prepared statements, its pending proposal, and the query that it has yet to answer
 abbrev pub session_size : Session → ℕ
 session_size s = all_prepared_size s.statements.items + flight_size s.flight + later_size s.later
 

@@ -40,7 +40,7 @@ opened_at s name = record { conn = s.conn; hung = s.hung; database = Some name; 
 abbrev pub due_at : Session → Statement → Session
 due_at s statement = record { conn = s.conn; hung = s.hung; database = s.database; barriers = s.barriers; later = Some (Due statement); statements = s.statements; transaction = s.transaction; lost = s.lost; flight = None }
 
--- a reader goes on with its query, where leadership is lost
+-- a reader continues with its query, if leadership is lost
 abbrev pub still_lent : Option WaitingQuery → Option WaitingQuery
 still_lent None = None
 still_lent (Some (Due query)) = None
@@ -112,7 +112,7 @@ freed (Ended conn) s = if s.conn == conn then pin_of s.transaction else []
 abbrev pub all_freed : Event → List Session → List Pinning
 all_freed event sessions = flat_map (freed event) sessions
 
--- a reply to a connection, in the responses that it is told in
+-- a reply to a connection, in the responses that it is sent in
 abbrev pub told_in : ℕ × Reply → List (ℕ × Response)
 told_in r = map (λ (response : Response). (r.0, response)) (responses_of r.1)
 
@@ -142,7 +142,7 @@ said (Ended conn) s = []
 abbrev pub all_said : Event → List Session → List (ℕ × Response)
 all_said event sessions = flat_map (said event) sessions
 
--- What happened to a session: whether and how it stays, the marks that were released, and what was told.
+-- What happened to a session: whether and how it stays, the marks that were released, and what was reported.
 pub record SweptOne (event : Event) (session to : Session) (stays : Bool) (old new : List Database) (told_before told_now : List (ℕ × Response)) : Type 0 where
   pub kept : kept event session ≡ (if stays then to ∷ [] else [])
   pub freed : Released (freed event session) old new

@@ -1,4 +1,4 @@
--- A table of sessions as the rules see it, with the images that open transactions have pinned in a machine.
+-- A table of sessions as the rules see it, with the images that open transactions have pinned in a state machine.
 use Rattle.std.specs.Prelude.{◌≢◌, ℕ, ◌≤◌, ◌==◌, Bool, true, not, ◌&&◌, List, [], ◌∷◌, ◌++◌, length, map, find, Option, Some, None}
 use Rattle.std.specs.Option.{option_map}
 use Rattle.std.specs.List.{AllByRecursion}
@@ -17,7 +17,7 @@ abbrev pub database_of : Option (List ℕ) → List ℕ
 database_of None = []
 database_of (Some name) = name
 
--- the image that a transaction has pinned; the empty one where there was no such database
+-- the image that a transaction has pinned; the empty one if the database was missing
 abbrev pub image_pinned : List Database → Option Pinning → Image
 image_pinned databases None = empty_image
 image_pinned databases (Some pin) = pinned_image databases pin
@@ -64,7 +64,7 @@ pub record IsTable (sessions : List Session) : Type 0 where
   pub apart : AreApart sessions
   pub few : length sessions ≤ 64
 
--- whether the session of another connection has the turn to write of the database of a name
+-- whether the session of another connection has the write lock of the database of a name
 abbrev pub holds_beside : List Database → ℕ → List ℕ → Session → Bool
 holds_beside databases conn name s = not (s.conn == conn) && holds (session_of databases s) name
 

@@ -27,7 +27,7 @@ abbrev pub placed_in : ℕ × ℕ → List (ℕ × ℕ) → List (ℕ × ℕ)
 placed_in new [] = new ∷ []
 placed_in new (w ∷ ws) = if nat_le new.0 w.0 then new ∷ w ∷ ws else w ∷ placed_in new ws
 
--- with the client of a session, where it waits
+-- with the client of a session, if it waits
 abbrev pub with_waiting : Session → List (ℕ × ℕ) → List (ℕ × ℕ)
 with_waiting s waiting = if waits s then placed_in (last_of s.flight, s.conn) waiting else waiting
 

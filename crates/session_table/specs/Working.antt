@@ -20,7 +20,7 @@ abbrev pub with_number : Option ImageNumber → Image → List Known
 with_number None image = []
 with_number (Some number) image = record { number = number; image = image } ∷ []
 
--- the working image of a transaction, where it has a number
+-- the working image of a transaction, if it has a number
 abbrev pub work_of : Option Transaction → List Known
 work_of None = []
 work_of (Some x) = with_number x.number x.working
@@ -34,7 +34,7 @@ works_of (s ∷ ss) = work_of s.transaction ++ works_of ss
 abbrev pub AreAmong : List Known → List Known → Type 0
 AreAmong those these = AllByRecursion (Contains those) these
 
--- the newest image of a database of the machine, by its number
+-- the newest image of a database of the state machine, by its number
 pub record IsNewest (databases : List Database) (work : Known) : Type 0 where
   pub database : Database
   pub among : Contains databases database

@@ -1,4 +1,4 @@
-//! The database of a session, as the machine has it.
+//! The database of a session, as the state machine has it.
 
 ghost use Rattle.std.specs.Prelude.{◌≡◌, IsSome, IfOk};
 ghost use Rattle.std.specs.Arc.{arc_value};
@@ -11,7 +11,7 @@ use dq_base::{Image, Name};
 use std::alloc::{AllocError, Global};
 use std::sync::Arc;
 
-/// The name of the database that was opened; the empty one where none was.
+/// The name of the database that was opened; the empty one if none was.
 pub fn name_of(database: &Option<Name>) -> &str
     ensures { result.now ≡ database_of database.now }
 {
@@ -29,21 +29,21 @@ pub fn opened_name(session: &Session) -> &Name
     session.database.as_ref().unwrap()
 }
 
-/// How many commits the database of a name had; 0 where the machine has none.
+/// How many commits the database of a name had; 0 where the state machine has none.
 pub fn newest(machine: &Machine, name: &str) -> u64
     ensures { result ≡ ((machine_of machine.now).base name.now).newest }
 {
     machine.newest(name).unwrap_or(0)
 }
 
-/// The same by a name that was read.
+/// Takes a name that was read.
 pub fn newest_of(machine: &Machine, name: &Name) -> u64
     ensures { result ≡ ((machine_of machine.now).base name.now).newest }
 {
     newest(machine, name.as_str())
 }
 
-/// The newest image of the database of a name, copied; the empty one where the machine has none.
+/// The newest image of the database of a name, copied; the empty one if the state machine has none.
 pub fn newest_image(alloc: Global, machine: &Machine, name: &str) -> Result<Image, AllocError>
     ensures { IfOk result (λ image. image ≡ ((machine_of machine.now).base name.now).image) }
 {
@@ -53,14 +53,14 @@ pub fn newest_image(alloc: Global, machine: &Machine, name: &str) -> Result<Imag
     }
 }
 
-/// The same by a name that was read.
+/// Takes a name that was read.
 pub fn newest_image_of(alloc: Global, machine: &Machine, name: &Name) -> Result<Image, AllocError>
     ensures { IfOk result (λ image. image ≡ ((machine_of machine.now).base name.now).image) }
 {
     newest_image(alloc, machine, name.as_str())
 }
 
-/// The newest image of the database of a name, shared; the empty one where the machine has none. Where the machine keeps the image
+/// The newest image of the database of a name, shared; the empty one if the state machine has none. If the state machine keeps the image
 /// whole this copies nothing, and else it copies the image.
 pub fn newest_shared(
     alloc: Global,

@@ -17,7 +17,7 @@ use database_state::{Machine, Pin};
 use dq_base::Name;
 use std::alloc::{AllocError, Global};
 
-/// A read mark of the newest image of a database; none where the machine has no such database.
+/// A read mark of the newest image of a database; none if the state machine doesn't have the database.
 fn pin_of_name(machine: &mut Machine, name: &Name) -> Option<Pin>
     requires { HasRoom machine.old }
     ensures shows { image_pinned machine.new result ≡ ((machine_of machine.old).base name.now).image }
@@ -30,7 +30,7 @@ fn pin_of_name(machine: &mut Machine, name: &Name) -> Option<Pin>
     }
 }
 
-/// A transaction over the newest image of a database. `Err` leaves the machine as it is.
+/// A transaction over the newest image of a database. `Err` leaves the state machine as it is.
 fn transaction_over(
     alloc: Global,
     machine: &mut Machine,
@@ -89,7 +89,7 @@ fn put(sessions: &mut Vec<Session>, place: usize, transaction: Transaction)
 }
 
 /// The session at a place, which is that of a connection, has opened a database and is in no transaction, begins one over the
-/// newest image of its database, which is pinned; at once with the turn to write, or without it. The image is copied once.
+/// newest image of its database, which is pinned; at once with the write lock, or without it. The image is copied once.
 /// `Err` means out of memory; nothing has changed then.
 pub fn begin(
     alloc: Global,

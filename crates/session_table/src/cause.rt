@@ -23,11 +23,11 @@ pub enum Cause {
     FloatParameter,
     /// The answer has a float, which is not carried.
     FloatColumn,
-    /// Another session has the database's turn to write.
+    /// Another session has the database's write lock.
     Locked,
     /// The connection has a database already.
     DatabaseOpen,
-    /// Another change of the cluster is in flight.
+    /// Another change of the cluster is pending.
     ChangeInFlight,
     /// The transaction's image is no longer the newest.
     OutOfDate,
@@ -59,7 +59,7 @@ pub enum Cause {
     NamedParameter,
     /// A parameter's number is out of its range.
     BadParameterNumber,
-    /// A word that is left out, or one that begins or ends a transaction where it may not stand.
+    /// A word that is left out, or one that begins or ends a transaction where it must not stand.
     NotAllowed,
     /// There isn't exactly one statement, or in a wide PREPARE not one at least.
     OneStatementWanted,
@@ -75,7 +75,7 @@ pub enum Cause {
     NotUtf8,
     /// The text is no name of a database.
     BadName,
-    /// The number or the address is none of a server that the request may name.
+    /// The number or the address is not one of a server that the request may name.
     BadNode,
     /// The number is no role that the request may name.
     BadRole,
@@ -180,7 +180,7 @@ impl Cause {
         }
     }
 
-    /// The refusal as it is told.
+    /// The refusal as it is sent.
     pub fn failure(self, alloc: Global) -> Result<Response, AllocError>
         ensures { IfOk result (λ response. response ≡ failure (cause_named self)) }
     {
@@ -215,7 +215,7 @@ impl Cause {
         }
     }
 
-    /// Why a text that can't be cut into statements is refused.
+    /// Why a text that can't be split into statements is refused.
     pub fn of_scan(fault: ScanFault) -> Cause
         ensures { cause_named result ≡ scan_cause fault }
     {

@@ -24,7 +24,7 @@ pub enum Change {
     Stays,
     /// It has opened the database of this name, with barrier reads or without.
     Opens(Name, bool),
-    /// It has a new database in flight, with barrier reads or without.
+    /// It has a new database pending, with barrier reads or without.
     Creates(PendingProposal, bool),
     /// Its query is lent to a reader.
     Lends(Query),
@@ -34,9 +34,9 @@ pub enum Change {
     Drops(u32),
     /// Its lost transaction ends.
     Forgets,
-    /// Its transaction has changed these pages, and has the turn to write; the number that was drawn for its working image.
+    /// Its transaction has changed these pages, and has the write lock; the number that was drawn for its working image.
     Works(PageSet, u64),
-    /// It has this proposal in flight.
+    /// It has this proposal pending.
     Flies(PendingProposal),
 }
 
@@ -52,7 +52,7 @@ fn apply_all(image: &mut Image, pages: &[NumberedPage]) -> Result<(), AllocError
     }
 }
 
-/// Puts the numbers of pages above 1 behind others. `Err` means out of memory, which doesn't come where there is
+/// Puts the numbers of pages above 1 after others. `Err` means out of memory, which doesn't come where there is
 /// room.
 fn note_numbers(touched: &mut Vec<u64>, pages: &[NumberedPage]) -> Result<(), AllocError>
     ensures noted { OnOk result (touched.new.items ≡ touched.old.items ++ numbers_of pages.now) }

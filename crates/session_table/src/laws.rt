@@ -18,7 +18,7 @@ pub fn released_marks_are_spent()
     ensures { (pin other : Pinning) (databases : List Database) → IsPinned (without_pin pin databases) other → IsPinned databases other × (other ≢ pin) }
 {}
 
-/// A law: a command makes no mark live. So the live marks of a machine stay those of the sessions while commands are applied.
+/// A law: a command makes no mark live. So the live marks of a state machine stay those of the sessions while commands are applied.
 #[tactic(auto, using(crate::proofs::Unmarked::none_made))]
 pub fn commands_make_no_marks()
     ensures { (databases : List Database) (command : Command) (pin : Pinning) → IsPinned (act databases command) pin → IsPinned databases pin }

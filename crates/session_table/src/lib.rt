@@ -1,4 +1,4 @@
-//! The sessions of a node as a table: what each has opened, prepared and begun, what it has in flight, and what that means
+//! The sessions of a node as a table: what each has opened, prepared and begun, what it has pending, and what that means
 //! for the others.
 #![tactic(auto)]
 

@@ -2,7 +2,7 @@
 
 use wire_rows::MAX_ANSWER_BYTES;
 
-/// How many sessions a node has at most, those that have hung up counted: one for each read mark that the machine has at most.
+/// How many sessions a node has at most, those that have hung up counted: one for each read mark that the state machine has at most.
 pub const MAX_SESSIONS: usize = 64;
 
 /// How many statements a session may have prepared.

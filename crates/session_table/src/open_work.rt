@@ -71,7 +71,7 @@ impl PendingProposal {
 }
 
 impl Transaction {
-    /// Whether it has the turn to write of the database of a name.
+    /// Whether it has the write lock of the database of a name.
     fn has_turn(&self, name: &str) -> bool
         ensures { (databases : List Database) → result ≡ limits.holds_write_lock (Some (transaction_of databases self.now)) name.now }
     {
@@ -90,7 +90,7 @@ impl Session {
         }
     }
 
-    /// Whether its transaction has the turn to write of the database of a name.
+    /// Whether its transaction has the write lock of the database of a name.
     fn has_turn(&self, name: &str) -> bool
         ensures { (databases : List Database) → result ≡ limits.holds_write_lock (session_of databases self.now).tx name.now }
     {
@@ -100,7 +100,7 @@ impl Session {
         }
     }
 
-    /// Whether it has the turn to write of the database of a name, by its proposal or by its transaction.
+    /// Whether it has the write lock of the database of a name, by its proposal or by its transaction.
     #[tactic(auto, unfolding(session_spec::specs::Limits::holds))]
     pub fn holds(&self, name: &str) -> bool
         ensures { (databases : List Database) → result ≡ limits.holds (session_of databases self.now) name.now }
@@ -108,7 +108,7 @@ impl Session {
         self.writes_to(name) || self.has_turn(name)
     }
 
-    /// Whether its connection is another one, and it has the turn to write of the database of a name.
+    /// Whether its connection is another one, and it has the write lock of the database of a name.
     fn holds_beside(&self, conn: u64, name: &str) -> bool
         ensures { (databases : List Database) → result ≡ holds_beside databases conn name.now self.now }
     {
@@ -126,7 +126,7 @@ impl Session {
     }
 }
 
-/// Whether the session of another connection has the turn to write of the database of a name. Looks at each session.
+/// Whether the session of another connection has the write lock of the database of a name. Looks at each session.
 pub fn other_holds(sessions: &[Session], conn: u64, name: &str) -> bool
     requires { AreApart sessions.now }
     ensures { (databases : List Database) (weight : ℕ) → result ≡ limits.other_holds (table_of databases sessions.now weight) conn name.now }
@@ -146,7 +146,7 @@ fn greater(a: u64, b: u64) -> u64
     a.max(b)
 }
 
-/// The most pages that a proposal in flight gives the database of a name; 0 where none does. Looks at each session.
+/// The most pages that a pending proposal gives the database of a name; 0 where none does. Looks at each session.
 pub fn flown(sessions: &[Session], name: &str) -> u64
     requires { AreApart sessions.now }
     ensures { (databases : List Database) (weight : ℕ) → result ≡ limits.pending_pages (table_of databases sessions.now weight) name.now }

@@ -50,7 +50,7 @@ fn value_size(value: &Value) -> u64
     }
 }
 
-/// So many bytes, and then these values. The sum stops at the last number of 64 bits.
+/// This many bytes, and then these values. The sum stops at the last number of 64 bits.
 fn with_values(size: u64, values: &[Value]) -> u64
     ensures { result ≡ held (size + values_size values.now) }
 {
@@ -81,7 +81,7 @@ impl Query {
         })
     }
 
-    /// The same query for one more owner: the count goes up by one, and nothing is copied. `Err` where the count is full.
+    /// This query for one more owner: the count goes up by one, and nothing is copied. `Err` where the count is full.
     pub fn share(&self) -> Result<Query, AllocError>
         ensures { IfOk result (λ shared. shared ≡ self.now) }
     {

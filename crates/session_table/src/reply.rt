@@ -21,7 +21,7 @@ use wire_msgs::Response;
 use wire_rows::{RowFault, parts};
 use wire_words::WireBytes;
 
-/// Rows that are told: an answer that is cut into parts. Clauses see the answer, which is not kept at run time.
+/// Rows that are told: an answer that is split into parts. Clauses see the answer, which is not kept at run time.
 #[derive(Drop)]
 pub struct ToldRows {
     answer: GhostCopy<StatementResult>,
@@ -55,7 +55,7 @@ fn total(parts: &[WireBytes]) -> u64
 }
 
 impl ToldRows {
-    /// Cuts the rows of an answer into parts; or tells why they can't be told: a text holds a NUL, or all parts together are
+    /// Cuts the rows of an answer into parts; or says why they can't be sent: a text holds a NUL, or all parts together are
     /// too big. No column's name holds a NUL, and each row has as many values as there are columns.
     pub fn cut(
         alloc: Global,
@@ -89,7 +89,7 @@ impl ToldRows {
     }
 }
 
-/// Puts a response to a connection behind what was told so far, where there is room.
+/// Puts a response to a connection after what was reported so far, if there is room.
 fn tell_one(told: &mut Vec<(u64, Response)>, conn: u64, response: Response)
     requires { vec_len told.old < vec_capacity told.old }
     ensures items { told.new.items ≡ told.old.items ++ (conn, response) ∷ [] }
@@ -99,7 +99,7 @@ fn tell_one(told: &mut Vec<(u64, Response)>, conn: u64, response: Response)
     told.push((conn, response)).unwrap();
 }
 
-/// Puts rows to a connection behind what was told so far, a response for each body, where there is room.
+/// Puts rows to a connection after what was reported so far, a response for each body, if there is room.
 fn tell_rows(told: &mut Vec<(u64, Response)>, conn: u64, bodies: &mut VecDeque<WireBytes>)
     requires { vec_len told.old + length bodies.old.items ≤ vec_capacity told.old }
     ensures items { told.new.items ≡ told.old.items ++ map (λ body. (conn, responses.Rows body)) bodies.old.items }
@@ -121,7 +121,7 @@ pub enum Reply {
 }
 
 impl Reply {
-    /// In how many responses it is told.
+    /// In how many responses it is sent.
     pub fn response_count(&self) -> usize
         ensures { result ≡ length (responses_of (reply_named self.now)) }
     {
@@ -131,7 +131,7 @@ impl Reply {
         }
     }
 
-    /// How many bytes the parts have in which rows are told; 0 for one response, which is small.
+    /// How many bytes the parts have in which rows are reported; 0 for one response, which is small.
     pub fn size(&self) -> u64
         ensures { result ≡ held (reply_size (reply_named self.now)) }
     {
@@ -141,7 +141,7 @@ impl Reply {
         }
     }
 
-    /// Puts its responses, to a connection, behind what was told so far, where there is room for them.
+    /// Puts its responses, to a connection, after what was reported so far, if there is room for them.
     pub fn tell(self, conn: u64, told: &mut Vec<(u64, Response)>)
         requires { vec_len told.old + length (responses_of (reply_named self)) ≤ vec_capacity told.old }
         ensures items { told.new.items ≡ told.old.items ++ told_in (conn, reply_named self) }

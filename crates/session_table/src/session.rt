@@ -27,7 +27,7 @@ impl Model for Prepared {
     ghost view = { λ p. record { text = p.text; word = p.word; params = p.params } };
 }
 
-/// What a proposal in flight is for.
+/// What a pending proposal is for.
 #[derive(Drop)]
 pub enum ProposalKind {
     /// A new database.
@@ -60,7 +60,7 @@ pub enum ProposalKind {
     },
 }
 
-/// A query that its session has yet to answer, with nothing in flight for it.
+/// A query that its session has yet to answer, with nothing pending for it.
 #[derive(Drop)]
 pub enum WaitingQuery {
     /// Its barrier is applied, and it is run next.
@@ -69,7 +69,7 @@ pub enum WaitingQuery {
     Lent(Query),
 }
 
-/// A proposal in flight. Clauses see it as the rules' one.
+/// A pending proposal. Clauses see it as the rules' one.
 #[derive(Drop)]
 pub struct PendingProposal {
     /// The index of its first entry.
@@ -98,14 +98,14 @@ pub struct Transaction {
     pub name: Name,
     /// How many commits the database had when it began.
     pub mark: u64,
-    /// The read mark of the image at that time; none where the machine had no such database, whose image is the empty one.
+    /// The read mark of the image at that time; none if the state machine didn't have the database, whose image is the empty one.
     pub pin: Option<Pin>,
     /// That image with the transaction's own changes.
     pub working: Image,
-    /// The number of the working image: that of the database's newest image when it began, as long as it has changed nothing, and
-    /// then the one that was drawn for it; none where the machine had no such database.
+    /// The number of the working image: that of the database's newest image when it began, while it has changed nothing, and
+    /// then the one that was drawn for it; none if the state machine didn't have the database.
     pub number: Option<ImageNumber>,
-    /// Whether it has the turn to write.
+    /// Whether it has the write lock.
     pub turn: bool,
     /// The numbers above 1 of the pages that its statements changed, in the order in which they did.
     pub touched: Vec<u64>,
@@ -116,13 +116,13 @@ pub struct Transaction {
 pub struct Session {
     /// The connection's number.
     pub conn: u64,
-    /// Whether its client has gone while its proposal is in flight.
+    /// Whether its client has gone while its proposal is pending.
     pub hung: bool,
     /// The database that it has opened.
     pub database: Option<Name>,
     /// Whether it asked for barrier reads when it opened it.
     pub barriers: bool,
-    /// A query that it has yet to answer, with nothing in flight for it.
+    /// A query that it has yet to answer, with nothing pending for it.
     pub later: Option<WaitingQuery>,
     /// The statements that it has prepared, by their numbers.
     pub statements: Vec<Option<Prepared>>,
@@ -130,6 +130,6 @@ pub struct Session {
     pub transaction: Option<Transaction>,
     /// Whether its transaction was lost with leadership, and neither COMMIT nor ROLLBACK has ended it since.
     pub lost: bool,
-    /// Its proposal in flight.
+    /// Its pending proposal.
     pub flight: Option<PendingProposal>,
 }

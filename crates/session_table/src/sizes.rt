@@ -1,4 +1,4 @@
-//! How many bytes sessions keep of what their clients have said, and of what they are to be told.
+//! How many bytes sessions keep of what their clients have said, and of what they are to be sent.
 
 ghost use Rattle.std.specs.Prelude.{◌≡◌, ◌+◌, ◌<◌, ◌^◌};
 ghost use Rattle.wire_rows.specs.Answering.{held};
@@ -7,7 +7,7 @@ ghost use Rattle.session_table.specs.SessionSizes.{prepared_size, all_prepared_s
 
 use crate::session::{PendingProposal, Prepared, ProposalKind, Session, WaitingQuery};
 
-/// What a prepared statement counts; 0 where there is none.
+/// What a prepared statement counts; 0 without one.
 fn prepared_size(statement: &Option<Prepared>) -> u64
     ensures { result ≡ held (prepared_size statement.now) }
 {
@@ -29,7 +29,7 @@ fn all_prepared_size(statements: &[Option<Prepared>]) -> u64
 }
 
 impl ProposalKind {
-    /// What it keeps of the reply that waits for its entry, or of the query behind a barrier.
+    /// What it keeps of the reply that waits for its entry, or of the query after a barrier.
     fn size(&self) -> u64
         ensures { result ≡ held (kind_size (kind_named self.now)) }
     {
@@ -63,7 +63,7 @@ fn later_size(later: &Option<WaitingQuery>) -> u64
 }
 
 impl Session {
-    /// What it keeps of what its client has said, and of what it is to be told. The sum stops at the last number of 64 bits.
+    /// What it keeps of what its client has said, and of what it is to be sent. The sum stops at the last number of 64 bits.
     fn size(&self) -> u64
         ensures { result ≡ held (session_size self.now) }
     {
@@ -74,12 +74,12 @@ impl Session {
     }
 }
 
-/// How many bytes sessions keep of what their clients have said, and of what they are to be told: the texts of their prepared
+/// How many bytes sessions keep of what their clients have said, and of what they are to be sent: the texts of their prepared
 /// statements, with 128 bytes for each; the queries that wait for a barrier, for their turn or for a reader, each value of a parameter with 32 bytes and those
 /// of its text or blob; and the parts of rows that wait for the entry of their write. The sum stops at the last number of 64 bits.
 ///
 /// Not counted is what the rules of sessions bound or what the databases' size does: names, the numbers of changed pages and the
-/// working image of an open transaction, and the answer that was cut into parts, of which a database has one in flight at most.
+/// working image of an open transaction, and the answer that was split into parts, of which a database has one pending at most.
 ///
 /// Looks at each number of a statement.
 pub fn kept_size(sessions: &[Session]) -> u64
@@ -92,7 +92,7 @@ pub fn kept_size(sessions: &[Session]) -> u64
     size
 }
 
-/// The same of the session of one connection; 0 where it has none. Looks at each session and at each number of a statement of that
+/// How many bytes the session of one connection keeps; 0 without one. Looks at each session and at each number of a statement of that
 /// one.
 pub fn kept_size_at(sessions: &[Session], conn: u64) -> u64
     ensures { result ≡ kept_size_at conn sessions.now }

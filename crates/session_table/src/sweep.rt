@@ -75,7 +75,7 @@ fn take_ended(flight: &mut Option<PendingProposal>, index: u64) -> Option<Pendin
 }
 
 impl Session {
-    /// Its proposal is done: what that changes, and what its client is told.
+    /// Its proposal is done: what that changes, and what its client is sent.
     fn land(
         &mut self,
         ended: PendingProposal,
@@ -111,7 +111,7 @@ impl Session {
     }
 }
 
-/// What the entry of an index, which is applied, makes of a session; false where nothing is left of it.
+/// What the entry of an index, which is applied, makes of a session; false if nothing is left of it.
 fn apply_to(
     session: &mut Session,
     index: u64,
@@ -161,7 +161,7 @@ fn is_committing(flight: &Option<PendingProposal>) -> bool
 }
 
 impl Session {
-    /// A query behind a barrier ends; a reader goes on.
+    /// A query after a barrier ends; a reader continues.
     fn keep_lent(&mut self)
         ensures { self.new ≡ record self.old { later = still_lent self.old.later } }
     {
@@ -189,7 +189,7 @@ impl Session {
     }
 }
 
-/// What the loss of leadership makes of a session; false where nothing is left of it.
+/// What the loss of leadership makes of a session; false if nothing is left of it.
 fn end(session: &mut Session, machine: &mut Machine) -> bool
     requires { AllByRecursion (IsPinned machine.old) (pin_of session.old.transaction) }
     ensures { SweptOne Lost session.old session.new result machine.old machine.new [] [] }
@@ -201,7 +201,7 @@ fn end(session: &mut Session, machine: &mut Machine) -> bool
     !session.hung
 }
 
-/// What it makes of a session that the client of a connection goes; false where nothing is left of it.
+/// What it makes of a session that the client of a connection goes; false if nothing is left of it.
 fn leave(session: &mut Session, conn: u64, machine: &mut Machine) -> bool
     requires { AllByRecursion (IsPinned machine.old) (pin_of session.old.transaction) }
     ensures { SweptOne (Left conn) session.old session.new result machine.old machine.new [] [] }
@@ -228,7 +228,7 @@ fn stop(session: &mut Session, conn: u64, machine: &mut Machine) -> bool
     true
 }
 
-/// What happens to a session; false where nothing is left of it.
+/// What happens to a session; false if nothing is left of it.
 fn happen(
     session: &mut Session,
     event: Event,
@@ -305,7 +305,7 @@ fn sweep(
     walk(sessions, event, machine, told);
 }
 
-/// The entry of an index is applied, and the machine has it applied: each proposal that ends with it is done, and its client
+/// The entry of an index is applied, and the state machine has it applied: each proposal that ends with it is done, and its client
 /// is answered; a session that has hung up goes. `Err` means out of memory; nothing has changed then.
 #[tactic(auto, using(crate::proofs::Waits::said_so))]
 pub fn applied(
@@ -335,8 +335,8 @@ pub fn applied(
     Ok(told)
 }
 
-/// Leadership is lost: all proposals and transactions end, and each client that waits is told so, ascending by the last index
-/// of its proposal; a session that has hung up goes. No mark of the machine is live then. `Err` means out of memory; nothing
+/// Leadership is lost: all proposals and transactions end, and each client that waits is informed, ascending by the last index
+/// of its proposal; a session that has hung up goes. No mark of the state machine is live then. `Err` means out of memory; nothing
 /// has changed then.
 #[tactic(auto, using(crate::proofs::Waits::told_so, crate::proofs::Kept::lost_says_nothing, crate::proofs::Kept::lost_unmarked))]
 pub fn lost(
@@ -364,7 +364,7 @@ pub fn lost(
     Ok(told)
 }
 
-/// The client of a connection goes: its session goes too, with its transaction; where a proposal of it is in flight, that
+/// The client of a connection goes: its session goes too, with its transaction; if a proposal of it is pending, that
 /// stays, and the session with it.
 #[tactic(auto, using(crate::proofs::Kept::left_says_nothing))]
 pub fn left(alloc: Global, sessions: &mut Vec<Session>, conn: u64, machine: &mut Machine)

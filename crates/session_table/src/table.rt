@@ -53,7 +53,7 @@ fn fresh(alloc: Global, conn: u64) -> Session
     }
 }
 
-/// Gives a connection that has no session one; false exactly where 64 are there. Nothing has changed then. `Err` means out
+/// Gives a connection that has no session one; false exactly if 64 are there. Nothing has changed then. `Err` means out
 /// of memory; nothing has changed then either.
 fn join_new(alloc: Global, sessions: &mut Vec<Session>, conn: u64) -> Result<bool, AllocError>
     requires table { IsTable sessions.old.items }
@@ -72,7 +72,7 @@ fn join_new(alloc: Global, sessions: &mut Vec<Session>, conn: u64) -> Result<boo
     Ok(true)
 }
 
-/// Gives a connection a session; false exactly where it has one, or where 64 are there. Nothing has changed then. `Err`
+/// Gives a connection a session; false exactly if it has one, or where 64 are there. Nothing has changed then. `Err`
 /// means out of memory; nothing has changed then either.
 pub fn join(alloc: Global, sessions: &mut Vec<Session>, conn: u64) -> Result<bool, AllocError>
     requires { IsTable sessions.old.items }
@@ -115,7 +115,7 @@ impl Session {
 }
 
 /// Takes the query that the session at a place, which is that of a connection, has yet to answer, if there is one: it is run now,
-/// or a reader has told its reply.
+/// or a reader has given its reply.
 pub fn take_later(sessions: &mut Vec<Session>, place: usize, conn: u64) -> Option<Query>
     requires apart { AreApart sessions.old.items }
     requires place { StandsAt conn sessions.old.items place }

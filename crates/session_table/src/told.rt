@@ -16,7 +16,7 @@ use std::alloc::{AllocError, Global};
 use wire_msgs::Response;
 
 impl ProposalKind {
-    /// In how many responses it is told that the proposal is done.
+    /// In how many responses it learns that the proposal is done.
     fn response_count(&self) -> usize
         ensures { result ≡ length (landed_responses (events.landed_reply (kind_named self.now))) }
     {
@@ -49,7 +49,7 @@ impl Session {
         !self.hung && (self.flight.is_some() || self.is_due())
     }
 
-    /// The index at which its proposal ends; 0 where none is in flight.
+    /// The index at which its proposal ends; 0 where none is pending.
     fn last_in_flight(&self) -> u64
         ensures { result ≡ last_of self.now.flight }
     {
@@ -76,7 +76,7 @@ impl Session {
     }
 }
 
-/// How many responses all clients get where the entry of an index is applied; none where the number doesn't fit.
+/// How many responses all clients get where the entry of an index is applied; none if the number doesn't fit.
 pub(crate) fn responses_at(sessions: &[Session], index: u64) -> Option<usize>
     ensures { MatchOption result ⊤ (λ count. count ≡ length (all_said (Applied index) sessions.now)) }
 {
@@ -108,7 +108,7 @@ fn add_waiting(waiting: &mut Vec<(u64, u64)>, last: u64, conn: u64) -> Result<()
     Ok(())
 }
 
-/// Adds the client of a session, where it waits for a proposal or for a query that is run next.
+/// Adds the client of a session, if it waits for a proposal or for a query that is run next.
 fn add_session(waiting: &mut Vec<(u64, u64)>, session: &Session) -> Result<(), AllocError>
     ensures { OnOk result (waiting.new.items ≡ with_waiting session.now waiting.old.items) }
 {

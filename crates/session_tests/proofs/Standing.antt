@@ -1,4 +1,4 @@
--- Clients that stand over a machine: at the start, and where a command is done.
+-- Clients that stand over a state machine: at the start, and if a command is done.
 use Rattle.std.proofs.Common.{◌≡◌, List, [], sym, subst}
 use Rattle.std.specs.Prelude.{Result, Ok, Err, OnOk, OnErr}
 use Rattle.log_commands.specs.declared.command.Command.{Command}

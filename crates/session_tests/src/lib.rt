@@ -1,5 +1,5 @@
-//! The tests of sessions as code, and of what answers queries beside a node, which call the crates from outside. A crate with tests
-//! of its own is proved once more with them, so these stand here.
+//! The tests of sessions as code, and of what answers queries concurrently with a node, which call the crates from outside. A crate with tests
+//! of its own is proved once more with them, so these are here.
 #![tactic(auto)]
 
 #[cfg(test)]

@@ -1,4 +1,4 @@
-//! What clients are told, and how many images stay pinned, in lives of a node whose entries are applied later than they were
+//! What clients are sent, and how many images stay pinned, in lives of a node whose entries are applied later than they were
 //! proposed, or never.
 
 use crate::messages::{
@@ -18,7 +18,7 @@ const BEGINNING: &[Step] = &[
     Step::Open(8, "d"),
 ];
 
-/// Steps behind the beginning, what is said while they are taken, and how many images of `d` are pinned then.
+/// Steps after the beginning, what is said while they are taken, and how many images of `d` are pinned then.
 type Life = (&'static [Step], &'static [(u64, &'static [u8])], u64);
 
 /// Lives in which leadership is lost.
@@ -104,7 +104,7 @@ const LOSSES: &[Life] = &[
         &[(7, NONE_AFFECTED), (7, ONE_AFFECTED), (7, LOST)],
         0,
     ),
-    // The same, as long as it is out.
+    // A COMMIT is still out at the end.
     (
         &[
             Step::Exec(7, "BEGIN"),
@@ -127,7 +127,7 @@ const LOSSES: &[Life] = &[
         &[(9, LOST), (9, OPENED)],
         0,
     ),
-    // Two writes are out, of which client 9's came first; a request waits behind the other.
+    // Two writes are out, of which client 9's came first; a request waits after the other.
     (
         &[
             Step::Connect(9),
@@ -145,7 +145,7 @@ const LOSSES: &[Life] = &[
 
 /// Lives in which clients hang up.
 const HANGUPS: &[Life] = &[
-    // In a transaction with the turn to write.
+    // In a transaction with the write lock.
     (
         &[
             Step::Exec(7, "BEGIN IMMEDIATE"),
@@ -157,7 +157,7 @@ const HANGUPS: &[Life] = &[
         &[(7, NONE_AFFECTED), (8, LOCKED), (8, ONE_AFFECTED)],
         0,
     ),
-    // With a write out, which keeps the turn and the number; its reply is told to nobody.
+    // With a write out, which keeps the write lock and the number; its reply is told to nobody.
     (
         &[
             Step::Exec(7, "SET 3 9"),
@@ -267,10 +267,10 @@ const HINDRANCES: &[Life] = &[
     ),
 ];
 
-/// Lives in which writes are refused before an engine runs them: of a statement that it ran it would tell that the files aren't
+/// Lives in which writes are refused before an engine runs them: of a statement that it ran it would say that the files aren't
 /// opened.
 const WRITES: &[Life] = &[
-    // Another session has the turn: broken texts, texts that would find no row, and those among others are refused for it.
+    // Another session has the write lock: broken texts, texts that would find no row, and those among others are refused for it.
     (
         &[
             Step::Exec(8, "BEGIN IMMEDIATE"),
@@ -307,7 +307,7 @@ const WRITES: &[Life] = &[
         ],
         0,
     ),
-    // In a transaction: while another session's write is out, and behind it.
+    // In a transaction: while another session's write is out, and after it.
     (
         &[
             Step::Exec(7, "BEGIN"),
@@ -373,7 +373,7 @@ const BARRIERS: &[Life] = &[
         ],
         0,
     ),
-    // Two wait, and leadership is lost: both are told so, first the one that asked first.
+    // Two wait, and leadership is lost: both are informed, first the one that asked first.
     (
         &[
             Step::Connect(9),
@@ -433,7 +433,7 @@ const BARRIERS: &[Life] = &[
     ),
 ];
 
-/// Lives in which a fault is told, where the node could as well take it because memory ran
+/// Lives in which a fault is told, if the node could as well take it because memory ran
 /// out.
 const FAULTS: &[Life] = &[
     // Parameters are numbered from 1.
@@ -476,7 +476,7 @@ const FAULTS: &[Life] = &[
     ),
 ];
 
-/// Whether just this is said while these steps are taken behind the beginning, and how many images of `d` are pinned then.
+/// Whether just this is said while these steps are taken after the beginning, and how many images of `d` are pinned then.
 fn after(
     alloc: Global,
     steps: &[Step],

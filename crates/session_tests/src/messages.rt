@@ -1,4 +1,4 @@
-//! Messages as they stand in a stream: what a client sends, and what it is told.
+//! Messages as they are in a stream: what a client sends, and what it is told.
 
 use std::alloc::{AllocError, Global};
 
@@ -29,7 +29,7 @@ pub(crate) const NOT_LEADER: &[u8] =
 /// FAILURE 10506.
 pub(crate) const LOST: &[u8] = b"\x03\0\0\0\0\0\0\0\x0a\x29\0\0\0\0\0\0leadership lost\0";
 
-/// FAILURE 5, for the turn to write.
+/// FAILURE 5, for the write lock.
 pub(crate) const LOCKED: &[u8] =
     b"\x04\0\0\0\0\0\0\0\x05\0\0\0\0\0\0\0database is locked\0\0\0\0\0\0";
 
@@ -61,7 +61,7 @@ pub(crate) const NOT_A_DATABASE: &[u8] =
 /// How many bytes a message with 16 MiB has.
 const BULK_BYTES: usize = 16_777_224;
 
-/// The head of a message of a type, with so many words.
+/// The head of a message of a type, with this many words.
 fn head(alloc: Global, words: usize, kind: u8) -> Result<Vec<u8>, AllocError> {
     let mut bytes = Vec::new(alloc);
     bytes.extend_from_slice(&[(words % 256) as u8, 0, 0, 0, kind, 0, 0, 0])?;

@@ -22,7 +22,7 @@ use wire_words::WireBytes;
 pub(crate) enum Step {
     /// A client connects with a number, and tells its version.
     Connect(u64),
-    /// So many clients do so, with the numbers from 101 on.
+    /// This many clients do so, with the numbers from 101 on.
     Crowd(u64),
     /// A client opens a database, and all that waits has its turn.
     Open(u64, &'static str),
@@ -166,7 +166,7 @@ impl Node {
         }
     }
 
-    /// The message whose turn it is has it; false where none is left.
+    /// The message whose turn it is has it; false if none is left.
     fn serve_one(&mut self) -> Result<bool, AllocError>
         requires stand { AreValidOver self.old.clients self.old.machine }
         requires agrees { Agrees [] self.old.clients self.old.machine }
@@ -231,7 +231,7 @@ impl Node {
         }
     }
 
-    /// So many clients connect, with the numbers from 101 on.
+    /// This many clients connect, with the numbers from 101 on.
     fn crowd(&mut self, count: u64) -> Result<(), AllocError>
         requires stand { AreValidOver self.old.clients self.old.machine }
         requires agrees { Agrees [] self.old.clients self.old.machine }
@@ -244,7 +244,7 @@ impl Node {
         Ok(())
     }
 
-    /// A client sends a message, where there was memory for it.
+    /// A client sends a message, if there was memory for it.
     fn ask(&mut self, conn: u64, message: Result<Vec<u8>, AllocError>) -> Result<(), AllocError>
         requires stand { AreValidOver self.old.clients self.old.machine }
         requires agrees { Agrees [] self.old.clients self.old.machine }
@@ -283,7 +283,7 @@ impl Node {
         Ok(())
     }
 
-    /// The query whose barrier is applied is run, where there is one.
+    /// The query whose barrier is applied is run, if there is one.
     fn run_due(&mut self) -> Result<(), AllocError>
         requires stand { AreValidOver self.old.clients self.old.machine }
         requires agrees { Agrees [] self.old.clients self.old.machine }

@@ -1,4 +1,4 @@
-//! What a reader tells of queries over an image.
+//! What a reader says of queries over an image.
 
 use dq_base::{Image, Items, Name};
 use session_outcomes::{Read, ReadJob, answer_read};
@@ -9,7 +9,7 @@ use std::sync::Arc;
 use std::test::*;
 use wire_words::WireText;
 
-/// What is told, with the number of responses for the reply.
+/// What is reported, with the number of responses for the reply.
 #[derive(Clone, Copy, Debug, PartialEq, Eq)]
 enum Told {
     Responses(usize),
@@ -29,7 +29,7 @@ fn job_of(alloc: Global, text: &str) -> Option<ReadJob> {
     })
 }
 
-/// What is told of it.
+/// What is reported of it.
 fn told_of(alloc: Global, text: &str) -> Option<Told> {
     let job = job_of(alloc, text)?;
     let mut engine = CellEngine::new(alloc);
@@ -41,7 +41,7 @@ fn told_of(alloc: Global, text: &str) -> Option<Told> {
     Some(told)
 }
 
-/// Texts, and what is told of each. Only a text that would change pages goes back.
+/// Texts, and what is reported of each. Only a text that would change pages goes back.
 const ROWS: &[(&str, Told)] = &[
     ("GET 3", Told::Responses(1)),
     ("WIPE 0", Told::Responses(1)),

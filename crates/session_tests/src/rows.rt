@@ -11,7 +11,7 @@ use std::test::Fail;
 use wire_rows::Row;
 use wire_words::{Value, WireBytes, WireText};
 
-/// The bytes of a blob, and why the only row of an answer with it can't be told.
+/// The bytes of a blob, and why the only row of an answer with it can't be sent.
 const ROWS: &[(usize, Option<Cause>)] = &[(1, None), (16_777_216, Some(Cause::AnswerTooBig))];
 
 /// The name of the only column.
@@ -23,7 +23,7 @@ fn columns(alloc: Global) -> Result<Vec<WireText>, AllocError>
     Ok(columns)
 }
 
-/// A row with a blob of so many bytes.
+/// A row with a blob of this many bytes.
 fn row_of(alloc: Global, bytes: usize) -> Result<Row, AllocError>
     ensures { IfOk result (λ row. length row ≡ 1) }
 {
@@ -33,7 +33,7 @@ fn row_of(alloc: Global, bytes: usize) -> Result<Row, AllocError>
     Ok(Row::new(values))
 }
 
-/// The only row, with a blob of so many bytes.
+/// The only row, with a blob of this many bytes.
 fn rows(alloc: Global, bytes: usize) -> Result<Vec<Row>, AllocError>
     ensures { IfOk result (λ rows. HaveWidth 1 rows.items) }
 {
@@ -42,7 +42,7 @@ fn rows(alloc: Global, bytes: usize) -> Result<Vec<Row>, AllocError>
     Ok(rows)
 }
 
-/// An answer of one row with a blob of so many bytes.
+/// An answer of one row with a blob of this many bytes.
 fn answer(alloc: Global, bytes: usize) -> Result<StatementResult, AllocError>
     ensures columns { IfOk result (λ ran. ran.columns ≡ codes "v" ∷ []) }
     ensures widths { IfOk result (λ ran. HaveWidth 1 ran.rows) }
@@ -60,7 +60,7 @@ fn answer(alloc: Global, bytes: usize) -> Result<StatementResult, AllocError>
     })
 }
 
-/// Why the rows of an answer with a blob of so many bytes can't be told.
+/// Why the rows of an answer with a blob of this many bytes can't be sent.
 fn hindrance(alloc: Global, bytes: usize) -> Result<Option<Cause>, AllocError> {
     let answer = answer(alloc, bytes)?;
     match ToldRows::cut(alloc, answer)? {

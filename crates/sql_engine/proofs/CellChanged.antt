@@ -17,7 +17,7 @@ use Rattle.sql_engine.proofs.CountPages.{count_listed, count_differs, sides_same
 side_length : (a : Image) (main : List ℕ) → length (with_main a main).side ≡ max (length a.side) 4096
 side_length a main = length-with_page a.side 1 (cell_page ((changes_in a + 1) % 2 ^ 64)) (length-cell_page ((changes_in a + 1) % 2 ^ 64))
 
--- how many pages of a file there can be behind the first, of an image after a change
+-- how many pages of a file there can be after the first, of an image after a change
 abbrev pub behind_first : Image → ℕ
 behind_first b = max (pages_in b.main) (pages_in b.side) - 1
 
@@ -154,7 +154,7 @@ first_listed a page value above =
           ∙ ap (cells_from a page value first) (sym count)
     ]
 
--- the pages behind it
+-- the pages after it
 others_listed : (a : Image) (page value : ℕ) → 1 ≤ page
     → evens a (with_main a (cell_file a page value)) 2 (behind_first (with_main a (cell_file a page value))) ≡ cells_from a page value (max (first_page a page) 2) (page + 1 - max (first_page a page) 2)
 others_listed a page value above =

@@ -93,7 +93,7 @@ page_past file start past =
     let small : j < 4096 = omega arith in
     get_or-page_from file start j small ∙ get_or_past file (start + j) 0 (omega arith) ∙ sym (zero_at 4096 j small))
 
--- a page of a file that is cut behind it
+-- a page of a file that is cut after it
 pub page_before_cut : (file : List ℕ) (n p : ℕ) → 1 ≤ p → p ≤ n → page_from (take (4096 * n) file) (4096 * (p - 1)) ≡ page_from file (4096 * (p - 1))
 page_before_cut file n p above le =
     same_page (take (4096 * n) file) file (4096 * (p - 1)) (λ j lt. get_or-take (4096 * n) file (4096 * (p - 1) + j) 0 (omega arith))

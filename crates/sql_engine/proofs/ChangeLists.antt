@@ -27,12 +27,12 @@ same_there a b n page was is =
     let same : bytes_eq page page ≡ true = (bytes_eq-Decides page page).1 refl in
     rw (was, is, same) refl
 
--- what a change lists at so many even numbers, from 2 p on
+-- what a change lists at this many even numbers, from 2 p on
 unfoldable pub evens : Image → Image → ℕ → ℕ → List NumberedPage
 evens a b p zero = []
 evens a b p (suc k) = here a b (2 * p) ++ evens a b (p + 1) k
 
--- where it lists nothing at odd numbers, it lists what it lists at the even ones
+-- if it lists nothing at odd numbers, it lists what it lists at the even ones
 pub pairs : (a b : Image) (p k : ℕ) → ((q : ℕ) → p ≤ q → Same a b (2 * q + 1)) → changed_from (2 * p) (2 * k) a b ≡ evens a b p k
 unfolding changed_from evens
 pairs a b p zero odd = refl

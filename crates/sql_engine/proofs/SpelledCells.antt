@@ -1,4 +1,4 @@
--- A text is read as a statement of cells exactly where it is spelled so.
+-- A text is read as a statement of cells exactly if it is written so.
 use Rattle.std.proofs.Common.{◌≡◌, ℕ, ◌<◌, ◌≤◌, ◌^◌, true, ltb, leb, ◌&&◌, inl, inr, List, ◌++◌, length, take, drop, codes, Option, Some, None, refl, sym, ap, subst, ◌∙◌, take-append-drop, arith}
 use Rattle.std.specs.Prelude.{bytes_eq}
 use Rattle.std.specs.Fmt.{decimal}
@@ -13,9 +13,9 @@ use Rattle.dq_base.proofs.Numbers.{number_is, number_again}
 use Rattle.dq_base.proofs.Halves.{halves_cut, halves_of, decimal_no_space}
 use Rattle.sql_engine.specs.CellTexts.{IsCellPage, IsInRange, Says, is_cell_page, set_of, get_of, wipe_of, set_in, statement_of}
 
--- ---- what is read is spelled so
+-- ---- what is read is written so
 
--- what stands behind a word
+-- what follows a word
 behind_is : (word text rest : List ℕ) → behind word text ≡ Some rest → text ≡ word ++ rest
 behind_is word text rest e =
     let a = passed (bytes_eq (take (length word) text) word) (Some (drop (length word) text)) rest e in
@@ -98,7 +98,7 @@ statement_is text c e =
       ]
     ]
 
--- ---- what is spelled so is read
+-- ---- what is written so is read
 
 set_read : (rest : List ℕ) → statement_of (codes "SET " ++ rest) ≡ set_in (halves rest)
 unfolding statement_of

@@ -1,4 +1,4 @@
--- How an answer tells what a statement of cells does.
+-- How an answer says what a statement of cells does.
 use Rattle.std.specs.Prelude.{◌≡◌, ◌⊎◌, ℕ, None, Result, Ok, Err}
 use Rattle.dq_base.specs.declared.images.Image.{Image}
 use Rattle.dq_base.specs.Changes.{changed}
@@ -22,7 +22,7 @@ abbrev pub fault_of : Refusal → EngineFault
 fault_of constraint = faults.Constraint
 fault_of sql = faults.Sql
 
--- The result is that of what a statement does: its outcome is told, or the refusal, or memory ran out.
+-- The result is that of what a statement does: its outcome is reported, or the refusal, or memory ran out.
 abbrev pub Performs : Image → ℕ → Result Outcome Refusal → Result StatementResult EngineFault → Type 0
 Performs image tx does (Ok ran) = (outcome : Outcome) × ((does ≡ Ok outcome) × TellsOutcome image tx outcome ran)
 Performs image tx does (Err fault) = (fault ≡ faults.NoMemory) ⊎ ((refusal : Refusal) × ((does ≡ Err refusal) × (fault ≡ fault_of refusal)))

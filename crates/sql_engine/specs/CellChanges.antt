@@ -11,7 +11,7 @@ use Rattle.sql_engine.specs.Cells.{cell_page, changes_in}
 abbrev pub new_page : ℕ → ℕ → ℕ → List ℕ
 new_page page value index = if index == page then cell_page value else zeros 4096
 
--- so many pages of the main file from one on, as they are listed where the cell of a page is set to a value
+-- this many pages of the main file from one on, as they are listed where the cell of a page is set to a value
 unfoldable pub cells_from : Image → ℕ → ℕ → ℕ → ℕ → List NumberedPage
 cells_from image page value index zero = []
 cells_from image page value index (suc count) = changed_page (2 * index) (page_at image (2 * index)) (Some (new_page page value index)) ++ cells_from image page value (index + 1) count

@@ -6,9 +6,9 @@ use Rattle.dq_base.specs.Texts.{halves, behind, or_else}
 use Rattle.sql_engine.specs.declared.cell_statement.CellStatement.{CellStatement}
 use Rattle.sql_engine.specs.declared.cell_statement.CellStatement.TheVariants.{Set, Get, Wipe}
 
--- ---- how a statement is spelled
+-- ---- how a statement is written
 
--- numbers are in decimal without sign or leading zeros, and one space stands before each
+-- numbers are in decimal without sign or leading zeros, and one space is before each
 abbrev pub spelled : CellStatement → List ℕ
 spelled (Set page value) = codes "SET " ++ (decimal page ++ (codes " " ++ decimal value))
 spelled (Get page) = codes "GET " ++ decimal page
@@ -46,7 +46,7 @@ abbrev pub wipe_of : Option ℕ → Option CellStatement
 wipe_of (Some pages) = if nat_le pages 8192 then Some (Wipe pages) else None
 wipe_of None = None
 
--- what stands behind `SET `
+-- what follows `SET `
 abbrev pub set_in : Option (List ℕ × List ℕ) → Option CellStatement
 set_in (Some both) = set_of (number_below (2 ^ 64) both.0) (number_below (2 ^ 64) both.1)
 set_in None = None

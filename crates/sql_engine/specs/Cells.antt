@@ -18,7 +18,7 @@ use Rattle.sql_engine.specs.CellTexts.{statement_of}
 unfoldable pub cell_page : ℕ → List ℕ
 cell_page value = little_bytes 8 value ++ zeros 4088
 
--- a file in which this page stands as page k, from k = 1 on; a file that ends before is grown with zeros to the page's end
+-- a file in which this page is as page k, from k = 1 on; a file that ends before is grown with zeros to the page's end
 unfoldable pub with_page : List ℕ → ℕ → List ℕ → List ℕ
 with_page file k page = replaced (resized (max (length file) (4096 * k)) file) (4096 * (k - 1)) page
 
@@ -39,7 +39,7 @@ with_main image main = record { main = main; side = with_page image.side 1 (cell
 unfoldable pub with_cell : Image → ℕ → ℕ → Image
 with_cell image page value = with_main image (with_page image.main page (cell_page value))
 
--- the main file is cut to so many pages
+-- the main file is truncated to this many pages
 unfoldable pub wiped : Image → ℕ → Image
 wiped image pages = if nat_lt (4096 * pages) (length image.main) then with_main image (take (4096 * pages) image.main) else image
 
@@ -48,11 +48,11 @@ pub record Outcome : Type 0 where
   pub after : Image
   pub reply : Reply
 
--- a reply without columns, of so many pages that changed
+-- a reply without columns, of this many pages that changed
 abbrev pub told : ℕ → Reply
 told affected = record { affected = affected; columns = []; rows = [] }
 
--- the rows that a page gives: one with its number, as a signed one, where there is the page
+-- the rows that a page gives: one with its number, as a signed one, if there is the page
 abbrev pub cell_rows : Option (List ℕ) → List (List Value)
 cell_rows None = []
 cell_rows (Some page) = (Integer (cast_signed w64 (little_number 8 page)) ∷ []) ∷ []

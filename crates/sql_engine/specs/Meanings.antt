@@ -25,7 +25,7 @@ pub record IsShort (image : Image) : Type 0 where
   pub main : length image.main < 2 ^ 64
   pub side : length image.side < 2 ^ 64
 
--- the reply that an answer stands for
+-- the reply that an answer represents
 abbrev pub reply_of : StatementResult → Reply
 reply_of ran = record { affected = ran.affected; columns = ran.columns; rows = plain_rows ran.rows }
 
@@ -57,7 +57,7 @@ Faults m kind image s faults.Unopened = kind ≡ Sqlite
 Faults m kind image s faults.Cut = kind ≡ Sqlite
 Faults m kind image s faults.NoMemory = ⊤
 
--- a statement is cut short only where there is a limit
+-- a statement is interrupted only if there is a limit
 abbrev pub IsCutBy : Option ℕ → Result StatementResult EngineFault → Type 0
 IsCutBy limit result = result ≡ Err faults.Cut → IsSome limit
 
@@ -75,14 +75,14 @@ pub record Told : Type 0 where
   pub answers : List (Result StatementResult EngineFault)
   pub cut : Bool
 
--- An engine that tells its answers adds this one to them, as long as it has lost none; or it has lost one, and then the
--- answer means out of memory. One that tells none goes on so.
+-- An engine that reports its answers adds this one to them, while it has lost none; or it has lost one, and then the
+-- answer means out of memory. One that reports none continues so.
 pub data Tells (result : Result StatementResult EngineFault) : Option Told → Option Told → Type 0 where
   untold : Tells result None None
   added : (answers : List (Result StatementResult EngineFault)) → Tells result (Some (record { answers = answers; cut = false })) (Some (record { answers = answers ++ result ∷ []; cut = false }))
   lost : (answers : List (Result StatementResult EngineFault)) (cut : Bool) → result ≡ Err faults.NoMemory → Tells result (Some (record { answers = answers; cut = cut })) (Some (record { answers = answers; cut = true }))
 
--- what a fork tells: no answer so far, where the engine tells its answers
+-- what a fork tells: no answer so far, if the engine reports its answers
 abbrev pub told_anew : Option Told → Option Told
 told_anew None = None
 told_anew (Some told) = Some (record { answers = []; cut = false })

@@ -5,7 +5,7 @@ use wire_words::WireText;
 /// What a statement answered, with the pages that it changed.
 #[derive(Debug, Drop)]
 pub struct StatementResult {
-    /// The pages that lead from the image before to the image after; none where the two are the same.
+    /// The pages that lead from the image before to the image after; none if the two are the same.
     pub after: PageSet,
     /// How many rows were inserted, changed or deleted.
     pub affected: u64,

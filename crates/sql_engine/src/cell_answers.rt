@@ -58,7 +58,7 @@ fn set(
     Ok(told(pages, 1, tx, alloc))
 }
 
-/// Cuts the main file to so many pages.
+/// Cuts the main file to this many pages.
 fn wipe(
     alloc: Global,
     image: &Image,
@@ -76,7 +76,7 @@ fn wipe(
     Ok(told(changes, affected, tx, alloc))
 }
 
-/// The rows that a page gives: one with its number, where there is the page.
+/// The rows that a page gives: one with its number, if there is the page.
 fn cell_rows(alloc: Global, page: Option<Page>) -> Result<Vec<Row>, AllocError>
     ensures { IfOk result (λ rows. rows.items ≡ cell_rows page) }
 {

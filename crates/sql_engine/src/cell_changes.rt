@@ -37,7 +37,7 @@ pub(crate) fn set_changes(
     Ok(pages)
 }
 
-/// The pages that cutting the main file to so many pages changes: page 1 of the side file and the sizes page, or none where
+/// The pages that cutting the main file to this many pages changes: page 1 of the side file and the sizes page, or none where
 /// the file is no longer than that.
 pub(crate) fn wipe_changes(
     alloc: Global,

@@ -15,7 +15,7 @@ use wire_words::Value;
 /// counts the changes.
 ///
 /// - `SET k v` puts the value `v` into page `k` of the main file, which grows to it. It affects 1.
-/// - `GET k` answers the value of page `k` in one column `v`, or no row where there is no such page.
+/// - `GET k` answers the value of page `k` in one column `v`, or no row where the page is missing.
 /// - `WIPE n` cuts the main file to `n` pages. It affects as many pages as went.
 ///
 /// Numbers are in decimal without sign or leading zeros. `k` is 1 to 8,192, `n` is 0 to 8,192, `v` has 1 to 19 digits. A

@@ -5,6 +5,6 @@ pub enum CellStatement {
     Set { page: u64, value: u64 },
     /// `GET page`: the value of the cell.
     Get { page: u64 },
-    /// `WIPE pages`: the main file is cut to so many pages.
+    /// `WIPE pages`: the main file is truncated to this many pages.
     Wipe { pages: u64 },
 }

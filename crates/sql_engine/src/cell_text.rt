@@ -24,7 +24,7 @@ fn set_of(page: u64, value: u64) -> Option<CellStatement>
     }
 }
 
-/// What stands behind `SET `.
+/// What follows `SET `.
 fn set_in(text: &[u8]) -> Option<CellStatement>
     ensures { result ≡ set_in (halves text.now) }
 {
@@ -34,7 +34,7 @@ fn set_in(text: &[u8]) -> Option<CellStatement>
     set_of(page, value)
 }
 
-/// What stands behind `GET `.
+/// What follows `GET `.
 fn get_in(text: &[u8]) -> Option<CellStatement>
     ensures { result ≡ get_of (number_below (2 ^ 64) text.now) }
 {
@@ -46,7 +46,7 @@ fn get_in(text: &[u8]) -> Option<CellStatement>
     }
 }
 
-/// What stands behind `WIPE `.
+/// What follows `WIPE `.
 fn wipe_in(text: &[u8]) -> Option<CellStatement>
     ensures { result ≡ wipe_of (number_below (2 ^ 64) text.now) }
 {

@@ -5,18 +5,18 @@ use dq_base::{Image, ImageNumber};
 use std::alloc::AllocError;
 use wire_words::Value;
 
-/// What runs a statement over an image and tells which pages it changes.
+/// What runs a statement over an image and says which pages it changes.
 ///
 /// What a statement means is up to the engine's kind, which stays: on an image it may give a reply and leave an image, or be
 /// refused. The image handed in is never changed. How an engine comes to its answer, and what it keeps between two runs, is
 /// its own affair.
 ///
 /// What an engine has open it knows by the numbers of images, so that it needs no look at their bytes to find it. Who calls it
-/// sees to it that no number stands for two images.
+/// sees to it that no number represents two images.
 ///
-/// An engine counts the openings that were refused: `run` answers `Unopened` only where that count rose in the call.
+/// An engine counts the openings that were refused: `run` answers `Unopened` only if that count rose in the call.
 ///
-/// An engine may tell the list of its answers. Then each run adds its answer to the list; or the list loses it and takes no
+/// An engine may report the list of its answers. Then each run adds its answer to the list; or the list loses it and takes no
 /// more, and the answer means out of memory.
 pub trait Engine: Sized {
     ghost use Rattle.std.specs.Prelude.{◌≡◌, ◌≤◌, ℕ, [], List, Option, All, IfOk, IfErr};
@@ -35,20 +35,20 @@ pub trait Engine: Sized {
     /// How many openings were refused.
     ghost refused_openings: { Self → ℕ };
 
-    /// The answers so far, where the engine tells them.
+    /// The answers so far, if the engine tells them.
     ghost told: { Self → Option Told };
 
     /// The images that the engine has open by their numbers.
     ghost known: { Self → List Known };
 
-    /// What telling the engine of an image by its number comes to, from the engine before to the engine after.
+    /// What informing the engine of an image by its number changes, from the engine before to the engine after.
     ghost gets_ready: { Image → ImageNumber → Self → Self → Type 0 };
 
-    /// Runs one statement over the image, for the transaction of a number, in at most so many steps, where there is a limit. What a
+    /// Runs one statement over the image, for the transaction of a number, in at most this many steps, if there is a limit. What a
     /// step is is up to the kind of the engine.
     ///
     /// - `Constraint`, `Sql`: the statement is refused so on the image.
-    /// - `Float`, `NotText`: it gives a reply with such a value, of which the place is told.
+    /// - `Float`, `NotText`: it gives a reply with a value of this kind, whose place is reported.
     /// - `Unopened`: an engine of SQLite did not open the files.
     /// - `Cut`: it would take more steps than the limit.
     /// - `NoMemory`: out of memory.
@@ -77,7 +77,7 @@ pub trait Engine: Sized {
         ensures known { IfOk result (λ other. known other ≡ []) }
         ensures told { IfOk result (λ other. told other ≡ told_anew (told self.now)) };
 
-    /// Tells the engine that the next statements will run over this image under this number, so that it may open it ahead. No
+    /// Informs the engine that the next statements will run over this image under this number, so that it may open it ahead. No
     /// answer depends on it.
     fn ready(&mut self, image: &Image, number: ImageNumber)
         requires number { All (Knows number image.now) (known self.old) }

@@ -5,6 +5,6 @@ use dq_base::ImageNumber;
 pub struct ImageNumbers {
     /// The number of the image that is handed in.
     pub before: ImageNumber,
-    /// The number that the image after gets, as a working image, where there is one. No engine may know it yet.
+    /// The number that the image after gets, as a working image, if there is one. No engine may know it yet.
     pub after: u64,
 }

@@ -17,7 +17,7 @@ pub fn answers_lead_on<E: Engine>()
     ensures { (kind : _) → LeadsOn (E.meaning kind) }
 {}
 
-/// A law: a text is a statement of cells exactly where it is spelled so, with numbers in range. So it is one statement at
+/// A law: a text is a statement of cells exactly if it is written so, with numbers in range. So it is one statement at
 /// most.
 pub fn texts_say_statements()
     ensures { (text c : _) → statement_of text ≡ Some c ↔ Says text c }

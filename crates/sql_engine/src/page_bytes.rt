@@ -31,7 +31,7 @@ fn zeroed_bytes() -> [u8; PAGE_SIZE]
     [0; PAGE_SIZE]
 }
 
-/// How many pages a file of so many bytes fills, the last of them maybe in part.
+/// How many pages a file of this many bytes fills, the last of them maybe in part.
 pub(crate) fn pages_in(bytes: usize) -> u64
     ensures { result ≡ pages_of bytes }
 {

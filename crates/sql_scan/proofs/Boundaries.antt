@@ -1,4 +1,4 @@
--- Statements stand where the text may be cut.
+-- Statements are where the text may be split.
 use Rattle.std.proofs.Common.{◌≡◌, ℕ, suc, ◌+◌, ◌<◌, ◌≤◌, Bool, true, false, leb, ◌⊎◌, inl, inr, List, [], ◌∷◌, ◌++◌, length, get_or, refl, sym, ap, subst, ◌∙◌, arith, append_assoc, length-append}
 use Rattle.std.specs.List.{AllPass}
 use Rattle.std.specs.Str.{IsUtf8, IsCharBoundary}
@@ -46,7 +46,7 @@ quote-ascii b e = quote_cases (λ (c : ℕ). c < 128) b e (omega arith) (omega a
 space-ascii : (b : ℕ) → is_space b ≡ true → b < 128
 space-ascii b e = space_cases (λ (c : ℕ). c < 128) b e (omega arith) (omega arith) (omega arith) (omega arith) (omega arith)
 
--- a token ends before ASCII, behind ASCII, or at the end of the text
+-- a token ends before ASCII, after ASCII, or at the end of the text
 abbrev Edge : List ℕ → List ℕ → Type 0
 Edge token after = LastAscii token ⊎ AsciiNext after
 
@@ -87,7 +87,7 @@ behind_last text front after utf8 is h =
     let e : length h.front + 1 ≡ length front = sym (ap length h.is ∙ length-append h.front (h.last ∷ [])) in
     subst (λ (n : ℕ). IsCharBoundary text n) e (IsCharBoundary-after_ascii text (length h.front) utf8 (omega arith) (omega arith))
 
--- a text may be cut behind a token
+-- a text may be split after a token
 pub token_boundary : (text front token after : List ℕ) (kind : TokenKind) → IsUtf8 text → text ≡ (front ++ token) ++ after → IsToken kind token after → IsCharBoundary text (length (front ++ token))
 token_boundary text front token after kind utf8 is h = elim (edge kind token after h) [
   | inl l ↦ behind_last text (front ++ token) after utf8 is

@@ -5,7 +5,7 @@ use Rattle.std.proofs.lemmas.Bool.{cond-true, cond-false}
 use Rattle.std.proofs.lemmas.List.{at_drop_more, at_drop_all}
 use Rattle.sql_scan.specs.Lengths.{longer, quoted, starred}
 
--- so many bytes more
+-- this many bytes more
 abbrev pub further : ℕ → Option ℕ → Option ℕ
 further n o = option_map (λ m. n + m) o
 

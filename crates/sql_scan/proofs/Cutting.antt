@@ -1,4 +1,4 @@
--- Each text is cut into tokens in one way.
+-- Each text is split into tokens in one way.
 use Rattle.std.proofs.Common.{◌≡◌, ℕ, zero, suc, ◌<◌, ◌≤◌, List, [], ◌∷◌, ◌++◌, length, take, drop, Some, inl, inr, refl, sym, ap, subst, ◌∙◌, arith}
 use Rattle.std.proofs.lemmas.List.{take_at, drop_at, take-append-drop, length-drop}
 use Rattle.sql_scan.specs.declared.token.TokenKind.{TokenKind}

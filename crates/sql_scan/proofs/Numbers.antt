@@ -4,7 +4,7 @@ use Rattle.std.proofs.lemmas.Bool.{cases_lt, cond-false, and_right, lt-leb}
 use Rattle.std.proofs.lemmas.List.{at_drop_more, at_drop_all}
 use Rattle.sql_scan.specs.Statements.{decimal, in_range, parameter}
 
--- a number may be cut down to one that is too great
+-- a number may be capped at one that is too great
 capped-decimal : (m : ℕ) (ds : List ℕ) → min (decimal (min m 32767) ds) 32767 ≡ min (decimal m ds) 32767
 unfolding decimal
 capped-decimal m [] = omega arith

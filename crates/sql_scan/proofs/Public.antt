@@ -1,4 +1,4 @@
--- What a scan tells of its text.
+-- What a scan says of its text.
 use Rattle.std.proofs.Common.{◌≡◌, ℕ, List, Result, Ok, Err, sym, subst, ap}
 use Rattle.std.specs.Result.{IfOk}
 use Rattle.std.specs.List.{All, AllPairs}

@@ -1,4 +1,4 @@
--- What is spelled as a token is cut as that token.
+-- What is written as a token is read as that token.
 use Rattle.std.proofs.Common.{◌≡◌, ℕ, suc, ◌+◌, ◌<◌, ◌≤◌, Bool, true, false, cond, eqb, ltb, ◌&&◌, List, [], ◌∷◌, ◌++◌, length, Option, Some, None, refl, sym, ap, subst, ◌∙◌, arith, length-append}
 use Rattle.std.specs.List.{prefix_len}
 use Rattle.std.proofs.lemmas.Bool.{or_parts, eqb-true, eq-eqb, lt-ltb, le-ltb, cond-true, cond-false, cond_both}
@@ -80,7 +80,7 @@ bracketed_open_back inside r =
 
 -- ---- star comments
 
--- the star that stands just before, where one does
+-- the star that stands just before, if one does
 abbrev pub lead : Bool → List ℕ
 lead true = 42 ∷ []
 lead false = []

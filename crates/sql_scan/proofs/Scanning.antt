@@ -10,7 +10,7 @@ use Rattle.sql_scan.specs.declared.fault.ScanFault.TheVariants.{OpenQuote, OpenC
 use Rattle.sql_scan.specs.Tokens.{Token, token_of, first_token, tokens_past, tokens_of}
 use Rattle.sql_scan.specs.Statements.{blank, finished, moved, with_front, ◌>>=◌, statements_from, scan_of, Fails}
 
--- ---- the tokens behind a token
+-- ---- the tokens after a token
 
 pub past_is : (n : ℕ) (text : List ℕ) → tokens_past n text ≡ tokens_past 0 (drop n text)
 unfolding tokens_past
@@ -29,7 +29,7 @@ tokens_more b bytes lt =
     let rest : tokens_past (n - 1) bytes ≡ tokens_of (drop n (b ∷ bytes)) = past_is (n - 1) bytes ∙ ap (λ (m : ℕ). tokens_past 0 (drop m (b ∷ bytes))) (less n lt) in
     ap (λ (others : List Token). let first : Token = record { kind = (token_of b bytes).0; bytes = take (token_of b bytes).1 (b ∷ bytes) } in first ∷ others) rest
 
--- a text with a first token has its tokens behind it
+-- a text with a first token has its tokens after it
 pub first_then : (text : List ℕ) (kind : TokenKind) (n : ℕ) → first_token text ≡ Some (kind, n) → 0 < n
     → tokens_of text ≡ record { kind = kind; bytes = take n text } ∷ tokens_of (drop n text)
 first_then [] kind n e lt = absurd cc

@@ -120,7 +120,7 @@ number_gap before Space bytes n e h = some_is before n h
 number_gap before Comment bytes n e h = some_is before n h
 number_gap before kind bytes n e h = absurd cc
 
--- where a statement stands whose tokens were read up to a place
+-- if a statement stands whose tokens were read up to a place
 pub record Reads (d d' : PartialStatement) (place greatest : ℕ) (read : List Keyword) : Type 0 where
   pub start : d'.start ≡ d.start
   pub end : d'.end ≡ place

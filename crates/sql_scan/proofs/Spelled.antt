@@ -1,4 +1,4 @@
--- What is cut as a token is spelled as one: runs, quotes, brackets and comments.
+-- What is read as a token is written as one: runs, quotes, brackets and comments.
 use Rattle.std.proofs.Common.{◌≡◌, ℕ, suc, ◌+◌, ◌<◌, Bool, true, false, not, cond, eqb, ◌&&◌, inl, inr, List, [], ◌∷◌, ◌++◌, length, take, drop, Option, Some, None, refl, sym, ap, subst, ◌∙◌, arith}
 use Rattle.std.specs.List.{prefix_len, AllPass}
 use Rattle.std.proofs.lemmas.Bool.{cases_lt, or_from, eqb-true, eq-eqb, cond-true, cond-false}
@@ -41,7 +41,7 @@ run_split p xs = subst (λ (n : ℕ). Runs p (take n xs) (drop n xs)) (sym (run_
 
 -- ---- quotes
 
--- the quote that stands just before, where an odd number does
+-- the quote that stands just before, if an odd number does
 abbrev pub quote_lead : ℕ → Bool → List ℕ
 quote_lead q true = q ∷ []
 quote_lead q false = []

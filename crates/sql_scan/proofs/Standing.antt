@@ -1,4 +1,4 @@
--- Where the statements of a text stand in it.
+-- Where the statements of a text are in it.
 use Rattle.std.proofs.Common.{◌≡◌, ℕ, zero, suc, ◌+◌, ◌<◌, ◌≤◌, max, false, List, [], ◌∷◌, ◌++◌, length, drop, Option, Some, None, Result, Ok, Err, refl, sym, ap, subst, ◌∙◌, arith, append_assoc, length-append}
 use Rattle.std.specs.Option.{option_to_list}
 use Rattle.std.specs.List.{All, AllPairs}
@@ -19,12 +19,12 @@ use Rattle.sql_scan.specs.Places.{StandsIn, StandsBefore}
 use Rattle.sql_scan.proofs.Cutting.{token_some, cuts}
 use Rattle.sql_scan.proofs.Boundaries.{token_boundary}
 
--- a statement so far, behind the place where the one before ends
+-- a statement so far, after the place where the one before ends
 abbrev Progress : List ℕ → ℕ → ℕ → PartialStatement → Type 0
 Progress text from at d =
     (from ≤ at) × (is_blank d.heading ≡ false → (from ≤ d.start) × (d.start < d.end) × (d.end ≤ at) × IsCharBoundary text d.start × IsCharBoundary text d.end)
 
--- statements one behind the other, from a place on
+-- statements one after the other, from a place on
 abbrev Stand : List ℕ → ℕ → List StatementSpan → Type 0
 Stand text from [] = Unit {0}
 Stand text from (p ∷ ps) = StandsIn text p × (from ≤ p.start) × Stand text p.after ps
@@ -64,7 +64,7 @@ solid_progress text from at d kind bytes progress here there pos =
           (λ some. let p = progress.1 some in (p.0, omega arith, omega arith, p.3, there)),
     )
 
--- the draft of a parameter stands as the one without its number
+-- the draft of a parameter is as the one without its number
 counted_progress : (text : List ℕ) (from at end : ℕ) (s : PartialStatement) (o : Option ℕ) (next : PartialStatement) → Progress text from end s → counted at s o ≡ Ok next → Progress text from end next
 counted_progress text from at end s None next h e = absurd cc
 counted_progress text from at end s (Some n) next h e = subst (Progress text from end) (draft_is (record s { params = max s.params n }) next (counted at s (Some n)) refl e) h

@@ -1,4 +1,4 @@
--- What is spelled as a token is cut as that token.
+-- What is written as a token is read as that token.
 use Rattle.std.proofs.Common.{◌≡◌, ℕ, suc, ◌+◌, true, false, eqb, inl, inr, List, [], ◌∷◌, ◌++◌, length, Some, refl, sym, ap, subst, ◌∙◌, arith, append_assoc, length-append}
 use Rattle.std.proofs.lemmas.Bool.{cases_Bool, eqb-true, ne_eqb}
 use Rattle.std.proofs.lemmas.List.{append-nil}
@@ -78,7 +78,7 @@ pub slash_sign : (bytes : List ℕ) → token_of 47 bytes ≡ slash_token bytes
 unfolding is_space is_word_start is_letter is_digit is_quote is_sigil sign_token
 slash_sign bytes = sign_back 47 bytes refl refl refl refl
 
--- ---- a byte of its own
+-- ---- a byte that is a token by itself
 
 alone_sigil : (after : List ℕ) → StopsAt is_word_start after → sigil_token after ≡ sized Other 1
 unfolding sigil_token
@@ -129,7 +129,7 @@ pub named_back : (first : ℕ) (bytes : List ℕ) → is_word_start first ≡ tr
 unfolding sigil_token
 named_back first bytes e = rw e refl
 
--- the spelling's first token
+-- the encoding's first token
 abbrev First : List ℕ → TokenKind → List ℕ → Type 0
 First token kind after = first_token (token ++ after) ≡ Some (sized kind (length token))
 

@@ -16,11 +16,11 @@ is_letter b = (nat_le 65 b && nat_le b 90) || (nat_le 97 b && nat_le b 122)
 unfoldable pub is_word_start : ℕ → Bool
 is_word_start b = is_letter b || is_digit b || (b == 95) || nat_le 128 b
 
--- a word goes on with these and with a dollar sign
+-- a word continues with these and with a dollar sign
 unfoldable pub is_word_part : ℕ → Bool
 is_word_part b = is_word_start b || (b == 36)
 
--- a colon, an at sign or a dollar sign, which make a parameter of a word behind them
+-- a colon, an at sign or a dollar sign, which make a parameter of a word after them
 unfoldable pub is_sigil : ℕ → Bool
 is_sigil b = (b == 58) || (b == 64) || (b == 36)
 

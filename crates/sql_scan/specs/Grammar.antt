@@ -1,4 +1,4 @@
--- The grammar of tokens: which bytes are a token of each kind, and what may stand behind it.
+-- The grammar of tokens: which bytes are a token of each kind, and what may follow it.
 use Rattle.std.specs.Prelude.{◌≡◌, ◌≢◌, ℕ, Bool, true, false, not, ◌==◌, ◌&&◌, ◌||◌, ◌⊎◌, List, [], ◌∷◌, ◌++◌, if◌then◌else◌}
 use Rattle.std.specs.List.{AllPass, flat_map}
 use Rattle.sql_scan.specs.declared.token.TokenKind.{TokenKind}
@@ -6,24 +6,24 @@ use Rattle.sql_scan.specs.declared.token.TokenKind.TheVariants.{Space, Comment, 
 use Rattle.sql_scan.specs.Bytes.{is_space, is_digit, is_word_start, is_word_part, is_sigil, is_quote, is_in_line}
 use Rattle.sql_scan.specs.Tokens.{Token}
 
--- the bytes don't begin with such a byte
+-- the bytes don't begin with a byte of this kind
 abbrev pub StopsAt : (ℕ → Bool) → List ℕ → Type 0
 StopsAt p [] = Unit {0}
 StopsAt p (b ∷ bytes) = p b ≡ false
 
--- The bytes are all such bytes, and no further one follows.
+-- The bytes are all of this kind, and no further one follows.
 pub record Runs (p : ℕ → Bool) (bytes after : List ℕ) : Type 0 where
   pub each : AllPass p bytes
   pub stops : StopsAt p after
 
--- a content as it is spelled inside quotes: each such quote doubled
+-- a content as it is written inside quotes: each of these quotes doubled
 abbrev pub doubled : ℕ → ℕ → List ℕ
 doubled quote b = if b == quote then quote ∷ quote ∷ [] else b ∷ []
 
 abbrev pub spelled : ℕ → List ℕ → List ℕ
 spelled quote content = flat_map (doubled quote) content
 
--- a star and a slash stand in front, or anywhere
+-- a star and a slash are in front, or anywhere
 abbrev pub ends_here : List ℕ → Bool
 ends_here [] = false
 ends_here (a ∷ []) = false
@@ -36,7 +36,7 @@ has_end (b ∷ bytes) = ends_here (b ∷ bytes) || has_end bytes
 abbrev pub is_bracket_inside : ℕ → Bool
 is_bracket_inside b = not (b == 93)
 
--- ', " or a backquote, a content with such quotes doubled, and the quote again, and no further one
+-- ', " or a backquote, a content with these quotes doubled, and the quote again, and no further one
 abbrev pub IsQuoted : List ℕ → List ℕ → Type 0
 IsQuoted token after = (quote : ℕ) × (content : List ℕ) × (is_quote quote ≡ true) × (token ≡ quote ∷ (spelled quote content ++ quote ∷ [])) × StopsAt (λ b. b == quote) after
 
@@ -55,11 +55,11 @@ IsOpenBracketed token = (inside : List ℕ) × AllPass is_bracket_inside inside 
 abbrev pub IsLineComment : List ℕ → List ℕ → Type 0
 IsLineComment token after = (bytes : List ℕ) × Runs is_in_line bytes after × (token ≡ 45 ∷ 45 ∷ bytes)
 
--- slash and star, and all up to the first star and slash behind them
+-- slash and star, and all up to the first star and slash after them
 abbrev pub IsStarComment : List ℕ → Type 0
 IsStarComment token = (inside : List ℕ) × (has_end (inside ++ 42 ∷ []) ≡ false) × (token ≡ 47 ∷ 42 ∷ (inside ++ 42 ∷ 47 ∷ []))
 
--- A byte that is a token of its own: none of the others begins with it.
+-- A byte that is its own token: none of the others begins with it.
 pub record IsAlone (b : ℕ) (after : List ℕ) : Type 0 where
   pub space : is_space b ≡ false
   pub word : is_word_start b ≡ false

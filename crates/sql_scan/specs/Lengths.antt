@@ -2,7 +2,7 @@
 use Rattle.std.specs.Prelude.{ℕ, ◌+◌, Bool, not, ◌==◌, ◌&&◌, List, [], ◌∷◌, length, Option, Some, None, unwrap_or, if◌then◌else◌}
 use Rattle.std.specs.List.{position}
 
--- how many bytes from the front on are such bytes
+-- how many bytes from the front on are of this kind
 abbrev pub run : (ℕ → Bool) → List ℕ → ℕ
 run p bytes = unwrap_or (position (λ b. not (p b)) bytes) (length bytes)
 
@@ -11,7 +11,7 @@ abbrev pub longer : Option ℕ → Option ℕ
 longer None = None
 longer (Some n) = Some (n + 1)
 
--- How many bytes there are behind a quote up to the end of what it begins: up to and with the next such quote that isn't
+-- How many bytes there are after a quote up to the end of what it begins: up to and with the next quote of its kind that isn't
 -- doubled. odd says that an odd number of these quotes stands just before.
 unfoldable pub quoted : ℕ → Bool → List ℕ → Option ℕ
 quoted quote odd [] = if odd then Some 0 else None

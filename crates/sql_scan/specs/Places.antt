@@ -1,9 +1,9 @@
--- Where statements stand in a text.
+-- Where statements are in a text.
 use Rattle.std.specs.Prelude.{◌<◌, ◌≤◌, ℕ, List, length}
 use Rattle.std.specs.Str.{IsCharBoundary}
 use Rattle.sql_scan.specs.declared.pieces.StatementSpan.{StatementSpan}
 
--- The places of a statement are in order, and the text may be cut at each of them.
+-- The places of a statement are in order, and the text may be split at each of them.
 pub record StandsIn (text : List ℕ) (piece : StatementSpan) : Type 0 where
   pub some : piece.start < piece.end
   pub ordered : piece.end ≤ piece.after

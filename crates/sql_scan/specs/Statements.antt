@@ -15,12 +15,12 @@ use Rattle.sql_scan.specs.Words.{keyword_of, followed_by, kind_so_far}
 
 -- ---- parameters
 
--- the number that decimal digits behind a number make of it
+-- the number that decimal digits after a number make of it
 unfoldable pub decimal : ℕ → List ℕ → ℕ
 decimal n [] = n
 decimal n (d ∷ ds) = decimal (10 * n + (d - 48)) ds
 
--- a parameter's number, where it has one that it may have
+-- a parameter's number, if it has one that it may have
 unfoldable pub in_range : ℕ → Option ℕ
 in_range n = if nat_le 1 n && nat_le n 32766 then Some n else None
 
@@ -38,7 +38,7 @@ abbrev pub is_blank : StatementHead → Bool
 is_blank Blank = true
 is_blank _ = false
 
--- nothing of a statement but the place behind the one before
+-- nothing of a statement but the place after the one before
 abbrev pub blank : ℕ → PartialStatement
 blank at = record { start = at; end = at; params = 0; heading = Blank }
 
@@ -60,7 +60,7 @@ abbrev pub counted : ℕ → PartialStatement → Option ℕ → Result PartialS
 counted at draft None = Err (Number at)
 counted at draft (Some n) = Ok (record draft { params = max draft.params n })
 
--- with the token that stands at this place
+-- with the token that is at this place
 unfoldable pub extended : PartialStatement → ℕ → TokenKind → List ℕ → Result PartialStatement ScanFault
 extended draft at tokens.Space bytes = Ok draft
 extended draft at tokens.Comment bytes = Ok draft
@@ -101,7 +101,7 @@ abbrev pub ◌>>=◌ : {A B : Type 0} → Result A ScanFault → (A → Result B
 (Ok x) >>= f = f x
 (Err e) >>= f = Err e
 
--- The statements from a place on, where the first of them is this draft so far, and these tokens follow. Or the first fault.
+-- The statements from a place on, if the first of them is this draft so far, and these tokens follow. Or the first fault.
 unfoldable pub statements_from : ℕ → PartialStatement → List Token → Result (List StatementSpan) ScanFault
 statements_from at draft [] = Ok (option_to_list (finished draft at))
 statements_from at draft (token ∷ others) =
@@ -124,7 +124,7 @@ Fails fault there = there ≡ Err fault
 abbrev pub Gives : {X Y : Type 0} → (X → Y) → Result X ScanFault → Result Y ScanFault → Type 0
 Gives view result there = MatchResult result (λ x. there ≡ Ok (view x)) (λ e. Fails e there)
 
--- What a token did to the statements that were found: those that it ends stand behind them, or it is a fault, or memory
+-- What a token did to the statements that were found: those that it ends follow them, or it is a fault, or memory
 -- ran out.
 abbrev pub Moves : PartialStatement → ℕ → TokenKind → List ℕ → List StatementSpan → List StatementSpan → Result PartialStatement ScanFault → Type 0
 Moves draft at kind bytes old new result =

@@ -10,22 +10,22 @@ pub record Token : Type 0 where
   pub kind : TokenKind
   pub bytes : List ℕ
 
--- a token with an end to be found behind so many bytes: whole up to there, or open up to the end of the text
+-- a token with an end to be found after this many bytes: whole up to there, or open up to the end of the text
 abbrev pub closed : ℕ → TokenKind → TokenKind → List ℕ → Option ℕ → TokenKind × ℕ
 closed lead whole open_kind bytes None = (open_kind, lead + length bytes)
 closed lead whole open_kind bytes (Some n) = (whole, lead + n)
 
--- behind a colon, an at sign or a dollar sign
+-- after a colon, an at sign or a dollar sign
 unfoldable pub sigil_token : List ℕ → TokenKind × ℕ
 sigil_token [] = (Other, 1)
 sigil_token (b ∷ bytes) = if is_word_start b then (Named, 2 + run is_word_part bytes) else (Other, 1)
 
--- behind a dash
+-- after a dash
 unfoldable pub dash_token : List ℕ → TokenKind × ℕ
 dash_token [] = (Other, 1)
 dash_token (b ∷ bytes) = if b == 45 then (Comment, 2 + run is_in_line bytes) else (Other, 1)
 
--- behind a slash
+-- after a slash
 unfoldable pub slash_token : List ℕ → TokenKind × ℕ
 slash_token [] = (Other, 1)
 slash_token (b ∷ bytes) = if b == 42 then closed 2 Comment OpenComment bytes (starred false bytes) else (Other, 1)
@@ -49,12 +49,12 @@ token_of b bytes =
     else if is_sigil b then sigil_token bytes
     else sign_token b bytes
 
--- the first token, where there is one
+-- the first token, if there is one
 abbrev pub first_token : List ℕ → Option (TokenKind × ℕ)
 first_token [] = None
 first_token (b ∷ bytes) = Some (token_of b bytes)
 
--- the tokens of a text of which so many bytes are left of the token before
+-- the tokens of a text of which this many bytes are left of the token before
 unfoldable pub tokens_past : ℕ → List ℕ → List Token
 tokens_past n [] = []
 tokens_past zero (b ∷ bytes) =

@@ -33,7 +33,7 @@ pub fn is_word_start(byte: u8) -> bool
     is_letter(byte) || is_digit(byte) || byte == b'_' || byte >= 128
 }
 
-/// A word goes on with what begins one and with dollar signs.
+/// A word continues with what begins one and with dollar signs.
 #[tactic(auto, unfolding(crate::specs::Bytes::is_word_part))]
 pub fn is_word_part(byte: u8) -> bool
     ensures { result ≡ is_word_part byte }

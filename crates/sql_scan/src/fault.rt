@@ -13,10 +13,10 @@ pub enum ScanFault {
     /// A comment that begins here doesn't end.
     #[error("open comment at byte {0}")]
     OpenComment(u64),
-    /// A parameter with a name stands here.
+    /// A parameter with a name is here.
     #[error("named parameter at byte {0}")]
     Named(u64),
-    /// A parameter stands here whose number isn't 1 to 32,766.
+    /// A parameter is here whose number isn't 1 to 32,766.
     #[error("bad parameter number at byte {0}")]
     Number(u64),
     /// There is not enough memory.

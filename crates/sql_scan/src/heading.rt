@@ -13,7 +13,7 @@ pub enum WordKind {
     Rollback,
     /// INSERT, REPLACE, UPDATE or DELETE; or CREATE, DROP or ALTER.
     Write,
-    /// ATTACH, DETACH, PRAGMA, VACUUM, SAVEPOINT or RELEASE, or one of the first three kinds with anything else behind it.
+    /// ATTACH, DETACH, PRAGMA, VACUUM, SAVEPOINT or RELEASE, or one of the first three kinds with anything else after it.
     LeftOut,
     /// Any other statement, also one that begins with no word.
     Other,

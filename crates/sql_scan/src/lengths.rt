@@ -68,7 +68,7 @@ pub fn bracketed_length(bytes: &[u8]) -> Option<usize>
     }
 }
 
-// An odd number of quotes stood before this byte, which is none: the last of them was the end.
+// An odd number of quotes was before this byte, which is none: the last of them was the end.
 fn is_past_quote(odd: bool, byte: u8, quote: u8) -> bool
     ensures { result ≡ (odd && not (byte == quote)) }
 {
@@ -81,7 +81,7 @@ fn is_odd_after(odd: bool, byte: u8, quote: u8) -> bool
     byte == quote && !odd
 }
 
-/// How many bytes there are, behind a quote, up to and with the one that ends what it begins. A doubled one stays inside.
+/// How many bytes there are, after a quote, up to and with the one that ends what it begins. A doubled one stays inside.
 pub fn quoted_length(bytes: &[u8], quote: u8) -> Option<usize>
     ensures exact { result ≡ quoted quote false bytes.now }
     ensures within { IfSome result (λ n. n ≤ length bytes.now) }

@@ -4,7 +4,7 @@ ghost use Rattle.sql_scan.specs.Statements.{decimal, in_range, parameter};
 /// The greatest number of a parameter.
 pub const GREATEST_NUMBER: u64 = 32_766;
 
-// The number that digits stand for, or one above the greatest where it is greater.
+// The number that digits represent, or one above the greatest where it is greater.
 fn capped(digits: &[u8]) -> u64
     ensures { result ≡ min (decimal 0 digits.now) 32767 }
 {
@@ -27,7 +27,7 @@ fn in_range(number: u64) -> Option<u64>
     }
 }
 
-/// The number of a parameter, by the digits behind its question mark: without any, one more than the greatest so far.
+/// The number of a parameter, by the digits after its question mark: without any, one more than the greatest so far.
 /// `None` where that isn't 1 to 32,766.
 pub fn parameter(greatest: u64, digits: &[u8]) -> Option<u64>
     requires { greatest ≤ 32766 }

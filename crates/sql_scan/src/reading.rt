@@ -78,7 +78,7 @@ fn with_parameter(
     }
 }
 
-/// With the token that stands at this place, or the fault that it is.
+/// With the token that is at this place, or the fault that it is.
 #[tactic(auto, unfolding(crate::specs::Statements::extended))]
 pub fn extended(
     draft: PartialStatement,
@@ -102,7 +102,7 @@ pub fn extended(
     }
 }
 
-/// The statement, if there is one, where the rest of the text begins at the place after.
+/// The statement, if there is one, if the rest of the text begins at the place after.
 #[tactic(auto, unfolding(crate::specs::Statements::finished))]
 pub fn finished(draft: PartialStatement, after: u64) -> Option<StatementSpan>
     ensures { result ≡ finished draft after }

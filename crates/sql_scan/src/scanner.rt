@@ -74,16 +74,16 @@ fn scan_bytes(alloc: Global, bytes: &[u8]) -> Result<Scan, ScanFault>
 
 /// Finds the statements of a text, in one pass, in time in proportion to the text and with one record for each statement.
 /// The first fault in the text comes with its place: `OpenQuote` and `OpenComment` where a quoted piece or a comment has no
-/// end, `Named` where a colon, an at sign or a dollar sign stands before a word, and `Number` where a parameter's number
+/// end, `Named` where a colon, an at sign or a dollar sign is before a word, and `Number` where a parameter's number
 /// isn't 1 to 32,766. `NoMemory` means out of memory for the records.
 pub fn scan(alloc: Global, text: &str) -> Result<Scan, ScanFault>
     // What the text gives, or its first fault.
     ensures exact { Gives (λ scan. scan.statements) result (scan_of text.now) }
 
-    // The same of any tokens that the text is cut into.
+    // What any tokens give that the text is split into.
     ensures cut { (tokens : List Token) → Cuts text.now tokens → Gives (λ scan. scan.statements) result (statements_of tokens) }
 
-    // The statements are slices of the text, one behind the other.
+    // The statements are slices of the text, one after the other.
     ensures places { IfOk result (λ scan. All (StandsIn text.now) scan.statements) }
     ensures order { IfOk result (λ scan. AllPairs StandsBefore scan.statements) }
 {

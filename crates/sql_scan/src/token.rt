@@ -11,7 +11,7 @@ use crate::lengths::{
 pub enum TokenKind {
     /// A byte of space.
     Space,
-    /// A comment, without the LF behind a line's.
+    /// A comment, without the LF after a line's.
     Comment,
     /// A comment without an end.
     OpenComment,
@@ -21,7 +21,7 @@ pub enum TokenKind {
     OpenQuote,
     /// A keyword, a name or a number.
     Word,
-    /// A question mark and the digits behind it.
+    /// A question mark and the digits after it.
     Parameter,
     /// A parameter with a name.
     Named,
@@ -140,7 +140,7 @@ fn token_of(first: u8, bytes: &[u8]) -> (TokenKind, usize)
     }
 }
 
-/// The first token, where there is one: what it is, and how many bytes it has.
+/// The first token, if there is one: what it is, and how many bytes it has.
 pub fn first_token(bytes: &[u8]) -> Option<(TokenKind, usize)>
     ensures exact { result ≡ first_token bytes.now }
     ensures some { IfSome result (λ token. 0 < token.1) }

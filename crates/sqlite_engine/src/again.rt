@@ -15,7 +15,7 @@ use std::alloc::Global;
 /// How many steps a statement may take that is run once more: some 20 ms.
 const MAX_STEPS: u64 = 40_000;
 
-/// The connection once these statements have run on it, one behind the other. `None` is that one of them isn't run, or has begun a
+/// The connection once these statements have run on it, one after the other. `None` is that one of them isn't run, or has begun a
 /// transaction.
 pub(crate) fn led_along(
     alloc: Global,
@@ -38,7 +38,7 @@ pub(crate) fn led_along(
     Some(conn)
 }
 
-/// The connection once a statement has run on it. What the statement answers was told before.
+/// The connection once a statement has run on it. What the statement answers was reported before.
 fn ran_again(
     alloc: Global,
     base: &Image,

@@ -16,7 +16,7 @@ pub(crate) enum ConnectionAfter {
     Gone,
 }
 
-/// The connection, where nothing has changed on it.
+/// The connection, if nothing has changed on it.
 pub(crate) fn stayed(kept: Option<Kept>) -> ConnectionAfter
     ensures { (before : _) (fault : _) → IfSome kept (λ it. it.base ≡ before) → IsLeftBy before (Err fault) result }
 {
@@ -26,7 +26,7 @@ pub(crate) fn stayed(kept: Option<Kept>) -> ConnectionAfter
     }
 }
 
-/// The connection, where a statement with these pages has gone on with it; with none it is where it was.
+/// The connection, if a statement with these pages has gone on with it; with none it is where it was.
 pub(crate) fn went_on(kept: Option<Kept>, set: &PageSet) -> ConnectionAfter
     ensures { (before : _) → IfSome kept (λ it. IsLedTo before set.now it.base) → IsLeftOver before set.now result }
 {

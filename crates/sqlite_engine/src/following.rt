@@ -15,7 +15,7 @@ use crate::open_images::{OpenImage, add, has_number, take_numbered};
 use dq_base::{Image, ImageNumber};
 use std::alloc::Global;
 
-/// How often a connection follows that no statement wanted meanwhile.
+/// How many times a connection follows that no statement wanted meanwhile.
 const MAX_UNASKED: u8 = 8;
 
 /// Has the connection that stayed where this one went on from follow it to this image, and keeps it by the image's number. Gives this one.
@@ -53,7 +53,7 @@ fn follow(
     }
 }
 
-/// A connection without how it came to the newest image, which is told beside it; over another image it keeps that. Where it is alone over
+/// A connection without how it came to the newest image, which is told beside it; over another image it keeps that. If it is alone over
 /// its image the statement wants it.
 fn without_trail(
     one: OpenImage,
@@ -100,7 +100,7 @@ fn is_newest(number: ImageNumber) -> bool {
 }
 
 /// The connection that stayed where a trail begins, once it has followed the trail to this image. It is let go where it doesn't come there,
-/// as where a statement is cut short; or where no statement has wanted it for long.
+/// as where a statement is interrupted; or if no statement has wanted it for long.
 fn follower(
     alloc: Global,
     list: &mut Vec<OpenImage>,

@@ -1,4 +1,4 @@
-//! How a connection went on from one image to another, so that one that stayed behind can follow it.
+//! How a connection went on from one image to another, so that one that stayed at an older image can follow it.
 
 use dq_base::ImageNumber;
 use std::alloc::{AllocError, Global};
@@ -115,7 +115,7 @@ pub(crate) struct Past {
     pub(crate) trail: Option<ImageHistory>,
     /// Whether it follows another one, which writes.
     pub(crate) follows: bool,
-    /// How often it has followed since a statement last had nothing but it.
+    /// How many times it has followed since a statement last had nothing but it.
     pub(crate) unasked: u8,
 }
 
@@ -129,7 +129,7 @@ impl Past {
         }
     }
 
-    /// The same once the connection has gone on from the image of a number by a statement.
+    /// The past of a connection that has gone on from the image of a number by a statement.
     pub(crate) fn gone_on(
         self,
         alloc: Global,

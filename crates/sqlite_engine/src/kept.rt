@@ -130,7 +130,7 @@ impl Kept {
         names_noted(alloc, self.looking.as_slice(), text)
     }
 
-    /// Whether the text changes nothing where it shows rows, or is one with RETURNING. `None` means out of memory, or a text that
+    /// Whether the text changes nothing if it shows rows, or is one with RETURNING. `None` means out of memory, or a text that
     /// isn't understood. A text that changes nothing is noted with the names of its columns, so that it is neither prepared nor
     /// compiled for this again while the connection stays over its image.
     pub(crate) fn looks_only(
@@ -178,8 +178,8 @@ impl Kept {
             && self.base.main.as_slice() == image.main.as_slice()
     }
 
-    /// The connection once these statements have run on it, over this image, where its files hold the same database then. They do where the
-    /// main file is the same, and the log has the same frames; salts, checksums, and what lies behind the last commit may be others. `None`
+    /// The connection once these statements have run on it, over this image, if its files hold the same database then. They do where the
+    /// main file is the same, and the log has the same frames; salts, checksums, and what lies after the last commit may be others. `None`
     /// is that they differ, that a statement isn't run, or out of memory.
     pub(crate) fn led_to(self, alloc: Global, writes: &[Write], image: &Image) -> Option<Kept>
         ensures { IfSome result (λ kept. kept.base ≡ image.now) }
@@ -303,7 +303,7 @@ impl Kept {
     }
 }
 
-/// The pages that lead to what the files of a connection are now, and the connection itself, where it is in no transaction.
+/// The pages that lead to what the files of a connection are now, and the connection itself, if it is in no transaction.
 fn settled(
     alloc: Global,
     base: Image,
@@ -327,7 +327,7 @@ fn settled(
     }
 }
 
-/// The longest log with which a connection goes on. It keeps the length that its largest commit gave it, and each look at the
+/// The longest log with which a connection continues. It keeps the length that its largest commit gave it, and each look at the
 /// files goes through it; a close cuts it.
 const MAX_LOG_LENGTH: usize = 32 * PAGE_SIZE;
 
@@ -366,7 +366,7 @@ fn followed(
 }
 
 /// The connection over what its files are, to which these pages lead from the image. `None` where no memory is left to grow the
-/// image, or where the pages state a file that is longer than any may be. Its schema may be another one, so no text is known to look
+/// image, or if the pages state a file that is longer than any may be. Its schema may be another one, so no text is known to look
 /// only.
 fn moved_on(alloc: Global, base: Image, conn: BoxedConnection, set: &PageSet) -> Option<Kept>
     requires pages { set.now.pages ≡ changed base (files_beneath conn.value) }
@@ -384,7 +384,7 @@ fn moved_on(alloc: Global, base: Image, conn: BoxedConnection, set: &PageSet) ->
     }
 }
 
-/// The connection over this image, where its files hold the same database.
+/// The connection over this image, if its files hold the same database.
 fn kept_alike(alloc: Global, base: Image, conn: BoxedConnection, image: &Image) -> Option<Kept>
     requires open { IsTrue (file_state conn.value).is_open }
     requires autocommit { (file_state conn.value).in_transaction ≡ false }

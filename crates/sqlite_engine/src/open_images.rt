@@ -14,7 +14,7 @@ const MAX_OPEN: usize = 20;
 /// as many as the two longest files of an image have.
 const MAX_OPEN_BYTES: usize = 134_217_728;
 
-/// A connection, and the number that the image has which it is over, where that is known.
+/// A connection, and the number that the image has which it is over, if that is known.
 #[derive(Drop)]
 pub(crate) struct OpenImage {
     pub(crate) number: Option<ImageNumber>,
@@ -97,7 +97,7 @@ fn place_of(list: &[OpenImage], image: &Image, number: ImageNumber) -> Option<us
     }
 }
 
-/// Where in the list a connection of this number stands, one that follows no other where there is such a one.
+/// Where in the list a connection of this number stands, one that follows no other if there is one.
 fn place_numbered(list: &[OpenImage], number: ImageNumber) -> Option<usize>
     ensures { IfSome result (λ at. (at < length list.now) × ((other : _) → (slice_index_or list.now at other).number ≡ Some number)) }
 {
@@ -150,7 +150,7 @@ fn place_compared(list: &[OpenImage], image: &Image) -> Option<usize>
     None
 }
 
-/// Adds a connection. Those that were used least lately go where there is no room, and this one where memory runs out.
+/// Adds a connection. Those that were used least lately go where there is no room, and this one if memory runs out.
 pub(crate) fn add(list: &mut Vec<OpenImage>, one: OpenImage)
     ensures { All (λ it. Contains list.old.items it ⊎ (it ≡ one)) list.new.items }
 {
@@ -201,7 +201,7 @@ fn is_within(left: usize, image: &Image) -> bool
     without(left, image).is_some()
 }
 
-/// What is left of so many bytes beside those of an image.
+/// What is left of this many bytes beside those of an image.
 fn without(left: usize, image: &Image) -> Option<usize>
     ensures { IfSome result (λ rest. rest + bytes_of image.now ≡ left) }
 {

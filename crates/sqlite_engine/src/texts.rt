@@ -78,7 +78,7 @@ fn own_columns(alloc: Global, columns: &[ColumnName]) -> Result<Items<ColumnName
     Ok(Items::new(own))
 }
 
-/// Adds a text. Where there are sixteen the first of them goes, and this one where memory runs out.
+/// Adds a text. Where there are sixteen the first of them goes, and this one if memory runs out.
 fn add_text(texts: &mut Vec<LookingText>, own: LookingText)
     ensures { All (λ it. Contains texts.old.items it ⊎ (it ≡ own)) texts.new.items }
 {

@@ -1,4 +1,4 @@
--- Frames that are alike stand for the same pages.
+-- Frames that are alike represent the same pages.
 use Rattle.std.proofs.Common.{◌≡◌, ℕ, suc, zero, ◌<◌, ◌≤◌, cond, eqb, List, length, refl, sym, ap, ap₂, subst, ◌∙◌, inl, inr, arith}
 use Rattle.std.proofs.lemmas.Bool.{cases_eq}
 use Rattle.sqlite_wal.specs.Format.{page_number, content}

@@ -26,7 +26,7 @@ use Rattle.sqlite_facts.proofs.CatalogRows.{met_once}
 large : {image : Image} {db : Trees} (held : HoldsDatabase image db) → 504 ≤ held.0
 large held = let few : reserved held.0 ≤ 8 = grind arith in omega (arith, held.1.0)
 
--- what the catalog says of files that hold a database, also where the pages of the log have no sums
+-- what the catalog says of files that hold a database, also if the pages of the log have no sums
 met : {size : ℕ} {image : Image} {db : Trees} (some : 0 < size) (held : HoldsIn size image db)
     → Meets held.schema held.wanted (map unrooted (rows_at size (in_use size held.pages) Table 1)) (map (has_index_root (in_use size held.pages)) (rows_at size (in_use size held.pages) Table 1))
 unfolding resealed

@@ -1,4 +1,4 @@
--- Two logs beside one database file that stand for the same pages.
+-- Two logs beside one database file that represent the same pages.
 use Rattle.std.specs.Prelude.{◌≡◌, ℕ, ◌<◌, List, length}
 use Rattle.sqlite_wal.specs.Format.{commit_size, content}
 use Rattle.sqlite_wal.specs.Recovery.{Image, AreFramesOf, frame}

@@ -1,4 +1,4 @@
-//! Whether one database file stands for the same pages with either of two logs.
+//! Whether one database file represents the same pages with either of two logs.
 
 ghost use Rattle.std.specs.Prelude.{◌≡◌, ℕ, ◌+◌, ◌<◌, ◌≤◌, length, IsTrue, IfOk, IfSome};
 ghost use Rattle.sqlite_wal.specs.Format.{part};
@@ -11,7 +11,7 @@ use sqlite_files::{PageFile, PairDisk};
 use sqlite_wal::{PageSize, probe_frames};
 use std::alloc::{AllocError, Global};
 
-/// Whether one database file stands for the same pages with either of two logs, by the frames of the logs: up to their
+/// Whether one database file represents the same pages with either of two logs, by the frames of the logs: up to their
 /// last commit both have the same number of frames, each for the same page, with the same bytes and the same count of
 /// pages. Salts, checksums and what follows the last commit may differ. `false` also if memory runs out, and if the
 /// database file doesn't name pages of 4,096 bytes. It reads the frames of both logs, with their checksums, and copies

@@ -26,7 +26,7 @@ both main side = record { main = main; side = side }
 abbrev pub piece_of : List ℕ → ℕ → List ℕ
 piece_of file page = take 4096 (drop (page * 4096) file)
 
--- the page of which these are the first bytes, and zeros the others; none where there are no bytes
+-- the page of which these are the first bytes, and zeros the others; none if there are no bytes
 abbrev pub page_of : List ℕ → Option (List ℕ)
 page_of [] = None
 page_of (byte ∷ rest) = Some (resized 4096 (byte ∷ rest))

@@ -243,7 +243,7 @@ fn push_page(
     Ok(())
 }
 
-/// The page of these bytes, the first of it, with zeros behind them; none where there are no bytes.
+/// The page of these bytes, the first of it, with zeros after them; none if there are no bytes.
 fn page_of(bytes: &[u8]) -> Option<Page>
     requires { length bytes.now ≤ 4096 }
     ensures { result ≡ page_of bytes.now }

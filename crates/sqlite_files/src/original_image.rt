@@ -65,7 +65,7 @@ impl OriginalImage {
         }
     }
 
-    /// The page of a number, where the image has one. It is one step.
+    /// The page of a number, if the image has one. It is one step.
     pub fn page<L: Ledger>(&self, number: u64, steps: &mut PageReads<L>) -> Option<Page>
         ensures page { result ≡ page_at self.now number }
         ensures step { steps.new ≡ steps.old + 1 }

@@ -220,7 +220,7 @@ impl Disk for PageFile {
         count(outcome, &mut self.faults)
     }
 
-    /// It stamps each page that is cut or grown.
+    /// It stamps each page that is truncated or grown.
     fn set_len(&mut self, len: usize) -> io::Result<()>
         ensures len { OnOk result (length self.new.after ≡ len) }
         ensures others { Cut len self.old.after self.new.after }

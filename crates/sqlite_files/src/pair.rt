@@ -97,7 +97,7 @@ impl PairDisk {
     }
 
     /// The image after, and the set of the pages that differ from the image before, with the sizes page last; no pages
-    /// where nothing differs. Of the image before it looks only at pages that were written, cut or grown, each one step.
+    /// if nothing differs. Of the image before it looks only at pages that were written, cut or grown, each one step.
     /// It costs a comparison of each of those, a copy of those that differ, and a look at 8 bytes a page of the longer
     /// file. Fails where memory runs out.
     pub fn taken<L: Ledger>(
@@ -119,7 +119,7 @@ impl PairDisk {
         Ok((after, PageSet { tx, pages }))
     }
 
-    /// The same for a caller that counts no steps.
+    /// The image after and the change to it, for a caller that counts no steps.
     pub fn changes(self, alloc: Global, tx: u64) -> Result<(Image, PageSet), AllocError>
         ensures image { IfOk result (λ r. r.0 ≡ self.after) }
         ensures tx { IfOk result (λ r. r.1.tx ≡ tx) }

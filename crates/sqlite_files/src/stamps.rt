@@ -56,7 +56,7 @@ pub(crate) fn touch(
     Ok(())
 }
 
-/// Makes room for so many pages.
+/// Makes room for this many pages.
 fn reach(stamps: &mut Vec<u64>, pages: usize) -> Result<(), AllocError>
     ensures room { OnOk result (pages ≤ length stamps.new.items) }
     ensures same { (page : _) → stamp_at stamps.new.items page ≡ stamp_at stamps.old.items page }

@@ -3,7 +3,7 @@ ghost use Rattle.std.specs.Prelude.{◌≡◌, ◌+◌, ◌<◌};
 use std::marker::Model;
 use std::sync::ledger::{Blank, Book, Ledger, Share};
 
-/// How many pages of an image before were looked at. It takes no bytes, and only a look at such a page changes it.
+/// How many pages of an image before were looked at. It takes no bytes, and only a look at one of these pages changes it.
 #[derive(Drop)]
 pub struct PageReads<L: Ledger> {
     book: Book<L>,

@@ -10,7 +10,7 @@ use dq_base::{Image, Items, NumberedPage, PAGE_SIZE, Page, page_at};
 use std::alloc::{AllocError, Global};
 use std::sync::ledger::Ledger;
 
-/// The change from one image to another: the pages that differ, the sizes page last, and none where nothing differs.
+/// The change from one image to another: the pages that differ, the sizes page last, and none if nothing differs.
 /// The image before is looked at only at the pages that have a stamp.
 pub(crate) fn change<L: Ledger>(
     alloc: Global,
@@ -100,7 +100,7 @@ fn longer(image: &Image) -> usize
         .max(image.side.len().div_ceil(PAGE_SIZE))
 }
 
-/// Adds the page of a number where it differs. It looks at the page before only where the page was touched.
+/// Adds the page of a number where it differs. It looks at the page before only if the page was touched.
 fn push_page<L: Ledger>(
     pages: &mut Vec<NumberedPage>,
     before: &OriginalImage,
@@ -119,7 +119,7 @@ fn push_page<L: Ledger>(
     push_touched(pages, before, after, number, steps)
 }
 
-/// The same for a page that was touched. A function pays at entry for its locals, and these hold two pages.
+/// Adds a page that was touched, if it differs. A function pays at entry for its locals, and these hold two pages.
 fn push_touched<L: Ledger>(
     pages: &mut Vec<NumberedPage>,
     before: &OriginalImage,

@@ -1,4 +1,4 @@
-//! The two disks beneath an open connection of `sqlite`, which go on being its own, and what is known of them from one call to the
+//! The two disks beneath an open connection of `sqlite`, which continue being its own, and what is known of them from one call to the
 //! next.
 #![tactic(auto)]
 
@@ -30,7 +30,7 @@ pub fn log_of<K: Pin>(conn: &PinnedConn<K>) -> &PinnedFile<K>
     unsafe { &*(conn as *const PinnedConn<K> as *const PinnedFile<K>) }
 }
 
-/// The database file of an open connection. It lies behind the log.
+/// The database file of an open connection. It is stored beneath the log.
 pub fn main_of<K: Pin>(conn: &PinnedConn<K>) -> &PinnedFile<K>
     ensures { result.now ≡ (files conn.now.store).1 }
 {

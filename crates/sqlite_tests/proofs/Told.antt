@@ -1,4 +1,4 @@
--- What an engine is told of images, over its calls.
+-- What an engine learns of images, over its calls.
 use Rattle.std.proofs.Common.{ℕ, ◌+◌, List, refl, sym, subst, arith, Result}
 use Rattle.std.specs.List.{All}
 use Rattle.std.proofs.lemmas.List.Elements.{All-weaker, All-contains}
@@ -42,7 +42,7 @@ told_by_run newest commits works result old now told h = All-weaker (MayKnow new
     go k (handed e) = subst (λ (x : Known). IsTold newest commits (works + 1) x) (sym e) (omega arith, λ same. refl)
     go k (left ran o e) = subst (λ (x : Known). IsTold newest commits (works + 1) x) (sym e) (omega arith)
 
--- an image behind one more commit may be told
+-- an image after one more commit may be told
 pub may_tell : (before : Image) (commits works : ℕ) (image : Image) (known : List Known) → AreTold before commits works known → All (Knows (Newest 0 (commits + 1)) image) known
 may_tell before commits works image known told =
     All-weaker (IsTold before commits works) (Knows (Newest 0 (commits + 1)) image) (λ k h is. absurd (let few = (subst (λ (n : ImageNumber). IsNumbered before commits works k.image n) is h).0 in omega (arith, few))) known told

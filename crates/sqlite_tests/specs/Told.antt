@@ -1,4 +1,4 @@
--- What an engine is told of images.
+-- What an engine learns of images.
 use Rattle.std.specs.Prelude.{◌≡◌, ℕ, ◌<◌, ◌≤◌, List}
 use Rattle.std.specs.List.{All}
 use Rattle.dq_base.specs.declared.images.Image.{Image}
@@ -6,7 +6,7 @@ use Rattle.dq_base.specs.declared.image_number.ImageNumber.{ImageNumber}
 use Rattle.dq_base.specs.declared.image_number.ImageNumber.TheVariants.{Newest, Working}
 use Rattle.sql_engine.specs.Known.{Known}
 
--- this image has a number of a commit so far, and is the newest one where it has the number of the last; or that of a working image so far
+-- this image has a number of a commit so far, and is the newest one if it has the number of the last; or that of a working image so far
 abbrev pub IsNumbered : Image → ℕ → ℕ → Image → ImageNumber → Type 0
 IsNumbered newest commits works image (Newest place count) = (count ≤ commits) × (count ≡ commits → image ≡ newest)
 IsNumbered newest commits works image (Working number) = number < works

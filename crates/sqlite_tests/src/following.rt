@@ -26,7 +26,7 @@ fn run(
     engine.run(newest, numbers, text, &[], 1, None)
 }
 
-/// Tells an engine of the newest image behind one more commit.
+/// Informs an engine of the newest image after one more commit.
 fn tell(engine: &mut SqliteEngine, before: &Image, newest: &Image, commits: u64, works: u64)
     requires told { AreTold before.now commits works engine.old.known }
     requires small { commits < 1000 }
@@ -59,7 +59,7 @@ fn text_of(commits: u64) -> &'static str {
     }
 }
 
-/// How many rows a query counts over the newest image; none where there is no query.
+/// How many rows a query counts over the newest image; none if there is no query.
 fn counted(
     engine: &mut SqliteEngine,
     newest: &Image,
@@ -79,7 +79,7 @@ fn counted(
     }
 }
 
-/// An image behind a write.
+/// An image after a write.
 fn behind(alloc: Global, image: &Image, ran: &StatementResult) -> Result<Image, Fail> {
     let mut image = image.try_clone(alloc)?;
     if !ran.after.pages.is_empty() {
@@ -88,7 +88,7 @@ fn behind(alloc: Global, image: &Image, ran: &StatementResult) -> Result<Image, 
     Ok(image)
 }
 
-/// The newest image behind one more commit, and how many rows a query counts over the image before, while the write is on its way.
+/// The newest image after one more commit, and how many rows a query counts over the image before, while the write is on its way.
 fn commit(
     alloc: Global,
     engine: &mut SqliteEngine,
@@ -108,7 +108,7 @@ fn commit(
     Ok((image, rows))
 }
 
-/// How many rows queries count together, and how many images are opened, where a query comes beside these commits and none beside others.
+/// How many rows queries count together, and how many images are opened, if a query comes beside these commits and none beside others.
 fn beside(alloc: Global, reads: &[bool]) -> Result<(i64, u64), Fail> {
     let mut engine = SqliteEngine::new(alloc);
     let mut newest = Image::new(alloc);

@@ -1,5 +1,5 @@
-//! The tests of SQLite's engine and of the disks below it, which call both from outside. A crate with tests of its own is
-//! proved once more with them, so these stand here; apart from those of scripts, since each of the two takes memory enough.
+//! The tests of SQLite's engine and of the disks below it, which call both from outside. A crate with its own tests is
+//! proved once more with them, so these are here; apart from those of scripts, since each of the two takes memory enough.
 #![tactic(auto)]
 
 #[cfg(test)]

@@ -5,7 +5,7 @@ use std::alloc::{AllocError, Global};
 use std::test::Fail;
 use wire_words::{Value, WireText};
 
-/// The numbers of the tests' images, where the engine has forgotten all numbers.
+/// The numbers of the tests' images, if the engine has forgotten all numbers.
 const NUMBERS: ImageNumbers = ImageNumbers {
     before: ImageNumber::Working(0),
     after: 1,
@@ -23,7 +23,7 @@ fn answer<E: Engine>(
     engine.run(image, NUMBERS, text, params, tx, None)
 }
 
-/// Tells an engine that forgets all numbers of an image.
+/// Informs an engine that forgets all numbers of an image.
 fn announce<E: Engine>(engine: &mut E, image: &Image) {
     engine.forget();
     engine.ready(image, NUMBERS.before);
@@ -283,7 +283,7 @@ const JOINS: &[&str] = &[
     "INSERT INTO n SELECT 2000 + a.a FROM n a, n b, n c",
 ];
 
-/// What a join answers in at most so many steps, and how many openings were tried in all: it leaves its connection.
+/// What a join answers in at most this many steps, and how many openings were tried in all: it leaves its connection.
 fn joined(alloc: Global, text: &str, limit: u64) -> Result<(Option<EngineFault>, u64), Fail> {
     let mut database = Database::new(alloc);
     database.write("CREATE TABLE n (a INTEGER PRIMARY KEY)", &[])?;

@@ -8,7 +8,7 @@ use raft_messages::{Entry, EntryKind, Servers, SharedBytes};
 use std::alloc::{AllocError, Global};
 use std::test::Fail;
 
-/// What is told of an entry.
+/// What is reported of an entry.
 #[derive(Clone, Copy, Debug, PartialEq, Eq)]
 pub(crate) enum Told {
     Committed,
@@ -28,13 +28,13 @@ pub(crate) const ONE_VOTER: &[u8] = &[
     0,
 ];
 
-/// The same, and one byte more.
+/// One byte more than a configuration has.
 const BYTE_MORE: &[u8] = &[
     1, 0, 0, 0, 0, 0, 0, 0, 1, 0, 0, 0, 0, 0, 0, 0, 110, 0, 0, 0, 0, 0, 0, 0, 0, 0, 0, 0, 0, 0, 0,
     0, 0,
 ];
 
-/// An entry, what is told of it, and how many databases and servers there are after it and those above it, with its index.
+/// An entry, what is reported of it, and how many databases and servers there are after it and those above it, with its index.
 const ROWS: &[(EntryKind, &[u8], Told, usize, usize, u64)] = &[
     (EntryKind::Barrier, &[], Told::Unmarked, 0, 0, 1),
     (EntryKind::Barrier, OPEN_DB, Told::Unmarked, 0, 0, 2),

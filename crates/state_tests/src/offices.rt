@@ -8,7 +8,7 @@ use raft_messages::EntryKind;
 use std::alloc::{AllocError, Global};
 use std::test::Fail;
 
-/// The sizes page of a main file of so many pages.
+/// The sizes page of a main file of this many pages.
 fn sizes(pages: u16) -> Page {
     let mut bytes = [0; 4096];
     let length = u64::from(pages) * 4096;
@@ -19,7 +19,7 @@ fn sizes(pages: u16) -> Page {
     Page::from_slice(&bytes)
 }
 
-/// A set of transaction 7 of so many pages of a main file, and the sizes page.
+/// A set of transaction 7 of this many pages of a main file, and the sizes page.
 fn set_of(alloc: Global, pages: u16) -> Result<PageSet, AllocError> {
     let mut set = Vec::new(alloc);
     for k in 1..=pages {
@@ -38,7 +38,7 @@ fn set_of(alloc: Global, pages: u16) -> Result<PageSet, AllocError> {
     })
 }
 
-/// A node that has applied the first so many commands of such a set for the database `d`, one after another.
+/// A node that has applied this many commands of a set of 65 pages for the database `d`, one after another.
 fn after(alloc: Global, pages: u16, commands: usize) -> Option<Applied> {
     let mut applied = Applied::new(alloc, nobody(alloc));
     let set = set_of(alloc, pages).ok()?;
@@ -57,7 +57,7 @@ fn after(alloc: Global, pages: u16, commands: usize) -> Option<Applied> {
     Some(applied)
 }
 
-/// How many entries an office appends when an entry was applied that was none of a kind, and the phase behind it.
+/// How many entries a leadership appends when an entry was applied that was none of a kind, and the phase after it.
 fn appends(
     alloc: Global,
     office: &mut Leadership,
@@ -69,14 +69,14 @@ fn appends(
     Some((entries.len(), office.phase))
 }
 
-/// What a leader appends at its barrier, where so many commands of a set of 65 pages were applied, of which the last stands
+/// What a leader appends at its barrier, if this many commands of a set of 65 pages were applied, of which the last stands
 /// for the barrier or the one before it.
 fn at_barrier(alloc: Global, commands: usize, barrier: u64) -> Option<(usize, LeadershipPhase)> {
     let applied = after(alloc, 64, commands)?;
     appends(alloc, &mut Leadership::won(1, barrier), &applied)
 }
 
-/// Commands that were applied, the index of the barrier, how many Undos are appended, and the phase behind it.
+/// Commands that were applied, the index of the barrier, how many Undos are appended, and the phase after it.
 const BARRIERS: &[(usize, u64, usize, LeadershipPhase)] = &[
     (0, 1, 0, LeadershipPhase::Barrier(1)),
     (1, 1, 1, LeadershipPhase::Undos(2)),
@@ -117,7 +117,7 @@ fn a_leader_serves_behind_its_undos(rt: HostRuntime) -> Result<(), Fail> {
     Ok(())
 }
 
-/// How many entries a serving leader appends behind a commit of so many pages and the sizes page, where this command waits.
+/// How many entries a serving leader appends after a commit of this many pages and the sizes page, if this command waits.
 fn behind_commit(alloc: Global, pages: u16, waits: &[u8]) -> Option<usize> {
     let applied = after(alloc, pages, 16)?;
     let mut office = Leadership {

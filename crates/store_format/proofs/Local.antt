@@ -24,7 +24,7 @@ followed u n y = record { at = u.at; bytes = take n u.bytes ++ y }
 abbrev pub behind : Unread → ℕ → List ℕ → Unread
 behind u n y = record { at = u.at + n; bytes = y }
 
--- reading gave this and went on so far, and it gives the same of these bytes whatever follows them
+-- reading gave this and went on so far, and it gives the same for these bytes whatever follows them
 pub record Local {A : Type 0} (p : Unread → Result (A × Unread) WordFault) (u : Unread) (v : A) (w : Unread) : Type 0 where
   pub n : ℕ
   pub within : n ≤ length u.bytes

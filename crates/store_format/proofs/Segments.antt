@@ -1,4 +1,4 @@
--- What is read of the segments is what their files stand for.
+-- What is read of the segments is what their files represent.
 use Rattle.std.proofs.Common.{◌≡◌, inl, inr, ℕ, suc, ◌-◌, ◌≤◌, Bool, true, false, cond, not, List, [], ◌∷◌, ◌++◌, length, drop, Option, Some, None, refl, sym, ap, ◌∙◌, subst, arith, append_assoc}
 use Rattle.std.specs.Prelude.{◌&&◌, ◌||◌, ◌==◌, nat_lt, map, is_some}
 use Rattle.std.proofs.lemmas.List.{append-nil, map-append}
@@ -57,7 +57,7 @@ last_push f [] x = refl
 last_push f (y ∷ []) x = refl
 last_push f (y ∷ z ∷ xs) x = last_push f (z ∷ xs) x
 
--- the damage before a segment that comes behind others
+-- the damage before a segment that comes after others
 module _ (f : Format) (law : Lawful f) where
   at_last : (x : Numbered) → cond (is_whole f x.bytes) None (Some (x.number, good_end f x.bytes)) ≡ place_of (damage_before None (Some (last_of f x)))
   at_last x = ap (λ (b : Bool). cond b None (Some (x.number, good_end f x.bytes))) (whole_is f law x) ∙ which (reads_whole (last_of f x))

@@ -1,4 +1,4 @@
--- What is kept, where the files stand for a state, is what a node may start with.
+-- What is kept, if the files represent a state, is what a node may start with.
 use Rattle.std.proofs.Common.{◌≡◌, ℕ, suc, ◌+◌, ◌<◌, ◌≤◌, ◌-◌, Bool, true, false, cond, length, refl, sym, subst, arith}
 use Rattle.std.specs.Prelude.{◌&&◌, ◌==◌, nat_lt, is_some}
 use Rattle.std.proofs.lemmas.Bool.{cond_both, and_parts, ltb-true, ltb-false}
@@ -6,7 +6,7 @@ use Rattle.store_laws.specs.Store.{Snap, Log, Kept, Loaded, Damaged, NoMeta, Gap
 use Rattle.store_format.specs.FilesRead.{FilesRead, lacks, kept_by, judged}
 use Rattle.store_format.specs.Starts.{CanStart}
 
--- a log behind a snapshot begins at most one past it, and reaches at least that far
+-- a log after a snapshot begins at most one past it, and reaches at least that far
 abbrev Meets : Snap → Log → Type 0
 Meets s l = (l.first ≤ suc s.index) × (s.index < l.first + length l.entries)
 

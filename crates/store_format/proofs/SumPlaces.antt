@@ -17,7 +17,7 @@ behind_room b w len e =
     drop-append-le 16 (w ++ h) c (omega (arith, len, length-append w h))
     ∙ ap (λ (x : List ℕ). x ++ c) (drop-append-le 16 w h (omega (arith, len)) ∙ ap (λ (x : List ℕ). x ++ h) e)
 
--- two sums put at the front of bytes, one behind the other
+-- two sums put at the front of bytes, one after the other
 pub both_put : (k : ℕ) (a b s t old : List ℕ) → length s ≡ 8 → length a ≤ k + 8 → a ≡ s ++ drop 8 old → b ≡ t ++ drop 8 (take k (drop 8 a)) → take 8 a ++ (b ++ drop k (drop 8 a)) ≡ s ++ (t ++ drop 16 old)
 both_put k a b s t old len h ea eb =
     let few : length (drop 8 a) ≤ k = omega (arith, length-drop 8 a) in

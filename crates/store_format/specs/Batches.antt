@@ -23,7 +23,7 @@ sums_size format = sum_size format + sum_size format
 abbrev pub batch_sum : ℕ → List ℕ → List ℕ
 batch_sum format bytes = cond (format == 1) (little_bytes 4 (crc32_of bytes)) (cond (format == 2) (sum8_of bytes) (word_sum_of bytes))
 
--- what stands behind the sums: the first index, the entries, and where the header ends
+-- what follows the sums: the first index, the entries, and where the header ends
 unfoldable pub body_at : Unread → Result (Body × Unread) WordFault
 body_at left = do
   first ← word_at left
@@ -50,14 +50,14 @@ read_of format bytes (Ok x) = cond (is_sound format bytes x.0 x.1.at) (record { 
 unfoldable pub batch_in : ℕ → Reader
 batch_in format bytes = cond (nat_lt (length bytes) (sums_size format)) no_read (read_of format bytes (body_at (unread (drop (sums_size format) bytes))))
 
--- a batch as it is written, in format 3: behind the sums the numbers, the heads, and what the entries say
+-- a batch as it is written, in format 3: after the sums the numbers, the heads, and what the entries say
 unfoldable pub numbers_bytes : ℕ → ℕ → List ℕ
 numbers_bytes first count = word first ++ word count
 
 unfoldable pub header_bytes : Log → List ℕ
 header_bytes b = numbers_bytes b.first (length b.entries) ++ heads_bytes b.entries
 
--- both sums in front of a header of so many bytes and of what follows it
+-- both sums in front of a header of this many bytes and of what follows it
 unfoldable pub with_sums : ℕ → List ℕ → List ℕ
 with_sums header body = word_sum_of (take header body) ++ (word_sum_of (drop header body) ++ body)
 

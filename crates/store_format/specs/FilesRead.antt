@@ -1,4 +1,4 @@
--- What is read of all files of a node, and what they stand for by it.
+-- What is read of all files of a node, and what they represent by it.
 use Rattle.std.specs.Prelude.{◌≡◌, ◌<◌, suc, Bool, true, cond, ◌&&◌, ◌==◌, nat_lt, Option, Some, None, is_some, Result, Ok, Err}
 use Rattle.raft_messages.specs.declared.message.Snapshot.{Snapshot as SnapshotOf}
 use Rattle.store_laws.specs.Store.{Meta, Snap, no_meta, no_snap, newest, Kept, Outcome, Loaded, Damaged, NoMeta, Gap, behind}
@@ -36,7 +36,7 @@ with_meta m r = record { meta = newest r.meta m; snap = r.snap; segments = r.seg
 abbrev pub with_snap : Snap → FilesRead → FilesRead
 with_snap s r = record { meta = r.meta; snap = newer_snap s r.snap; segments = r.segments }
 
--- some batch or snapshot stands without metadata
+-- some batch or snapshot is without metadata
 abbrev pub lacks : FilesRead → Bool
 lacks r = (r.meta.stamp == 0) && cond r.segments.any true (nat_lt 0 r.snap.index)
 
@@ -63,7 +63,7 @@ HasPlaceOf fault.NoMeta damage = Unit {0}
 HasPlaceOf (fault.Damaged d) damage = damage ≡ Some d
 HasPlaceOf (fault.Gap first last) damage = Unit {0}
 
--- The files stand for a state, or a fault says why they don't, and where.
+-- The files represent a state, or a fault says why they don't, and where.
 abbrev pub Judges : FilesRead → Result Unit FilesFault → Type 0
 Judges r (Ok x) = judged r ≡ Loaded (kept_by r)
 Judges r (Err f) = (judged r ≡ fault_outcome f) × HasPlaceOf f r.segments.damage

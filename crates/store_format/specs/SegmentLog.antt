@@ -61,7 +61,7 @@ last_in f [] = None
 last_in f (x ∷ []) = Some (last_of f x)
 last_in f (x ∷ y ∷ rest) = last_in f (y ∷ rest)
 
--- what is read of all segments below a number is what their files stand for
+-- what is read of all segments below a number is what their files represent
 pub record IsRead (f : Format) (top : ℕ) (g : NodeFiles) (s : SegmentsRead) : Type 0 where
   pub log : s.log ≡ file_log f top g
   pub any : s.any ≡ has_any (all_batches f (segments top g))

@@ -16,7 +16,7 @@ size_in x = word_from 24 x
 abbrev pub summed : List ℕ → List ℕ
 summed x = take 24 (drop 8 x) ++ take (size_in x) (drop 40 x)
 
--- so many bytes, and zeros behind them to a whole word, and no more
+-- this many bytes, and zeros after them to a whole word, and no more
 abbrev pub fills : ℕ → List ℕ → Bool
 fills size body = (length body == size + gap size) && are_zeros size (gap size) body
 

@@ -3,7 +3,7 @@ use Rattle.std.specs.Prelude.{ℕ, Bool, ◌&&◌, ◌||◌, ◌==◌, cond, nat
 use Rattle.byteorder.specs.Endian.{little_number}
 use Rattle.wire_words.specs.Items.{word}
 
--- the word from a place on; 0 stands for each byte past the end
+-- the word from a place on; 0 represents each byte past the end
 abbrev pub word_from : ℕ → List ℕ → ℕ
 word_from k bytes = little_number 8 (drop k bytes)
 

@@ -13,7 +13,7 @@ use raft_messages::{Entries, read_entry_contents, read_entry_heads};
 use std::alloc::{AllocError, Global};
 use wire_words::{WordFault, Words};
 
-/// What stands behind the sums of a batch.
+/// What follows the sums of a batch.
 #[derive(Drop)]
 pub struct Body {
     /// The index of the first entry.
@@ -101,7 +101,7 @@ fn is_sound(format: u64, bytes: &[u8], body: &Body, end: usize) -> bool
     has_sum(format, header, first_sum) && has_sum(format, contents, second_sum) && body.first > 0
 }
 
-/// The batch that bytes begin with, in a format (1, 2 or 3), and none where no batch reads: where the sums don't match, an
+/// The batch that bytes begin with, in a format (1, 2 or 3), and none if no batch reads: if the sums don't match, an
 /// item isn't there or is wrong, or the first index is 0. Each byte is copied once, into its entry.
 #[tactic(auto, using(crate::proofs::Local::header_first, crate::proofs::Local::body_ends), unfolding(crate::specs::Batches::batch_in))]
 pub fn read_batch(

@@ -25,7 +25,7 @@ fn room_for(entries: &[Entry]) -> usize
     room
 }
 
-// A writer with two words in place of the sums, and the numbers behind them.
+// A writer with two words in place of the sums, and the numbers after them.
 #[tactic(auto, unfolding(crate::specs::Batches::numbers_bytes))]
 fn begun(alloc: Global, room: usize, first: u64, count: u64) -> Result<Writer, AllocError>
     ensures numbers { IfOk result (λ out. drop 16 out ≡ numbers_bytes first count) }
@@ -65,7 +65,7 @@ fn put_both(bytes: &mut [u8], first: &[u8; 8], second: &[u8; 8])
     put_sum(&mut bytes[8..], second);
 }
 
-// The sums of a header of so many bytes and of what follows it.
+// The sums of a header of this many bytes and of what follows it.
 fn sums_of(body: &[u8], header: usize) -> ([u8; 8], [u8; 8])
     requires { header ≤ length body.now }
     ensures first { result.0 ≡ word_sum_of (take header body.now) }
@@ -75,7 +75,7 @@ fn sums_of(body: &[u8], header: usize) -> ([u8; 8], [u8; 8])
     (word_sum(header), word_sum(contents))
 }
 
-// Puts the sums of a batch of so many entries into the words that were left for them.
+// Puts the sums of a batch of this many entries into the words that were left for them.
 #[tactic(auto, unfolding(crate::specs::Batches::with_sums))]
 fn put_sums(bytes: &mut [u8], count: usize)
     requires { 32 + 16 * count ≤ length bytes.old }

@@ -1,10 +1,10 @@
 use crate::segment_log::Damage;
 use thiserror::Error;
 
-/// Why the files of a node stand for no state. Of several causes the first one here that holds is answered.
+/// Why the files of a node represent no state. Of several causes the first one here that holds is answered.
 #[derive(Clone, Copy, Debug, PartialEq, Eq, Error)]
 pub enum FilesFault {
-    /// A batch or a snapshot stands without valid metadata.
+    /// A batch or a snapshot is without valid metadata.
     #[error("a batch or a snapshot stands without metadata")]
     NoMeta,
     /// A segment that isn't the last one doesn't read to its end.

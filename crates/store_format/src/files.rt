@@ -70,7 +70,7 @@ fn term_of(snapshot: &Option<Snapshot>) -> u64
     }
 }
 
-// The term of the snapshot in the file of a number, and how many bytes its state has, where it is whole and newer than
+// The term of the snapshot in the file of a number, and how many bytes its state has, if it is whole and newer than
 // the one of an index.
 fn newer_in(number: u64, index: u64, file: &[u8]) -> Option<(u64, usize)>
     ensures { IsNewer number index file.now result }
@@ -114,7 +114,7 @@ impl FilesRead {
         self.metadata = newest(self.metadata, read_metadata(first, bytes));
     }
 
-    /// The bytes of the snapshot's file of a number. Where the snapshot is whole and the newest so far its state stays in
+    /// The bytes of the snapshot's file of a number. If the snapshot is whole and the newest so far its state stays in
     /// their memory, and none is copied into another one.
     pub fn add_snapshot(&mut self, number: u64, file: Vec<u8>) -> Result<(), AllocError>
         requires { number < 10000000000000000 }
@@ -184,7 +184,7 @@ impl FilesRead {
         self.segments.log().first()
     }
 
-    /// The first index of the log, where it has an entry at the snapshot's index that is of another term.
+    /// The first index of the log, if it has an entry at the snapshot's index that is of another term.
     pub fn stale_from(&self) -> Option<u64>
         ensures first { result ≡ cond (is_stale self.now.snap self.now.segments.log) (Some self.now.segments.log.first) None }
         ensures fits { self.now.segments.log.first < 2 ^ 64 }
@@ -193,14 +193,14 @@ impl FilesRead {
         if self.is_stale() { Some(first) } else { None }
     }
 
-    // Whether some batch or snapshot stands without metadata.
+    // Whether some batch or snapshot is without metadata.
     fn lacks_metadata(&self) -> bool
         ensures { result ≡ lacks self.now }
     {
         self.metadata.is_none() && (self.segments.has_batches() || index_of(&self.snapshot) > 0)
     }
 
-    // The first index of the log, where entries are missing before it.
+    // The first index of the log, if entries are missing before it.
     fn gap(&self) -> Option<u64>
         ensures { result ≡ cond (nat_lt (suc self.now.snap.index) self.now.segments.log.first) (Some self.now.segments.log.first) None }
     {
@@ -212,7 +212,7 @@ impl FilesRead {
         }
     }
 
-    /// Whether the files stand for a state, and else why not.
+    /// Whether the files represent a state, and else why not.
     #[tactic(auto, unfolding(crate::specs::FilesRead::judged))]
     pub fn check(&self) -> Result<(), FilesFault>
         ensures { Judges self.now result }
@@ -229,7 +229,7 @@ impl FilesRead {
         }
     }
 
-    // What is kept, whether or not the files stand for it.
+    // What is kept, whether or not the files represent it.
     fn into_unjudged(self) -> Kept
         ensures is { result ≡ kept_by self }
         ensures begins { 0 < result.log.first }
@@ -250,7 +250,7 @@ impl FilesRead {
         }
     }
 
-    /// What is kept, where the files stand for a state: a node may start with it then. No entry is copied.
+    /// What is kept, if the files represent a state: a node may start with it then. No entry is copied.
     pub fn into_kept(self) -> Kept
         ensures is { result ≡ kept_by self }
         ensures starts { judged self ≡ Loaded (kept_by self) → CanStart result }

@@ -10,7 +10,7 @@ pub struct Kept {
     pub vote: u64,
     /// The newest snapshot; its index is at least 1.
     pub snapshot: Option<Snapshot>,
-    /// The index of the first entry: where there is none, that of the snapshot plus 1, or 1 without a snapshot.
+    /// The index of the first entry: without one, that of the snapshot plus 1, or 1 without a snapshot.
     pub first: u64,
     /// The entries of the log from there on.
     pub entries: Entries,

@@ -1,5 +1,5 @@
-//! How the files of a node are spelled, in each of their formats: their sums, metadata, snapshots and batches; and what the files
-//! stand for, read one after another.
+//! How the files of a node are encoded, in each of their formats: their sums, metadata, snapshots and batches; and what the files
+//! represent, read one after another.
 #![tactic(auto)]
 
 mod batch_reading;
@@ -67,12 +67,12 @@ pub fn is_lawful()
     ensures { IsLawful }
 {}
 
-/// A batch that is written reads as it, behind the first word of a segment.
+/// A batch that is written reads as it, after the first word of a segment.
 pub fn batches_read_back()
     ensures { BatchesReadBack }
 {}
 
-/// What is read of segments, in turn, is what their files stand for: the log, the first damage with its place, and the
+/// What is read of segments, in turn, is what their files represent: the log, the first damage with its place, and the
 /// last one.
 pub fn segments_are_read()
     ensures { SegmentsAreRead }

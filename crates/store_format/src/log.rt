@@ -58,7 +58,7 @@ impl BatchLog {
         self.entries.len() as u64
     }
 
-    // Whether an index lies in the log or right behind it.
+    // Whether an index lies in the log or right after it.
     fn reaches(&self, index: u64) -> bool
         ensures { result ≡ (nat_le self.now.first index && nat_le index (self.now.first + length self.now.entries)) }
     {
@@ -83,7 +83,7 @@ impl BatchLog {
         self.entries = entries;
     }
 
-    /// One batch more: it replaces the log from its first index on, where that lies in the log or right behind it, and
+    /// One batch more: it replaces the log from its first index on, if that lies in the log or right after it, and
     /// else becomes the whole log. No entry is copied. `Err` means out of memory, after which nothing is said of the
     /// log.
     #[tactic(auto, unfolding(store_laws::specs::Store::put_batch))]
@@ -131,7 +131,7 @@ impl BatchLog {
         self.first() <= index && self.has(index) && self.term_at(index) != term
     }
 
-    /// The log behind a snapshot: without all entries, where it has none of the snapshot's term at its index and begins
+    /// The log after a snapshot: without all entries, where it has none of the snapshot's term at its index and begins
     /// there or before.
     #[tactic(auto, unfolding(store_laws::specs::Store::behind))]
     pub fn behind(self, index: u64, term: u64) -> BatchLog

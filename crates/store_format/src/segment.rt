@@ -1,4 +1,4 @@
-// One segment: its first word, and its batches one behind the other.
+// One segment: its first word, and its batches one after the other.
 ghost use Rattle.std.specs.Prelude.{◌≡◌, ◌≤◌, ◌<◌, ◌+◌, length, MatchOption, IfOk};
 ghost use Rattle.store_format.specs.Batches.{batch_in};
 ghost use Rattle.store_format.specs.NodeFormat.{node_format};
@@ -39,7 +39,7 @@ fn take_batch(
     }
 }
 
-// Takes the batches behind the first word into the log, and answers where the first place is at which none reads.
+// Takes the batches after the first word into the log, and answers where the first place is at which none reads.
 fn take_batches(
     alloc: Global,
     format: u64,
@@ -55,7 +55,7 @@ fn take_batches(
 }
 
 /// Takes the batches of a segment into the log, and answers how far it reads: to the end of its whole batches, and not at
-/// all where its first word says no format.
+/// all if its first word says no format.
 pub fn take_segment(alloc: Global, bytes: &[u8], log: &mut BatchLog) -> Result<usize, AllocError>
     ensures { IfOk result (λ good. InLog node_format bytes.now log.old log.new good) }
 {

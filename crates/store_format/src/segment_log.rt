@@ -23,7 +23,7 @@ pub struct LastSegment {
     pub number: u64,
     /// How many bytes it has.
     pub size: u64,
-    /// How many of them read: those up to the end of its whole batches, and none where its first word says no format.
+    /// How many of them read: those up to the end of its whole batches, and none if its first word says no format.
     pub good: u64,
 }
 

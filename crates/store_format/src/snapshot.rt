@@ -11,7 +11,7 @@ use wire_words::{Words, Writer};
 /// What the file of a snapshot says. The bytes are borrowed from the file.
 #[derive(Clone, Copy, Debug, PartialEq, Eq)]
 pub struct SnapshotFile<'a> {
-    /// The index of the last entry that it stands for, at least 1.
+    /// The index of the last entry that it represents, at least 1.
     pub index: u64,
     /// The term of that entry.
     pub term: u64,
@@ -31,7 +31,7 @@ fn head_fits(number: u64, bytes: &[u8]) -> bool
     is_known(word_from(bytes, 0)) && word_from(bytes, 8) == number
 }
 
-// So many bytes, where they and zeros to a whole word are all that there is.
+// This many bytes, if they and zeros to a whole word are all that there is.
 #[tactic(auto, unfolding(wire_words::specs::Reading::raw_at))]
 fn content(body: &[u8], size: u64) -> Option<&[u8]>
     ensures { MatchOption result (fills size body.now ≡ false) (λ content. (fills size body.now ≡ true) × (content.now ≡ take size body.now)) }
@@ -47,7 +47,7 @@ fn content(body: &[u8], size: u64) -> Option<&[u8]>
     }
 }
 
-// The numbers behind the format, the sum, and what follows.
+// The numbers after the format, the sum, and what follows.
 #[tactic(auto, using(crate::proofs::Places::behind_numbers))]
 fn parts(bytes: &[u8]) -> (&[u8], &[u8], &[u8])
     requires { 40 ≤ length bytes.now }
@@ -62,7 +62,7 @@ fn parts(bytes: &[u8]) -> (&[u8], &[u8], &[u8])
     (numbers, sum, body)
 }
 
-// What stands behind a fitting head, where the rest of the file fits too.
+// What follows a fitting head, if the rest of the file fits too.
 #[tactic(auto, unfolding(crate::specs::Snapshots::is_snapshot))]
 fn whole_content(number: u64, bytes: &[u8]) -> Option<&[u8]>
     requires long { 40 ≤ length bytes.now }
@@ -76,7 +76,7 @@ fn whole_content(number: u64, bytes: &[u8]) -> Option<&[u8]>
 }
 
 /// What the bytes of the file of this number say. The file is whole with a known format, the number as its index, its
-/// size in bytes, zeros behind them to a whole word and nothing more, and a matching sum of index, term, size and bytes.
+/// size in bytes, zeros after them to a whole word and nothing more, and a matching sum of index, term, size and bytes.
 #[tactic(auto, unfolding(crate::specs::Snapshots::snap_of, crate::specs::Snapshots::is_snapshot))]
 pub fn read_snapshot(number: u64, bytes: &[u8]) -> Option<SnapshotFile<'_>>
     ensures found { snap_of_found result ≡ snap_of number bytes.now }
@@ -93,7 +93,7 @@ pub fn read_snapshot(number: u64, bytes: &[u8]) -> Option<SnapshotFile<'_>>
     })
 }
 
-/// What stands before a snapshot's bytes in its file, in format 3: 40 bytes, with the sum. The bytes themselves aren't
+/// What is before a snapshot's bytes in its file, in format 3: 40 bytes, with the sum. The bytes themselves aren't
 /// copied.
 pub fn snapshot_head(
     alloc: Global,
@@ -114,7 +114,7 @@ pub fn snapshot_head(
 
 const ZEROS: &[u8] = &[0; 8];
 
-/// What stands behind a snapshot's bytes in its file: zeros to a whole word.
+/// What follows a snapshot's bytes in its file: zeros to a whole word.
 pub fn snapshot_tail(bytes: &[u8]) -> &'static [u8]
     ensures { result.now ≡ zeros_after (length bytes.now) }
 {

@@ -91,7 +91,7 @@ pub(crate) fn sum8_of_both(front: &[u8], back: &[u8]) -> [u8; 8]
     sum
 }
 
-/// The sum of a format, as the eight bytes that stand in a file: in format 1 the CRC-32 as a number of 64 bits.
+/// The sum of a format, as the eight bytes that are in a file: in format 1 the CRC-32 as a number of 64 bits.
 fn sum_of(format: u64, bytes: &[u8]) -> [u8; 8]
     ensures { result ≡ sum_bytes format bytes.now }
 {

@@ -24,7 +24,7 @@ pub meta_same : (f : Format) (g r : NodeFiles) → g First ≡ r First → g Sec
 unfolding meta_of
 meta_same f g r a b = λ i. meta_of f (λ n. elim n [ First ↦ a i | Second ↦ b i | Segment k ↦ g (Segment k) | Snapshot k ↦ g (Snapshot k) ])
 
--- a folder at rest stands for the same after any crash
+-- a folder at rest represents the same after any crash
 pub settled_images : (f : Format) (top : ℕ) (d : NodeDisk) → Settled f top d → (g : NodeFiles) → Leaves d g → kept f top g ≡ kept f top d.read
 settled_images f top d s g left =
     kept_same f top g d.read

@@ -1,4 +1,4 @@
--- What the whole folder stands for, once it is known what the segment that grows reads as.
+-- What the whole folder represents, once it is known what the segment that grows reads as.
 use Rattle.std.proofs.Common.{◌≡◌, ◌≢◌, inl, inr, ℕ, suc, ◌≤◌, ◌<◌, true, List, [], ◌∷◌, ◌++◌, refl, sym, ap, ◌∙◌, subst, arith, append_assoc}
 use Rattle.store_laws.specs.Names.{Name, First, Second, Segment, Snapshot, NodeFiles, NodeDisk}
 use Rattle.disk_model.specs.Disk.{Found, LeavesFile, Leaves}

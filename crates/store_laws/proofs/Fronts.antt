@@ -21,7 +21,7 @@ empty_is (y ∷ ys) h = absurd (omega arith)
 pub size_nil : (rd : Reader) → LawfulReader rd → (rd []).size ≡ 0
 size_nil rd law = let h : (rd []).size ≤ 0 = law.size_within [] in omega arith
 
--- one step, where no batch reads, and where one does
+-- one step, if no batch reads, and if one does
 pub stop_batches : (rd : Reader) (n : ℕ) (ys : List ℕ) → (rd ys).size ≡ 0 → batches rd n ys ≡ []
 unfolding batches
 stop_batches rd zero ys z = refl
@@ -66,7 +66,7 @@ module _ (rd : Reader) (law : LawfulReader rd) where
       let t : take (rd x).size x ≡ x = take_all _ x (omega arith) in
       ap (λ (z : List ℕ). rd (z ++ y)) (sym t) ∙ law.front_reads x y (λ z. absurd (omega arith)) ∙ p
 
-  -- batches behind whole ones
+  -- batches after whole ones
   pub whole_batches : (xs : List ℕ) (bs : List Log) → Whole rd xs bs → (ys : List ℕ) (n : ℕ) → length (xs ++ ys) ≤ n → batches rd n (xs ++ ys) ≡ bs ++ batches rd (length ys) ys
   whole_batches _ _ done ys n h = fuel_batches n (length ys) ys h (omega arith)
   whole_batches _ _ (more x rest b bs p pos w) ys zero h = absurd (omega (arith, length-append (x ++ rest) ys, length-append x rest))

@@ -1,4 +1,4 @@
--- A whole segment, and what may stand behind it.
+-- A whole segment, and what may follow it.
 use Rattle.std.proofs.Common.{◌≡◌, ◌≢◌, ◌⊎◌, inl, inr, ℕ, zero, suc, ◌≤◌, ◌<◌, true, List, [], ◌∷◌, ◌++◌, length, take, drop, refl, sym, ap, ◌∙◌, subst, arith, append_assoc, length-append, length-drop}
 use Rattle.std.specs.Prelude.{◌&&◌, nat_lt}
 use Rattle.std.proofs.lemmas.List.{take_all, drop_all, append-nil, take-append-drop, drop-append-le}
@@ -37,7 +37,7 @@ module _ (rd : Reader) (law : LawfulReader rd) where
       let w = whole_batches rd law enc (b ∷ []) (single enc b p pos) [] (length enc) (omega (arith, length-append enc [])) in
       ap (batches rd (length enc)) (sym (append-nil enc)) ∙ w ∙ ap (λ (l : List Log). b ∷ l) (stop_batches rd 0 [] (size_nil rd law))
 
-  -- a torn batch doesn't read, or stands there whole
+  -- a torn batch doesn't read, or is there whole
   pub torn_or_whole : (enc : List ℕ) (b : Log) → IsPiece rd enc b → 0 < length enc → (r : List ℕ) → length r ≤ length enc
       → ((rd r).size ≢ 0 → take (rd r).size enc ≡ take (rd r).size r) → (batches rd (length r) r ≡ []) ⊎ (r ≡ enc)
   torn_or_whole enc b p pos r short fair = elim (cases_eq (rd r).size 0) [
@@ -76,7 +76,7 @@ module _ (f : Format) (law : Lawful f) (H : List ℕ) (whole : is_whole f H ≡ 
   pub same_version : (r : List ℕ) → f.version (H ++ r) ≡ f.version H
   same_version r = law.version_front H r long
 
-  -- what stands behind it is read as it stands alone
+  -- what follows it is read as it is alone
   pub grown : (r : List ℕ) → batches_in f (H ++ r) ≡ batches_in f H ++ batches (reader f H) (length r) r
   unfolding batches_in
   grown r =

@@ -1,4 +1,4 @@
--- A snapshot's file is written: the state before, or the new snapshot with the log behind it.
+-- A snapshot's file is written: the state before, or the new snapshot with the log after it.
 use Rattle.std.proofs.Common.{◌≡◌, ◌≢◌, ◌⊎◌, inl, inr, ℕ, suc, ◌≤◌, ◌<◌, true, List, [], ◌++◌, length, drop, take, sym, ap, ◌∙◌, subst, arith}
 use Rattle.std.proofs.lemmas.List.{take-append-drop, append-nil}
 use Rattle.std.proofs.lemmas.Bool.{cases_eq}
@@ -26,7 +26,7 @@ module _ (f : Format) (law : Lawful f) (k : ℕ) (d : NodeDisk) (sd : Settled f 
   abbrev t : Snap
   t = snap_in f d.read
 
-  -- what the files stand for with the new snapshot and the old batches
+  -- what the files represent with the new snapshot and the old batches
   abbrev pub behind_it : Kept
   behind_it = record { term = (meta_of f d.read).term; vote = (meta_of f d.read).vote; snap = s; log = behind s L }
 

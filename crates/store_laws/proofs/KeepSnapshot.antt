@@ -34,7 +34,7 @@ same_removals r q a (suc n) same =
     let here : r (Segment a) ≡ q (Segment a) = same a (omega arith) in
     λ i. cond (here i).there (Remove (Segment a) ∷ SyncNames ∷ rest i) (rest i)
 
--- the log that stays is kept behind the new snapshot
+-- the log that stays is kept after the new snapshot
 stays_behind : (s : Snap) (old new : Log) → Stays s old new → behind s new ≡ new
 stays_behind s old new (part e o keep) = keep
 stays_behind s old new (nothing e n) = behind_past s new (omega (arith, ap (λ (l : Log). l.first) n))
@@ -72,7 +72,7 @@ module _ (f : Format) (law : Lawful f) (k : ℕ) (d : NodeDisk) (sd : Settled f 
   batch_left : Left s (behind t L) new newer
   batch_left = with_batch_left t s past L new sd.steady stays (put_batch L new) (put_longer L new) (longer_refl (put_batch L new))
 
-  -- the new segment, behind the file
+  -- the new segment, after the file
   module _ (e1 : NodeDisk) (z : SnapEnded (Snapshot s.index) enc d e1) where
     still1 : Still f k e1
     still1 = file_still f law k d sd gap stamp s enc past within reads e1 z
@@ -111,7 +111,7 @@ module _ (f : Format) (law : Lawful f) (k : ℕ) (d : NodeDisk) (sd : Settled f 
       | inr q ↦ record { log = newer; kept_is = q; longer = with_batch; left = batch_left }
     ]
 
-    -- older segments, behind the batch
+    -- older segments, after the batch
     module _ (e2 : NodeDisk) (grew : Grew f k e1 e2 new (with_log newer K1)) where
       snaps2 : snap_in f e2.read ≡ s
       snaps2 = grew.snaps ∙ snaps1

@@ -42,7 +42,7 @@ module _ (f : Format) (law : Lawful f) (top : ℕ) (d : NodeDisk) (s : Settled f
   abbrev Reads : Bool → Type 0
   Reads side = f.meta side enc ≡ record { stamp = next_stamp (meta_of f d.read); term = term; vote = vote }
 
-  -- what the whole folder stands for, once it is known what its metadata is
+  -- what the whole folder represents, once it is known what its metadata is
   whole : (n : Name) (e : NodeDisk) (g : NodeFiles) → ((j : ℕ) → Segment j ≡ n → ⊥) → ((j : ℕ) → Snapshot j ≡ n → ⊥) → Elsewhere n d e → ((m : Name) → (m ≡ n → ⊥) → LeavesFile (e.held m) (g m))
       → (meta_of f g ≡ meta_of f d.read) ⊎ (meta_of f g ≡ record { stamp = next_stamp (meta_of f d.read); term = term; vote = vote }) → OneOf f top k (with_vote term vote k) g
   whole n e g no_seg no_snap so left two =

@@ -1,4 +1,4 @@
--- The newer of two metadata, where one may be torn or new.
+-- The newer of two metadata, if one may be torn or new.
 use Rattle.std.proofs.Common.{◌≡◌, ◌≢◌, ◌⊎◌, inl, inr, ℕ, suc, ◌%◌, ◌≤◌, ◌<◌, sym, ap, ◌∙◌, arith}
 use Rattle.std.specs.Prelude.{◌==◌, nat_lt}
 use Rattle.std.proofs.lemmas.Bool.{cases_Bool, cond-true, cond-false, cases_eq, cases_lt, eqb-true, eqb-false, ltb-true, ltb-false}

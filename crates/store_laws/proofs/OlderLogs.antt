@@ -1,4 +1,4 @@
--- What the folder stands for while older segments go.
+-- What the folder represents while older segments go.
 use Rattle.std.proofs.Common.{◌≡◌, inl, inr, ℕ, zero, suc, ◌≤◌, true, false, List, [], ◌∷◌, ◌++◌, refl, sym, ap, ◌∙◌, subst, arith, append_assoc}
 use Rattle.std.proofs.lemmas.List.{append-nil}
 use Rattle.std.proofs.lemmas.Bool.{cases_lt}
@@ -53,7 +53,7 @@ cancel (x ∷ xs) ys zs e = cancel xs ys zs (let q : xs ++ ys ≡ xs ++ zs = cc 
 pub none_left : (f : Format) (r : NodeFiles) (k : ℕ) → all_batches f (segments k (tail_of r k)) ≡ []
 none_left f r k = ap (all_batches f) (none_low r k k (omega arith)) ∙ all_nil f
 
--- the new batch stands alone in segment k, and behind what is left
+-- the new batch is alone in segment k, and after what is left
 pub tail_batches : (f : Format) (k : ℕ) (d : NodeDisk) (new : Log) → all_batches f (segments (suc k) d.read) ≡ all_batches f (segments k d.read) ++ new ∷ [] → (m : ℕ) → m ≤ k
     → all_batches f (segments (suc k) (tail_of d.read m)) ≡ all_batches f (segments k (tail_of d.read m)) ++ new ∷ []
 tail_batches f k d new last m h =

@@ -1,4 +1,4 @@
--- Older snapshots go, and the files stand for the same.
+-- Older snapshots go, and the files represent the same.
 use Rattle.std.proofs.Common.{◌≡◌, inl, inr, ℕ, ◌≤◌, ◌<◌, true, List, [], ◌∷◌, refl, sym, ap, ◌∙◌, subst, cond, arith}
 use Rattle.std.proofs.lemmas.Bool.{cases_Bool, cases_eq, cond-true, cond-false}
 use Rattle.disk_model.specs.Disk.{Found, missing, Held, LeavesFile}

@@ -1,4 +1,4 @@
--- A torn tail is cut off, a segment without its first word removed.
+-- A torn tail is truncated, a segment without its first word removed.
 use Rattle.std.proofs.Common.{◌≡◌, ◌≢◌, inl, inr, ⊎_elim, ℕ, ◌≤◌, ◌<◌, true, false, List, [], ◌∷◌, ◌++◌, length, take, drop, refl, sym, ap, ◌∙◌, subst, arith, cond, length-append}
 use Rattle.std.specs.Prelude.{nat_le, ◌||◌}
 use Rattle.std.proofs.lemmas.List.{take_at, drop_at, take-append-drop, append-nil, length-take-le}
@@ -79,7 +79,7 @@ module _ (f : Format) (law : Lawful f) (k : ℕ) (d : NodeDisk) (s : Still f k d
     | inr (inr (m, (c, inr (inr (p, (y, q)))))) ↦ let z = both m p c y in to p e q (record { elsewhere = z.elsewhere; stage = synced z.held })
   ]
 
-  -- what stands behind the whole batches doesn't read, whatever a crash left there
+  -- what follows the whole batches doesn't read, whatever a crash left there
   as_before : (r : List ℕ) → (reader f H r).size ≡ 0 → batches_in f (H ++ r) ≡ batches_in f H
   as_before r z = grown f law H is_w r ∙ ap (λ (l : List Log). batches_in f H ++ l) (stop_batches (reader f H) (length r) r z) ∙ append-nil (batches_in f H)
 

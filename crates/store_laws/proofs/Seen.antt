@@ -1,4 +1,4 @@
--- What is read while a call goes on is what a crash may leave.
+-- What is read while a call continues is what a crash may leave.
 use Rattle.std.proofs.Common.{◌≡◌, inl, inr, ℕ, zero, suc, ◌+◌, ◌≤◌, Bool, true, false, cond, List, [], ◌∷◌, ◌++◌, length, take, drop, refl, sym, ap, ◌∙◌, subst, arith, length-append}
 use Rattle.std.proofs.lemmas.Bool.{cases_Bool, cond-true, cond-false}
 use Rattle.disk_model.specs.Disk.{Found, found, missing, Held, LeavesFile, Leaves}
@@ -188,7 +188,7 @@ pub sync_allowed : (ns : List Name) (d : NodeDisk) → Allowed (sync_all ns) d
 sync_allowed [] d = λ m did. tt
 sync_allowed (n ∷ ns) d = λ m did. sync_allowed ns m
 
--- ---- behind a settled disk
+-- ---- after a settled disk
 
 pub all_seen : (f : Format) (top : ℕ) (d : NodeDisk) → Settled f top d → AllSeen d
 all_seen f top d s = record { each = each }

@@ -33,7 +33,7 @@ module _ (snap : ℕ → List ℕ → Snap) (number : (j : ℕ) (x : List ℕ) �
         omega arith
   ]
 
-  -- what stands below the newest one doesn't count
+  -- what is below the newest one doesn't count
   pub same_newest : (bound : ℕ) (files more : ℕ → Found) → ((n : ℕ) → (newest_snap snap bound files).index ≤ n → n < bound → snap n (more n).bytes ≡ snap n (files n).bytes) → newest_snap snap bound more ≡ newest_snap snap bound files
   unfolding newest_snap
   same_newest zero files more same = refl
@@ -76,7 +76,7 @@ module _ (snap : ℕ → List ℕ → Snap) (number : (j : ℕ) (x : List ℕ) �
         absurd (omega arith)
   ]
 
--- the newest one and what stands above it are at rest: each crash leaves the same newest one
+-- the newest one and what is above it are at rest: each crash leaves the same newest one
 pub snap_images : (f : Format) → Lawful f → (d : NodeDisk) → ((k : ℕ) → (snap_in f d.read).index ≤ k → Rest (d.held (Snapshot k)) (d.read (Snapshot k)))
     → (g : NodeFiles) → ((k : ℕ) → LeavesFile (d.held (Snapshot k)) (g (Snapshot k))) → snap_in f g ≡ snap_in f d.read
 snap_images f law d rest g left =

@@ -37,7 +37,7 @@ module _ (t s : Snap) (lt : t.index < s.index) (L new : Log) (steady : Steady t 
     | nothing e n ↦ given (same_behind ∙ e ∙ sym n)
   ]
 
-  -- where the new log begins past the snapshot, its entry is the old log's
+  -- if the new log begins past the snapshot, its entry is the old log's
   old_term : behind s (behind t L) ≡ behind t L → Longer (behind t L) new → s.index < new.first → (F : Log) → F ≡ put_batch L new → F.first ≤ s.index → (nth_term F.entries (s.index - F.first) == s.term) ≡ true
   old_term e o past F is low = elim steady [
     | ends_before h ↦
@@ -59,7 +59,7 @@ module _ (t s : Snap) (lt : t.index < s.index) (L new : Log) (steady : Steady t 
         ∙ why.1
   ]
 
-  -- a kept log that stays behind the snapshot is that of the files
+  -- a kept log that stays after the snapshot is that of the files
   fit : behind s (behind t L) ≡ behind t L → behind t L ≡ L
   fit e = elim steady [
     | fits k ↦ k
@@ -81,7 +81,7 @@ module _ (t s : Snap) (lt : t.index < s.index) (L new : Log) (steady : Steady t 
       | inr low ↦ ap (λ (x : ℕ). x == s.term) (sym (nth_longer M new o s.index low)) ∙ (kept_why s new low keep).1
     ]
 
-    -- where a part of the kept log stays, so does all that is left
+    -- if a part of the kept log stays, so does all that is left
     part_stands : behind s (behind t L) ≡ behind t L → Longer (behind t L) new → behind s new ≡ new → behind s M ≡ M
     part_stands e p keep = elim (cases_lt s.index M.first) [
       | inl h ↦ behind_past s M h
@@ -127,7 +127,7 @@ module _ (t s : Snap) (lt : t.index < s.index) (L new : Log) (steady : Steady t 
           ]
         ]
 
-    -- where nothing of the kept log stays, nothing is left
+    -- if nothing of the kept log stays, nothing is left
     nothing_left : behind s (behind t L) ≡ none_past s → new ≡ none_past s → behind s M ≡ new
     nothing_left e n =
         let nf : new.first ≡ suc s.index = ap (λ (x : Log). x.first) n in

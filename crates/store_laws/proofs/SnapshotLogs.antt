@@ -18,7 +18,7 @@ longer_is l m e = subst (Longer l) e (longer_refl l)
 pub ends_alike : (l m : Log) → Longer l m → m.first + length m.entries ≡ l.first + length l.entries
 ends_alike l m o = omega (arith, o.first, o.upto, ap length o.entries, length-drop (m.first - l.first) l.entries)
 
--- a batch behind or within a log
+-- a batch after or within a log
 pub put_longer : (l b : Log) → Longer (put_batch l b) b
 put_longer l b = elim (cases_lt b.first l.first) [
   | inl h ↦ longer_is _ _ (put_before l b h)
@@ -90,7 +90,7 @@ put_empty b = elim (cases_lt b.first 1) [
   ]
 ]
 
--- whatever stood before, batches that aren't none make the same end
+-- whatever was before, batches that aren't none make the same end
 pub later_batches : (l b : Log) (bs : List Log) → Longer (log_of l (b ∷ bs)) (log_of empty_log (b ∷ bs))
 unfolding log_of
 later_batches l b bs = log_both (put_batch l b) (put_batch empty_log b) (subst (Longer (put_batch l b)) (sym (put_empty b)) (put_longer l b)) bs

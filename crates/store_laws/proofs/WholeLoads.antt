@@ -104,7 +104,7 @@ kept_up f n (suc top) g none h = elim (cases_eq n (suc top)) [
   | inr ne ↦ let low : n ≤ top = omega (arith, h, ne) in kept_same_at f top g (none top low) ∙ kept_up f n top g none low
 ]
 
--- no crash leaves a segment behind the last one of a disk at rest
+-- no crash leaves a segment after the last one of a disk at rest
 none_behind : (f : Format) (k : ℕ) (d : NodeDisk) → Still f k d → (e : NodeDisk) → Elsewhere (Segment k) d e → (g : NodeFiles) → Leaves e g → (j : ℕ) → suc k ≤ j → (g (Segment j)).there ≡ false
 none_behind f k d s e so g left j h =
     ap (λ (x : Found). x.there) (rest_only _ _ _ (s.segment j) (so.left (Segment j) (λ q. let z : j ≡ k = cc in absurd (omega (arith, z, h))) (rest_left _ _ (s.segment j)) _ (left.each (Segment j))))

@@ -37,7 +37,7 @@ pub record Writes (f : Format) (b : Log) (word enc : List ℕ) : Type 0 where
 abbrev pub with_log : Log → Kept → Kept
 with_log l k = record { term = k.term; vote = k.vote; snap = k.snap; log = l }
 
--- behind the snapshot, the files' log with one batch more is this one
+-- after the snapshot, the files' log with one batch more is this one
 pub record Takes (s : Snap) (l b new : Log) : Type 0 where
   pub log : behind s (put_batch l b) ≡ new
   pub no_gap : (put_batch l b).first ≤ suc s.index

@@ -5,7 +5,7 @@ use Rattle.disk_model.specs.Disk.{Held}
 use Rattle.disk_model.specs.Genuine.{Genuine, WasWritten}
 use Rattle.store_laws.specs.Store.{Format, Reader, opens, reader, is_whole}
 
--- a file that reads as metadata was written or stood there
+-- a file that reads as metadata was written or was there
 pub record MetaGenuine (f : Format) (side : Bool) (h : Held) (c : List ℕ) : Type 0 where
   pub whole : (f.meta side c).stamp ≢ 0 → Genuine h 0 c
 

@@ -3,7 +3,7 @@ use Rattle.std.specs.Prelude.{◌≡◌, ℕ, zero, suc, ◌-◌, cond, true, no
 use Rattle.store_laws.specs.Names.{Segment, NodeFiles}
 use Rattle.store_laws.specs.Store.{Format, reader, opens, torn, is_whole, kept, Damaged, segments, sound}
 
--- how far a segment reads: to the end of its whole batches, and not at all where its first word says no version
+-- how far a segment reads: to the end of its whole batches, and not at all if its first word says no version
 unfoldable pub good_end : Format → List ℕ → ℕ
 good_end f bytes = cond (opens f bytes) (length bytes - length (torn (reader f bytes) (length bytes) (drop 8 bytes))) 0
 
@@ -26,7 +26,7 @@ first_damage f (x ∷ y ∷ rest) = cond (is_whole f x.bytes) (first_damage f (y
 abbrev pub damage : Format → ℕ → NodeFiles → Option (ℕ × ℕ)
 damage f top g = first_damage f (numbered top g)
 
--- damage has a place exactly where a segment but the last isn't whole, and so wherever files are damaged
+-- damage has a place exactly if a segment but the last isn't whole, and so wherever files are damaged
 pub record HasPlace (f : Format) (top : ℕ) (g : NodeFiles) : Type 0 where
   pub sound : sound f (segments top g) ≡ not (is_some (damage f top g))
   pub damaged : kept f top g ≡ Damaged → is_some (damage f top g) ≡ true

@@ -11,7 +11,7 @@ use Rattle.disk_model.specs.Writing.{replace_calls}
 use Rattle.store_laws.specs.Meta.{set_long_calls, next_stamp, goes_first, file_of, with_vote}
 use Rattle.store_laws.specs.Append.{append_calls, with_batch, CanAppend, Writes, SameVersion}
 
--- the files stand for the one state or the other
+-- the files represent the one state or the other
 abbrev pub OneOf : Format → ℕ → Kept → Kept → NodeFiles → Type 0
 OneOf f top old new g = (kept f top g ≡ Loaded old) ⊎ (kept f top g ≡ Loaded new)
 
@@ -46,7 +46,7 @@ SetMeta = (f : Format) → Lawful f → (top : ℕ) (d : NodeDisk) → Settled f
     → length (d.read (meta_file f d)).bytes ≤ 40
     → AnyMoment f top (meta_calls f d enc) d k (with_vote term vote k) × AtOk f top (meta_calls f d enc) d (with_vote term vote k)
 
--- segment k is the one that the batch goes to; none stands above it
+-- segment k is the one that the batch goes to; none is above it
 abbrev pub Append : Type 0
 Append = (f : Format) → Lawful f → (k : ℕ) (d : NodeDisk) → Settled f (suc k) d
     → (old : Kept) → kept f (suc k) d.read ≡ Loaded old
@@ -58,7 +58,7 @@ Append = (f : Format) → Lawful f → (k : ℕ) (d : NodeDisk) → Settled f (s
 abbrev pub MoreRoom : Type 0
 MoreRoom = (f : Format) (top : ℕ) (d : NodeDisk) → Settled f top d → Settled f (suc top) d × (kept f (suc top) d.read ≡ kept f top d.read)
 
--- where the snapshot's term drops the files' log whole, a batch without entries in a new segment empties that log, and changes nothing else
+-- if the snapshot's term drops the files' log whole, a batch without entries in a new segment empties that log, and changes nothing else
 abbrev pub EmptyStale : Type 0
 EmptyStale = (f : Format) → Lawful f → (k : ℕ) (d : NodeDisk) → Still f k d → (d.read (Segment k)).there ≡ false
     → (old : Kept) → kept f (suc k) d.read ≡ Loaded old

@@ -20,7 +20,7 @@ pub record Still (f : Format) (k : ℕ) (d : NodeDisk) : Type 0 where
   pub snap : (g : NodeFiles) → ((j : ℕ) → LeavesFile (d.held (Snapshot j)) (g (Snapshot j))) → snap_in f g ≡ snap_in f d.read
   pub snap_rest : (j : ℕ) → (snap_in f d.read).index ≤ j → Rest (d.held (Snapshot j)) (d.read (Snapshot j))
 
--- the files stand for the same at each moment of the calls, and at their end the segment is whole or gone
+-- the files represent the same at each moment of the calls, and at their end the segment is whole or gone
 pub record Repairs (f : Format) (k : ℕ) (d : NodeDisk) (calls : List NodeCall) : Type 0 where
   pub any_moment : (e : NodeDisk) → Until calls d e → (g : NodeFiles) → Leaves e g → NoChance f e g → kept f (suc k) g ≡ kept f (suc k) d.read
   pub still : (e : NodeDisk) → Done calls d e → Still f k e
@@ -29,7 +29,7 @@ pub record Repairs (f : Format) (k : ℕ) (d : NodeDisk) (calls : List NodeCall)
   pub log : (e : NodeDisk) → Done calls d e → file_log f (suc k) e.read ≡ file_log f (suc k) d.read
   pub snap : (e : NodeDisk) → Done calls d e → snap_in f e.read ≡ snap_in f d.read
 
--- whole batches H, and behind them a tail that doesn't read
+-- whole batches H, and after them a tail that doesn't read
 abbrev pub CutTail : Type 0
 CutTail = (f : Format) → Lawful f → (k : ℕ) (d : NodeDisk) → Still f k d
     → (H tail : List ℕ) → d.read (Segment k) ≡ record { there = true; bytes = H ++ tail } → is_whole f H ≡ true → (reader f H tail).size ≡ 0
@@ -41,7 +41,7 @@ RemoveBad = (f : Format) → Lawful f → (k : ℕ) (d : NodeDisk) → Still f k
     → (d.read (Segment k)).there ≡ true → opens f (d.read (Segment k)).bytes ≡ false
     → Repairs f k d (Remove (Segment k) ∷ SyncNames ∷ [])
 
--- what a load does to the last segment: nothing where it is whole or not there; a torn tail is cut off; one without its first word goes
+-- what a load does to the last segment: nothing if it is whole or not there; a torn tail is truncated; one without its first word goes
 unfoldable pub repair_calls : Format → ℕ → Found → List NodeCall
 repair_calls f k x =
     cond x.there (cond (opens f x.bytes) (cond (is_whole f x.bytes) [] (CutTo (Segment k) (length x.bytes - length (torn (reader f x.bytes) (length x.bytes) (drop 8 x.bytes))) ∷ Sync (Segment k) ∷ [])) (Remove (Segment k) ∷ SyncNames ∷ [])) []
@@ -80,7 +80,7 @@ abbrev pub remove_from : NodeFiles → ℕ → ℕ → List NodeCall
 remove_from r a zero = []
 remove_from r a (suc n) = cond (r (Segment a)).there (Remove (Segment a) ∷ SyncNames ∷ remove_from r (suc a) n) (remove_from r (suc a) n)
 
--- at each moment a crash leaves what the files without some of the oldest segments stand for; then all of them are gone
+-- at each moment a crash leaves what the files without some of the oldest segments represent; then all of them are gone
 abbrev pub RemoveOlder : Type 0
 RemoveOlder = (f : Format) (k : ℕ) (d : NodeDisk) → Still f k d
     → ((e : NodeDisk) → Until (remove_from d.read 0 k) d e → (g : NodeFiles) → Leaves e g → (m : ℕ) × ((m ≤ k) × (kept f (suc k) g ≡ kept f (suc k) (tail_of d.read m))))

@@ -3,7 +3,7 @@ use Rattle.std.specs.Prelude.{ℕ}
 use Rattle.disk_model.specs.Disk.{Files, Disk}
 use Rattle.disk_model.specs.Calls.{Call}
 
--- the two files of metadata, the segments, and the snapshots by the indices that they stand for
+-- the two files of metadata, the segments, and the snapshots by the indices that they represent
 pub data Name : Type 0 where
   First Second : Name
   Segment : ℕ → Name

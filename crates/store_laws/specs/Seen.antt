@@ -1,5 +1,5 @@
--- What is read while a call goes on is what a crash may leave: so a failed call leaves the disk to be loaded again, also
--- where no crash came.
+-- What is read while a call continues is what a crash may leave: so a failed call leaves the disk to be loaded again, also
+-- if no crash came.
 use Rattle.std.specs.Prelude.{◌≡◌, ◌≤◌, ℕ, false, List, length}
 use Rattle.disk_model.specs.Disk.{Leaves}
 use Rattle.disk_model.specs.Calls.{Until}

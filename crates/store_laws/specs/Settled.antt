@@ -5,7 +5,7 @@ use Rattle.disk_model.specs.Disk.{LeavesFile}
 use Rattle.disk_model.specs.Rest.{Rest}
 use Rattle.store_laws.specs.Store.{snap_in, Format, Snap, Log, is_whole, behind, log_of, empty_log, all_batches, segments}
 
--- the log of the files is kept behind the snapshot, or ends before it
+-- the log of the files is kept after the snapshot, or ends before it
 pub data Steady (s : Snap) (l : Log) : Type 0 where
   fits : behind s l ≡ l → Steady s l
   ends_before : l.first + length l.entries ≤ s.index → Steady s l
@@ -13,7 +13,7 @@ pub data Steady (s : Snap) (l : Log) : Type 0 where
 abbrev pub file_log : Format → ℕ → NodeFiles → Log
 file_log f top g = log_of empty_log (all_batches f (segments top g))
 
--- the snapshots may be on their way, as long as each crash leaves the same newest one
+-- the snapshots may be on their way, provided that each crash leaves the same newest one
 pub record Settled (f : Format) (top : ℕ) (d : NodeDisk) : Type 0 where
   pub first : Rest (d.held First) (d.read First)
   pub second : Rest (d.held Second) (d.read Second)

@@ -17,13 +17,13 @@ pub record Longer (l new : Log) : Type 0 where
   pub upto : new.first ≤ l.first + length l.entries
   pub entries : new.entries ≡ drop (new.first - l.first) l.entries
 
--- the part of the old log that stays behind the new snapshot: from an index on, or nothing where the snapshot drops the old log
+-- the part of the old log that stays after the new snapshot: from an index on, or nothing if the snapshot drops the old log
 pub data Stays (s : Snap) (old new : Log) : Type 0 where
   part : behind s old ≡ old → Longer old new → behind s new ≡ new → Stays s old new
   nothing : behind s old ≡ record { first = suc s.index; entries = [] } → new ≡ record { first = suc s.index; entries = [] } → Stays s old new
 
--- What a load finds behind the new snapshot: the log that is given; or the end of the kept one from an earlier index on, where the
--- snapshot's entry stands in the kept one, or that begins past it. So each entry of a longer part is one that was kept.
+-- What a load finds after the new snapshot: the log that is given; or the end of the kept one from an earlier index on, if the
+-- snapshot's entry is in the kept one, or that begins past it. So each entry of a longer part is one that was kept.
 pub data Left (s : Snap) (old new log : Log) : Type 0 where
   given : log ≡ new → Left s old new log
   earlier : behind s old ≡ old → Longer old log → Left s old new log
@@ -42,7 +42,7 @@ SnapshotLog = (t s : Snap) → t.index < s.index → (gone left : List Log) (new
     -- no entry is invented: what is left is the end of the whole log
     × Longer (log_of empty_log (gone ++ left ++ new ∷ [])) (log_of empty_log (left ++ new ∷ []))
 
--- the files stand for the new snapshot and a log that is the new one, maybe with a longer part of the old one
+-- the files represent the new snapshot and a log that is the new one, maybe with a longer part of the old one
 pub record IsLonger (f : Format) (top : ℕ) (g : NodeFiles) (term vote : ℕ) (s : Snap) (old new : Log) : Type 0 where
   pub log : Log
   pub kept_is : kept f top g ≡ Loaded (record { term = term; vote = vote; snap = s; log = log })
@@ -91,7 +91,7 @@ KeepSnapshot = (f : Format) → Lawful f → (k : ℕ) (d : NodeDisk) → Settle
     → ((e : NodeDisk) → Until (keep_calls d.read k s.index enc word batch older) d e → (g : NodeFiles) → Leaves e g → NoChance f e g → BeforeOrLonger f (suc k) old s new g)
     × ((e : NodeDisk) → Done (keep_calls d.read k s.index enc word batch older) d e → Comes f (suc k) e (with_snapshot s new old))
 
--- behind the new snapshot, with the new batch alone in segment k: whichever older segments are gone
+-- after the new snapshot, with the new batch alone in segment k: whichever older segments are gone
 abbrev pub OlderLog : Type 0
 OlderLog = (f : Format) → Lawful f → (k : ℕ) (d : NodeDisk) → Still f k d → (new : Log)
     → all_batches f (segments (suc k) d.read) ≡ all_batches f (segments k d.read) ++ new ∷ []

@@ -1,4 +1,4 @@
--- What the files of a node stand for.
+-- What the files of a node represent.
 use Rattle.std.specs.Prelude.{ℕ, zero, suc, ◌+◌, ◌-◌, Bool, true, false, cond, ◌&&◌, ◌==◌, nat_le, nat_lt, List, [], ◌∷◌, ◌++◌, length, take, drop}
 use Rattle.raft_spec.specs.Log.{Entry}
 use Rattle.store_laws.specs.Names.{First, Second, Segment, Snapshot, NodeFiles}
@@ -14,7 +14,7 @@ pub record Read : Type 0 where
   pub batch : Log
   pub size : ℕ
 
--- metadata; the stamp is one more than the version, and 0 where there is none
+-- metadata; the stamp is one more than the version, and 0 without one
 pub record Meta : Type 0 where
   pub stamp : ℕ
   pub term : ℕ
@@ -23,7 +23,7 @@ pub record Meta : Type 0 where
 abbrev pub no_meta : Meta
 no_meta = record { stamp = 0; term = 0; vote = 0 }
 
--- a snapshot; index 0 where there is none
+-- a snapshot; index 0 without one
 pub record Snap : Type 0 where
   pub index : ℕ
   pub term : ℕ
@@ -63,7 +63,7 @@ snap_files g k = g (Snapshot k)
 abbrev pub snap_in : Format → NodeFiles → Snap
 snap_in f g = newest_snap f.snap f.numbers (snap_files g)
 
--- the batches of the longest front of whole ones, and the bytes behind them
+-- the batches of the longest front of whole ones, and the bytes after them
 unfoldable pub batches : Reader → ℕ → List ℕ → List Log
 batches rd zero bytes = []
 batches rd (suc fuel) bytes = cond ((rd bytes).size == 0) [] ((rd bytes).batch ∷ batches rd fuel (drop (rd bytes).size bytes))
@@ -92,7 +92,7 @@ unfoldable pub all_batches : Format → List (List ℕ) → List Log
 all_batches f [] = []
 all_batches f (x ∷ xs) = batches_in f x ++ all_batches f xs
 
--- a batch that begins in the log or right behind it replaces it from there on; another one becomes the log
+-- a batch that begins in the log or right after it replaces it from there on; another one becomes the log
 unfoldable pub put_batch : Log → Log → Log
 put_batch log b = cond (nat_le log.first b.first && nat_le b.first (log.first + length log.entries)) (record { first = log.first; entries = take (b.first - log.first) log.entries ++ b.entries }) b
 
@@ -108,7 +108,7 @@ nth_term [] k = 0
 nth_term (e ∷ es) zero = e.term
 nth_term (e ∷ es) (suc k) = nth_term es k
 
--- the log behind a snapshot
+-- the log after a snapshot
 unfoldable pub behind : Snap → Log → Log
 behind s log = cond (nat_lt s.index log.first) log (cond (nat_lt s.index (log.first + length log.entries) && (nth_term log.entries (s.index - log.first) == s.term)) log (record { first = suc s.index; entries = [] }))
 
@@ -130,11 +130,11 @@ has_any (b ∷ bs) = true
 unfoldable pub newest : Meta → Meta → Meta
 newest a b = cond (nat_lt a.stamp b.stamp) b a
 
--- some batch or snapshot stands without metadata
+-- some batch or snapshot is without metadata
 abbrev pub lacks_meta : Meta → Snap → List Log → Bool
 lacks_meta m s bs = (m.stamp == 0) && cond (has_any bs) true (nat_lt 0 s.index)
 
--- what the files stand for: without metadata first, then damage, then a gap, and else what is kept
+-- what the files represent: without metadata first, then damage, then a gap, and else what is kept
 unfoldable pub answer : Meta → Snap → Bool → List Log → Outcome
 answer m s is_sound bs =
     cond (lacks_meta m s bs) NoMeta
@@ -148,6 +148,6 @@ segments (suc n) g = segments n g ++ cond (g (Segment n)).there ((g (Segment n))
 unfoldable pub meta_of : Format → NodeFiles → Meta
 meta_of f g = newest (f.meta true (g First).bytes) (f.meta false (g Second).bytes)
 
--- what the files stand for, where no segment has this number or a greater one
+-- what the files represent, if no segment has this number or a greater one
 unfoldable pub kept : Format → ℕ → NodeFiles → Outcome
 kept f top g = answer (meta_of f g) (snap_in f g) (sound f (segments top g)) (all_batches f (segments top g))

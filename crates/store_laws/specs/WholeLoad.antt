@@ -1,4 +1,4 @@
--- A whole load: its syncs, its repairs, and where the snapshot drops the files' log whole, a batch that empties that log.
+-- A whole load: its syncs, its repairs, and if the snapshot drops the files' log whole, a batch that empties that log.
 use Rattle.std.specs.Prelude.{◌≡◌, ℕ, suc, ◌+◌, ◌-◌, ◌<◌, ◌≤◌, Bool, false, cond, not, ◌&&◌, ◌==◌, nat_le, nat_lt, List, [], ◌++◌, length}
 use Rattle.disk_model.specs.Disk.{Leaves}
 use Rattle.disk_model.specs.Calls.{Done, Until}

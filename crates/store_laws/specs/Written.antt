@@ -1,4 +1,4 @@
--- What stands in the files after a call: which ones changed, and how.
+-- What is in the files after a call: which ones changed, and how.
 use Rattle.std.specs.Prelude.{◌≡◌, ℕ, ◌<◌, ◌≤◌, cond, List, ◌++◌, length}
 use Rattle.disk_model.specs.Disk.{found}
 use Rattle.disk_model.specs.Calls.{Done}
@@ -27,7 +27,7 @@ MetaWritten = (f : Format) → Lawful f → (top : ℕ) (d : NodeDisk) → Settl
     → (length (d.read (meta_file f d)).bytes ≤ 40 → (e : NodeDisk) → Done (meta_calls f d enc) d e → NewestWritten f d term vote enc e)
     × (40 < length (d.read (meta_file f d)).bytes → (e : NodeDisk) → Done (set_long_calls (meta_file f d) enc) d e → NewestWritten f d term vote enc e)
 
--- the batch stands at the end of its segment, behind the format word where that is new
+-- the batch is at the end of its segment, after the format word where that is new
 abbrev pub BatchWritten : Type 0
 BatchWritten = (f : Format) (top : ℕ) (d : NodeDisk) → Settled f top d → (k : ℕ) (word enc : List ℕ) (e : NodeDisk)
     → Done (append_calls k (d.read (Segment k)).there (length (d.read (Segment k)).bytes) word enc) d e

@@ -1,4 +1,4 @@
-//! What the files of a node stand for, and what a crash at any moment of a call leaves of it. Nothing here runs: a law is
+//! What the files of a node represent, and what a crash at any moment of a call leaves of it. Nothing here runs: a law is
 //! the promise of an empty function, over plain data and any way of reading bytes that is lawful.
 #![tactic(auto)]
 
@@ -18,7 +18,7 @@ pub fn set_meta()
     ensures { SetMeta }
 {}
 
-/// The same over a metadata file that is longer than a block: it is written, synced, and only then cut, so that nothing
+/// A term and a vote in a metadata file that is longer than a block: it is written, synced, and only then truncated, so that nothing
 /// old comes alive.
 pub fn set_meta_long()
     ensures { SetMetaLong }
@@ -36,13 +36,13 @@ pub fn sync_all()
     ensures { SyncAll Name }
 {}
 
-/// While a torn tail is cut off, and after it, each crash leaves what the files stood for.
+/// While a torn tail is truncated, and after it, each crash leaves what the files represented.
 #[tactic(auto, using(crate::proofs::Repairs::cut_tail_holds))]
 pub fn cut_tail()
     ensures { CutTail }
 {}
 
-/// So it is while a last segment without its first word is removed.
+/// This holds while a last segment without its first word is removed.
 #[tactic(auto, using(crate::proofs::Removes::remove_bad_holds))]
 pub fn remove_bad()
     ensures { RemoveBad }
@@ -60,7 +60,7 @@ pub fn load()
     ensures { Load }
 {}
 
-/// The log while a snapshot is kept, over batches alone: behind the new snapshot it is the log that stays, with at most
+/// The log while a snapshot is kept, over batches alone: after the new snapshot it is the log that stays, with at most
 /// a longer old part, before the new batch, with it, and with older batches gone.
 pub fn snapshot_log()
     ensures { SnapshotLog }
@@ -72,7 +72,7 @@ pub fn remove_older()
     ensures { RemoveOlder }
 {}
 
-/// Meanwhile the files stand for the new snapshot and the log that stays, with at most a longer old part.
+/// Meanwhile the files represent the new snapshot and the log that stays, with at most a longer old part.
 pub fn older_log()
     ensures { OlderLog }
 {}
@@ -84,18 +84,18 @@ pub fn keep_snapshot()
     ensures { KeepSnapshot }
 {}
 
-/// Where no segment has a number or a greater one, a greater bound on the numbers says the same.
+/// If no segment has a number or a greater one, a greater bound on the numbers says the same.
 pub fn more_room()
     ensures { MoreRoom }
 {}
 
 /// While metadata is written, a batch added or a snapshot kept, what is read is at each moment what a crash may leave: so
-/// where a call failed and no crash came, the disk may be loaded again.
+/// if a call failed and no crash came, the disk may be loaded again.
 pub fn calls_seen()
     ensures { Seen }
 {}
 
-/// So it is while a whole load goes on, where it was so before.
+/// This holds while a whole load continues, if it was so before.
 pub fn load_seen()
     ensures { WholeLoadSeen }
 {}
@@ -111,7 +111,7 @@ pub fn metadata_written()
     ensures { MetaWritten }
 {}
 
-/// After a batch was added it stands at the end of its segment, behind the format word where that is new; the other files
+/// After a batch was added it is at the end of its segment, after the format word where that is new; the other files
 /// are as they were.
 pub fn batch_written()
     ensures { BatchWritten }

@@ -13,13 +13,13 @@ enum Folder {
     Empty,
     /// That of one voter after its first timeout.
     Elected,
-    /// Two segments, of which the first is cut in its batch.
+    /// Two segments, of which the first is truncated in its batch.
     Cut,
     /// No file, and the first call of the disk fails.
     Failing,
 }
 
-/// The SHA-256 of no bytes stands in these lines.
+/// The SHA-256 of no bytes is in these lines.
 const EMPTY: &str =
     "term 0 vote 0\nsnapshot none\nlog none\nfiles 0 e3b0c44298fc1c149afbf4c8996fb92427ae41e4649b934ca495991b7852b855\n";
 
@@ -34,7 +34,7 @@ const ROWS: &[(Folder, CheckEnd, &str)] = &[
     (Folder::Failing, CheckEnd::DiskFault, ""),
 ];
 
-/// Adds the entry of a new leader of term 1 in a segment of its own.
+/// Adds the entry of a new leader of term 1 in its own segment.
 fn add(alloc: Global, disk: &mut MemDisk, index: u64) -> Option<()> {
     let (mut store, _kept) = Store::load(alloc, disk).ok()?;
     store.set_meta(disk, 1, 1).ok()?;

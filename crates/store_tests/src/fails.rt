@@ -54,7 +54,7 @@ fn prepared(alloc: Global, disk: &mut MemDisk) -> Option<Store> {
     Some(store)
 }
 
-/// The number of entries, where their bytes are those that were added.
+/// The number of entries, if their bytes are those that were added.
 fn entries_in(kept: &Kept) -> Option<usize> {
     let mut index: u64 = 1;
     for entry in kept.entries.as_slice() {
@@ -66,7 +66,7 @@ fn entries_in(kept: &Kept) -> Option<usize> {
     Some(kept.entries.len())
 }
 
-/// The place among the outcomes of what a load finds, where it is one of them.
+/// The place among the outcomes of what a load finds, if it is one of them.
 fn found(alloc: Global, disk: &mut MemDisk) -> Option<usize> {
     let (_store, kept) = Store::load(alloc, disk).ok()?;
     if kept.term != 1 || kept.vote != 3 || kept.first != 1 {

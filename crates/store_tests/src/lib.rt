@@ -1,5 +1,5 @@
 //! The tests of the files of a node, and of a check of a stopped node, which call their crates from outside. A crate with tests of
-//! its own is proved once more with them, so these stand here.
+//! its own is proved once more with them, so these are here.
 #![tactic(auto)]
 
 #[cfg(test)]

@@ -101,7 +101,7 @@ const EMPTY: Folder = [&[], &[], &[], &[], &[]];
 /// A folder of format 1 with a snapshot and two segments.
 const WHOLE: Folder = [METADATA, &[], SNAPSHOT, FRONT, BACK];
 
-/// The same in format 2.
+/// A folder of format 2 with a snapshot and two segments.
 const NEW_WHOLE: Folder = [&[], NEW_METADATA, NEW_SNAPSHOT, NEW_FRONT, NEW_BACK];
 
 /// The folder above in format 3.
@@ -165,7 +165,7 @@ fn put(
     disk.sync_names()
 }
 
-/// A disk with these files, one of which is cut to a length.
+/// A disk with these files, one of which is truncated to a length.
 fn fill(
     alloc: Global,
     disk: &mut MemDisk,
@@ -211,7 +211,7 @@ fn look(alloc: Global, disk: &mut MemDisk) -> Answer {
     }
 }
 
-/// What a look and two loads of a folder answer, where all three answer the same.
+/// What a look and two loads of a folder answer, if all three answer the same.
 fn loaded_alike(
     alloc: Global,
     files: &Folder,
@@ -230,7 +230,7 @@ fn loaded_alike(
     }
 }
 
-/// What is answered where one file of a whole folder is cut to a length, in any format.
+/// What is answered where one file of a whole folder is truncated to a length, in any format.
 fn wanted(file: usize, length: usize) -> Answer {
     match file {
         0 | 1 => Answer::Fault(LoadFault::NoMeta),
@@ -326,7 +326,7 @@ fn after_stop(alloc: Global, files: &Folder, call: u64, pick: u64) -> Option<(bo
     Some((answered, load(alloc, &mut disk)))
 }
 
-/// Whether each stop of the three calls leaves the old state or the new one, and one behind them the new one.
+/// Whether each stop of the three calls leaves the old state or the new one, and one after them the new one.
 fn are_old_or_new(alloc: Global, files: &Folder, old: Answer, new: Answer) -> bool {
     for call in 1..5 {
         for pick in 0..16 {
@@ -413,7 +413,7 @@ fn failing(alloc: Global, files: &Folder, call: u64) -> Result<Answer, DiskFault
     Ok(load(alloc, &mut disk))
 }
 
-/// How many calls of the disk a load makes, where each that fails is answered and the others are not.
+/// How many calls of the disk a load makes, if each that fails is answered and the others are not.
 fn calls_of_a_load(alloc: Global, files: &Folder) -> Option<u64> {
     for made in 0..20 {
         match failing(alloc, files, made + 1).ok()? {

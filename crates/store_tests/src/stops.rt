@@ -9,7 +9,7 @@ use store_format::Kept;
 /// the log that was given.
 type Outcomes = [bool; 3];
 
-/// The stopped call, and what was found over all picks. The calls are: a torn file of the snapshot is cut, written and
+/// The stopped call, and what was found over all picks. The calls are: a torn file of the snapshot is truncated, written and
 /// synced, and the names; the new segment's word, its sync, that of the names, its batch, its sync; two segments are
 /// removed, with a sync of the names after each; a snapshot is removed. Call 0 is none, and so is 15.
 const STOPS: &[(u64, Outcomes)] = &[
@@ -115,7 +115,7 @@ fn are_right(kept: &Kept) -> bool {
     index == 6
 }
 
-/// The place among the outcomes of what is kept, where it is one of them.
+/// The place among the outcomes of what is kept, if it is one of them.
 fn outcome(kept: &Kept) -> Option<usize> {
     if kept.term != 1 || kept.vote != 3 || !are_right(kept) {
         return None;

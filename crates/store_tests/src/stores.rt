@@ -30,7 +30,7 @@ fn metadata_goes_to_its_files_in_turn(rt: HostRuntime) {
     assert_eq!(rt; two_writes(rt.alloc()), Some([(1, 3, 2), (2, 4, 0)]));
 }
 
-/// The first index, the number of entries and the size of the batch in segment 1, behind its format word.
+/// The first index, the number of entries and the size of the batch in segment 1, after its format word.
 fn batch_in(alloc: Global, disk: &mut MemDisk) -> Option<(u64, usize, usize)> {
     let mut bytes = [0; 100];
     let count = disk
@@ -62,7 +62,7 @@ fn a_batch_stands_behind_its_format_word(rt: HostRuntime) {
 /// How many bytes a great snapshot has: more than a mebibyte.
 const GREAT: usize = 1_300_000;
 
-/// How many bytes of a great snapshot are loaded, where each is what was kept.
+/// How many bytes of a great snapshot are loaded, if each is what was kept.
 fn great_snapshot(alloc: Global) -> Option<usize> {
     let mut disk = MemDisk::new(alloc);
     let (mut store, _kept) = Store::load(alloc, &mut disk).ok()?;

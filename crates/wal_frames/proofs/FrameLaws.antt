@@ -100,7 +100,7 @@ is_match-both h before bytes salts stored sums is same stored_is sum also =
     let two : same_pair (pair_of (drop 16 bytes)) (frame_sums h before (stated_frame bytes)) ≡ true = ap₂ same_pair (sym stored_is) (sym sum) ∙ also in
     rw (one, two) refl
 
--- where the test holds, the text of the stated frame stands
+-- if the test holds, the text of the stated frame stands
 pub frame-is_match : (h : WalHeader) (before : ℕ × ℕ) (bytes : List ℕ) → length bytes ≡ 4120 → AreBytes bytes → is_match h before bytes ≡ true → bytes ≡ frame h before (stated_frame bytes)
 unfolding is_match frame stated_frame
 frame-is_match h before bytes long are e =

@@ -1,4 +1,4 @@
--- A header is read exactly where its spelling stands.
+-- A header is read exactly if the bytes are its encoding.
 use Rattle.std.proofs.Common.{◌≡◌, ℕ, ◌<◌, ◌≤◌, ◌^◌, Bool, true, false, not, cond, eqb, ltb, List, [], ◌++◌, length, take, drop, Option, Some, None, Ok, Err, refl, sym, ap, ap₂, subst, ◌∙◌, ◌⊎◌, arith, inl, inr, append_assoc, length-append, length-drop}
 use Rattle.std.specs.Prelude.{◌&&◌}
 use Rattle.std.proofs.lemmas.Bool.{cases_Bool, cases_lt, lt-ltb, le-ltb, eq-eqb, eqb-true}
@@ -119,7 +119,7 @@ header_of-header h rest fits =
     let number : order_of (pair_of (header h ++ rest)).0 ≡ Some h.order = ap (λ (p : ℕ × ℕ). order_of p.0) states.first ∙ order_of-magic h.order in
     rw long (ap (λ (o : Option WordOrder). header_with o (header h ++ rest)) number ∙ header_with-states (header h ++ rest) h states)
 
--- ---- what is read is spelled so
+-- ---- what is read is encoded so
 
 order_of-some : (n : ℕ) (order : WordOrder) → order_of n ≡ Some order → n ≡ magic order
 order_of-some n order e =
@@ -212,7 +212,7 @@ header_of-ok bytes h are e =
       (drop 32 bytes, sym (take-append-drop 32 bytes) ∙ ap (λ (x : List ℕ). x ++ drop 32 bytes) all),
     )
 
--- a reader behind the header
+-- a reader after the header
 pub Opened-at : (bytes front rest : List ℕ) (h : WalHeader) (sums : ℕ × ℕ) → AreBytes bytes → header_of bytes ≡ Ok h → front ≡ take 32 bytes → rest ≡ drop 32 bytes → sums ≡ pair_of (drop 24 front) → Opened bytes (record { header = h; sums = sums; rest = rest })
 Opened-at bytes front rest h sums are e front_is rest_is sums_are =
     let found = header_of-ok bytes h are e in

@@ -161,7 +161,7 @@ TookAll-more old now fs f new all took =
 
 -- ---- validity
 
--- a list of frames that stands there is a front of one behind which none matches
+-- a list of frames that is there is a front of one after which none matches
 front_of_valid : (h : WalHeader) (before : ℕ × ℕ) (fs others : List Frame) (rest more : List ℕ) → AreFrames fs → AreFrames others → frames h before others ++ more ≡ frames h before fs ++ rest
     → NoneMatches (record { header = h; sums = sums_after h before fs; rest = rest }) → IsFront others fs
 unfolding frames sums_after
@@ -179,7 +179,7 @@ front_of_valid h before (f ∷ fs) (g ∷ gs) rest more a b e none =
     let behind = front_of_valid h (frame_sums h before f) fs gs rest more a.1 b.1 (append_cancel_left (frame h before f) _ _ same) none in
     (behind.0, ap₂ (λ (x : Frame) (xs : List Frame). x ∷ xs) (sym first) behind.1)
 
--- frames that stand there and behind which none matches are the valid ones
+-- frames that are there and after which none matches are the valid ones
 pub valid_if : (bytes : List ℕ) (h : WalHeader) (fs : List Frame) (rest : List ℕ) → AreFrames fs → bytes ≡ log h fs ++ rest → NoneMatches (record { header = h; sums = sums_after h (header_sums h) fs; rest = rest }) → AreValid bytes h fs
 unfolding log
 valid_if bytes h fs rest a parts none = record {
@@ -191,7 +191,7 @@ valid_if bytes h fs rest a parts none = record {
       front_of_valid h (header_sums h) fs others rest begun.0 a b (append_cancel_left (header h) _ _ same) none;
 }
 
--- what a reader took behind a header stands behind it
+-- what a reader took after a header follows it
 pub log_stands : (bytes : List ℕ) (start : Reading) (fs : List Frame) (new : Reading) → Opened bytes start → TookAll start fs new → bytes ≡ log start.header fs ++ new.rest
 unfolding log
 log_stands bytes start fs new opened all =

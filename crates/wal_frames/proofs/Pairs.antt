@@ -41,7 +41,7 @@ pair_of-pair numbers rest fits =
     let two : big_number 4 (drop 4 (pair numbers ++ rest)) ≡ numbers.1 = ap (big_number 4) behind ∙ big_number-reads_back 4 numbers.1 rest fits.1 in
     ap₂ (λ (a b : ℕ). let both : ℕ × ℕ = (a, b) in both) one two
 
--- what was read stands there
+-- what was read is there
 pub pair-pair_of : (bytes : List ℕ) → 8 ≤ length bytes → AreBytes bytes → pair (pair_of bytes) ≡ take 8 bytes
 unfolding pair pair_of
 pair-pair_of bytes long fits =
@@ -56,7 +56,7 @@ pair_of-fits bytes fits =
     let two = big_from-lt 0 4 (drop 4 bytes) (AreBytes-drop 4 bytes fits) in
     (omega arith, omega arith)
 
--- a piece put behind the first of some bytes
+-- a piece put after the first of some bytes
 pub piece_behind : (n : ℕ) (first tail second : List ℕ) → length first ≡ 8 → length tail ≡ n → take 8 (first ++ tail) ++ (second ++ drop n (drop 8 (first ++ tail))) ≡ first ++ second
 piece_behind n first tail second len long =
     let front : take 8 (first ++ tail) ≡ first = take_at first tail 8 len in

@@ -1,4 +1,4 @@
--- The header that stands at the front of some bytes, or the first reason for which none does.
+-- The header that is at the front of some bytes, or the first reason for which none does.
 use Rattle.std.specs.Prelude.{◌≡◌, ℕ, ◌==◌, ◌&&◌, Bool, not, nat_lt, if◌then◌else◌, List, length, take, drop, Option, Some, None, Result, Ok, Err, IsOk}
 use Rattle.wal_frames.specs.declared.checksums.WordOrder.{WordOrder}
 use Rattle.wal_frames.specs.declared.checksums.WordOrder.TheVariants.{Big, Little}
@@ -36,7 +36,7 @@ header_of bytes =
     if nat_lt (length bytes) 32 then Err Short
     else header_with (order_of (pair_of bytes).0) bytes
 
--- what a fault says of the bytes: out of memory comes only behind a header, and any other is the first fault
+-- what a fault says of the bytes: out of memory comes only after a header, and any other is the first fault
 abbrev pub IsRefusal : WalFault → List ℕ → Type 0
 IsRefusal NoMemory bytes = IsOk (header_of bytes)
 IsRefusal fault bytes = header_of bytes ≡ Err fault

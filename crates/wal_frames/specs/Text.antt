@@ -25,7 +25,7 @@ magic Little = 0x377f0682
 unfoldable pub fields : WalHeader → List ℕ
 fields h = pair (magic h.order, 3007000) ++ (pair (4096, h.sequence) ++ pair h.salts)
 
--- the checksum of a header, which the first frame goes on from
+-- the checksum of a header, which the first frame continues from
 unfoldable pub header_sums : WalHeader → ℕ × ℕ
 header_sums h = checksum h.order (0, 0) (fields h)
 
@@ -62,7 +62,7 @@ written_header sequence = record { order = Big; sequence = sequence; salts = (se
 abbrev pub wal : ℕ → List Frame → List ℕ
 wal sequence fs = log (written_header sequence) fs
 
--- how long the text of so many frames is, in bytes
+-- how long the text of this many frames is, in bytes
 abbrev pub wal_length : ℕ → ℕ
 wal_length n = 32 + 4120 * n
 

@@ -18,7 +18,7 @@ IsFront front whole = (more : List Frame) × (whole ≡ front ++ more)
 abbrev pub Begins : List ℕ → WalHeader → List Frame → Type 0
 Begins bytes h fs = (rest : List ℕ) × (bytes ≡ log h fs ++ rest)
 
--- the longest list of frames that match behind a header: every other one is a front of it
+-- the longest list of frames that match after a header: every other one is a front of it
 pub record AreValid (bytes : List ℕ) (h : WalHeader) (fs : List Frame) : Type 0 where
   pub fit : AreFrames fs
   pub begins : Begins bytes h fs
@@ -47,7 +47,7 @@ pub record Matches (old : Reading) (f : Frame) (rest : List ℕ) : Type 0 where
 abbrev pub NoneMatches : Reading → Type 0
 NoneMatches old = (f : Frame) (rest : List ℕ) → Matches old f rest → ⊥
 
--- the reader behind a frame that matched
+-- the reader after a frame that matched
 abbrev pub behind : Reading → Frame → List ℕ → Reading
 behind old f rest = record { header = old.header; sums = frame_sums old.header old.sums f; rest = rest }
 
@@ -56,7 +56,7 @@ pub record Took (old : Reading) (f : Frame) (new : Reading) : Type 0 where
   pub matched : Matches old f new.rest
   pub now : new ≡ behind old f new.rest
 
--- a reader behind the header of these bytes
+-- a reader after the header of these bytes
 pub record Opened (bytes : List ℕ) (new : Reading) : Type 0 where
   pub stated : header_of bytes ≡ Ok new.header
   pub fits : IsHeader new.header
@@ -73,7 +73,7 @@ pub record TookAll (old : Reading) (fs : List Frame) (new : Reading) : Type 0 wh
 unfoldable pub stated_frame : List ℕ → Frame
 stated_frame bytes = record { number = (pair_of bytes).0; commit = (pair_of bytes).1; page = take 4096 (drop 24 bytes) }
 
--- whether the salts of that frame are those of the header, and its checksum goes on from the one before it
+-- whether the salts of that frame are those of the header, and its checksum continues from the one before it
 unfoldable pub is_match : WalHeader → ℕ × ℕ → List ℕ → Bool
 is_match h before bytes = same_pair (pair_of (drop 8 bytes)) h.salts && same_pair (pair_of (drop 16 bytes)) (frame_sums h before (stated_frame bytes))
 

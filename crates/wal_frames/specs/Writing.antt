@@ -1,4 +1,4 @@
--- Writing a log frame by frame, behind bytes that stand already.
+-- Writing a log frame by frame, after bytes that are already.
 use Rattle.std.specs.Prelude.{◌≡◌, ℕ, List, ◌++◌}
 use Rattle.wal_frames.specs.declared.frame.Frame.{Frame}
 use Rattle.wal_frames.specs.declared.header.WalHeader.{WalHeader}
@@ -9,13 +9,13 @@ pub record Place : Type 0 where
   pub header : WalHeader
   pub sums : ℕ × ℕ
 
--- the writer behind these frames
+-- the writer after these frames
 abbrev pub place_after : ℕ → List Frame → Place
 place_after sequence fs =
     let h = written_header sequence in
     record { header = h; sums = sums_after h (header_sums h) fs }
 
--- the bytes are those of the start and then the log of these frames, and the writer stands behind it
+-- the bytes are those of the start and then the log of these frames, and the writer follows it
 pub record Wrote (start : List ℕ) (sequence : ℕ) (fs : List Frame) (bytes : List ℕ) (writer : Place) : Type 0 where
   pub text : bytes ≡ start ++ wal sequence fs
   pub place : writer ≡ place_after sequence fs

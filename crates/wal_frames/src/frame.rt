@@ -33,7 +33,7 @@ pub struct LentFrame<'a> {
 }
 
 impl<'a> LentFrame<'a> {
-    /// The frame with a page of its own. Copies the page's bytes, which have to be 4,096.
+    /// The frame with its own page. Copies the page's bytes, which have to be 4,096.
     pub fn to_frame(self) -> Frame
         requires { length self.page.now ≡ 4096 }
         ensures { result ≡ owned self.entry }

@@ -101,7 +101,7 @@ fn order_of(number: u32) -> Option<WordOrder>
     }
 }
 
-/// Whether the checksum of the first 24 bytes stands behind them.
+/// Whether the checksum of the first 24 bytes follows them.
 fn holds_sum(order: WordOrder, bytes: &[u8]) -> bool
     requires { 32 ≤ length bytes.now }
     ensures { result ≡ same_pair (checksum order (0, 0) (take 24 bytes.now)) (pair_of (drop 24 bytes.now)) }

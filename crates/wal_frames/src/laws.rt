@@ -7,20 +7,20 @@ ghost use Rattle.wal_frames.specs.Text.{AreBytes, IsHeader, header, log, wal, wa
 ghost use Rattle.wal_frames.specs.Headers.{header_of};
 ghost use Rattle.wal_frames.specs.Valid.{AreFrames, AreValid};
 
-/// A checksum goes on: that of two pieces one after the other is that of the second, from the one of the first on.
+/// A checksum continues: that of two pieces one after the other is that of the second, from the one of the first on.
 pub fn checksums_chain()
     ensures { (order : WordOrder) (start : ℕ × ℕ) (front back : List ℕ) → length front % 8 ≡ 0 →
         checksum order start (front ++ back) ≡ checksum order (checksum order start front) back }
 {}
 
-/// A header is read exactly where its spelling stands.
+/// A header is read exactly if the bytes are its encoding.
 pub fn headers_read_back()
     ensures spelled { (bytes : List ℕ) (h : WalHeader) → AreBytes bytes → header_of bytes ≡ Ok h →
         IsHeader h × ((rest : List ℕ) × (bytes ≡ header h ++ rest)) }
     ensures read { (h : WalHeader) (rest : List ℕ) → IsHeader h → header_of (header h ++ rest) ≡ Ok h }
 {}
 
-/// What is written is read, also where it is cut: of a text that has its header, the whole frames are valid and no
+/// What is written is read, also if it is truncated: of a text that has its header, the whole frames are valid and no
 /// others.
 pub fn logs_read_back()
     ensures length { (h : WalHeader) (fs : List Frame) → AreFrames fs → length (log h fs) ≡ wal_length (length fs) }

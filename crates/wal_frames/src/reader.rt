@@ -10,7 +10,7 @@ use crate::words::pair_of;
 use std::marker::Model;
 
 /// Reads the valid frames of a log one after the other, and lends their pages. Contracts see the header, the checksum
-/// of the last frame that was read, and the bytes behind it.
+/// of the last frame that was read, and the bytes after it.
 #[derive(Drop)]
 pub struct WalReader<'a> {
     header: WalHeader,
@@ -31,7 +31,7 @@ impl<'a> Model for WalReader<'a> {
 }
 
 impl<'a> WalReader<'a> {
-    /// A reader behind the header of a log, or the first fault of that header. Looks at 32 bytes at most.
+    /// A reader after the header of a log, or the first fault of that header. Looks at 32 bytes at most.
     pub fn new(bytes: &'a [u8]) -> Result<WalReader<'a>, WalFault>
         ensures opened { IfOk result (λ reader. Opened bytes.now reader) }
         ensures refused { IfErr result (λ fault. header_of bytes.now ≡ Err fault) }
@@ -49,15 +49,15 @@ impl<'a> WalReader<'a> {
         self.header
     }
 
-    /// What stands behind the frames that were read, borrowed.
+    /// What follows the frames that were read, borrowed.
     pub fn rest(&self) -> &'a [u8]
         ensures { result.now ≡ self.now.rest }
     {
         self.rest
     }
 
-    /// Reads the next frame and lends its page. `None`, which changes nothing, comes exactly where no whole and valid
-    /// frame stands there: its salts are the header's, and its checksum goes on from the one before it.
+    /// Reads the next frame and lends its page. `None`, which changes nothing, comes exactly if no whole and valid
+    /// frame is there: its salts are the header's, and its checksum continues from the one before it.
     ///
     /// Goes over the bytes of one frame once.
     pub fn next_frame(&mut self) -> Option<LentFrame<'a>>
@@ -91,7 +91,7 @@ fn stated_frame(bytes: &[u8]) -> LentFrame<'_>
     }
 }
 
-/// The checksum of the frame that the bytes state, where the frame matches.
+/// The checksum of the frame that the bytes state, if the frame matches.
 fn matching_sums(header: WalHeader, before: (u32, u32), bytes: &[u8]) -> Option<(u32, u32)>
     requires { length bytes.now ≡ 4120 }
     ensures found { IfSome result (λ sums. Stands header before bytes.now sums) }

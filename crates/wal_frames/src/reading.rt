@@ -20,12 +20,12 @@ pub struct WalRead {
     pub end: u64,
 }
 
-/// Reads the header and the valid frames of a log: the longest list of frames behind the header of which each one's
-/// salts and checksum match, and those of all before it. A frame that is cut or doesn't match is no fault: the list
+/// Reads the header and the valid frames of a log: the longest list of frames after the header of which each one's
+/// salts and checksum match, and those of all before it. A frame that is truncated or doesn't match is no fault: the list
 /// ends before it.
 ///
 /// The first fault of the header is named: `Short`, `Magic`, `Version`, `PageSize`, `HeaderSum`. `NoMemory` comes only
-/// behind a valid header.
+/// after a valid header.
 ///
 /// Goes over the bytes once, and copies the page of each valid frame into room that it makes first for all whole frames
 /// of the bytes. `WalReader` reads without a copy.

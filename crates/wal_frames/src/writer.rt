@@ -12,7 +12,7 @@ use dq_base::Page;
 use std::alloc::{AllocError, Global};
 use std::marker::Model;
 
-/// How long the text of a log of so many frames is, in bytes: 32, and 4,120 for each frame.
+/// How long the text of a log of this many frames is, in bytes: 32, and 4,120 for each frame.
 pub fn wal_length(frames: usize) -> usize
     requires { wal_length frames < 2 ^ 64 }
     ensures { result ≡ wal_length frames }
@@ -20,7 +20,7 @@ pub fn wal_length(frames: usize) -> usize
     HEADER_LENGTH + FRAME_LENGTH * frames
 }
 
-/// Writes a log frame by frame behind the bytes of a vector. Contracts see its header and the checksum of the last
+/// Writes a log frame by frame after the bytes of a vector. Contracts see its header and the checksum of the last
 /// frame that was written.
 #[derive(Drop)]
 pub struct WalWriter {
@@ -107,7 +107,7 @@ fn append_both(out: &mut Vec<u8>, front: &[u8], back: &[u8]) -> Result<(), Alloc
     finished
 }
 
-/// The text of a log with this sequence number and these frames: a header, and each frame with a checksum that goes on
+/// The text of a log with this sequence number and these frames: a header, and each frame with a checksum that continues
 /// from the one before it.
 ///
 /// Goes over each page once for its checksum, and copies it once, into room that is made ahead.

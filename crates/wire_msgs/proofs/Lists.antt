@@ -1,4 +1,4 @@
--- Lists behind their number: servers and files.
+-- Lists after their number: servers and files.
 use Rattle.std.proofs.Common.{◌≡◌, ℕ, zero, suc, ◌+◌, ◌-◌, ◌<◌, ◌≤◌, Bool, true, false, List, [], ◌∷◌, ◌++◌, length, Option, Some, None, Result, Ok, Err, refl, sym, ap, subst, ◌∙◌, append_assoc, arith}
 use Rattle.std.specs.List.{flat_map, AllByRecursion}
 use Rattle.std.proofs.lemmas.List.{append-nil}
@@ -66,7 +66,7 @@ pub record ReadsItems {A : Type 0} (Is : A → Type 0) (fields : A → List Fiel
   pub took : (old new : Unread) (x : A) → AreBytes old.bytes → read old ≡ Ok (x, new) → Is x × AllTook dialects.Exact (fields x) old new
   pub again : (old new : Unread) (x : A) → Is x → AllTook dialects.Exact (fields x) old new → read old ≡ Ok (x, new)
 
--- what so many of them are
+-- what this many of them are
 pub record AreItems {A : Type 0} (Is : A → Type 0) (fields : A → List Field) (count : ℕ) (xs : List A) (old new : Unread) : Type 0 where
   pub counted : length xs ≡ count
   pub all : AllByRecursion Is xs
@@ -99,7 +99,7 @@ many_again Is fields one r (x ∷ xs) old new all took =
     let s = took_split dialects.Exact (fields x) (flat_map fields xs) old new took in
     rw (r.again old s.0 x all.0 s.1, many_again Is fields one r xs s.0 new all.1 s.2) refl
 
--- behind their number
+-- after their number
 pub record AreCounted {A : Type 0} (Is : A → Type 0) (fields : A → List Field) (xs : List A) (old new : Unread) : Type 0 where
   pub all : AllByRecursion Is xs
   pub took : AllTook dialects.Exact (Word (length xs) ∷ flat_map fields xs) old new

@@ -48,7 +48,7 @@ read_again top fields m x w =
     let nothing : length w.left.bytes ≡ 0 = ap length w.end in
     rw (w.schema, w.body, nothing) refl
 
--- a message with words behind its fields
+-- a message with words after its fields
 pub tail_left : {X : Type 0} (top : ℕ) (fields : Bool → Unread → Reading X) (m : Message) (x : X) (left : Unread) (n : ℕ) → m.schema ≤ top → fields (eqb m.schema 1) (unread m.body) ≡ Ok (x, left)
     → length left.bytes ≢ 0 → n ≡ words_in (length left.bytes) → whole_of top fields m ≡ Err (Tail n)
 tail_left top fields m x left n below body more size =

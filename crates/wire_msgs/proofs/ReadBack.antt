@@ -1,4 +1,4 @@
--- Requests and responses are read exactly where messages stand for them.
+-- Requests and responses are read exactly if messages represent them.
 use Rattle.std.proofs.Common.{◌≡◌, ℕ, false, eqb, ltb, Option, Some, None, Result, Ok, Err, refl, ap, subst, ◌∙◌}
 use Rattle.std.specs.Prelude.{IfOk}
 use Rattle.wire_words.specs.declared.message.Message.{Message}

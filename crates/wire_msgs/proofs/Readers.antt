@@ -34,7 +34,7 @@ may_end dialect fields read r = record { took = r.took; again = λ old new x too
 
 -- ---- one field
 
--- an item of this spelling, which is one field
+-- an item of this encoding, which is one field
 one_field : {A : Type 0} (dialect : Dialect) (field : A → Field) (read : Unread → Reading A)
     → ((old new : Unread) (x : A) → AreBytes old.bytes → read old ≡ Ok (x, new) → Took (IsField dialect (field x)) old new)
     → ((old new : Unread) (x : A) → Took (IsField dialect (field x)) old new → read old ≡ Ok (x, new))
@@ -77,7 +77,7 @@ params_took wide old new vs false is fits e =
     let t = tuple_took (width wide) (is_width wide) old new vs fits e in
     record { item = t.item; spelled = inr t.spelled; parts = t.parts; place = t.place }
 
--- a tuple doesn't stand where nothing is left
+-- there is no tuple where nothing is left
 no_tuple : (wide : Bool) (left : Unread) → length left.bytes ≡ 0 → tuple_at (width wide) left ≡ Err (Short left.at)
 unfolding tuple_at
 no_tuple false left none = rw none refl

@@ -95,7 +95,7 @@ known_number n kind e =
 
 -- ---- what is read is its line
 
--- the fields of a request of this type stood between two states of a reader
+-- the fields of a request of this type were between two states of a reader
 pub record TookRequest (kind : RequestKind) (wide : Bool) (old new : Unread) (request : Request) : Type 0 where
   pub number : kind_number kind ≡ (request_line request).kind
   pub schema : (n : ℕ) → ltb (request_top_schema kind) n ≡ false → eqb n 1 ≡ wide → n ≡ (request_line request).schema

@@ -63,7 +63,7 @@ known_number n kind e =
 
 -- ---- what is read is its line
 
--- the fields of a response of this type stood between two states of a reader, in this format
+-- the fields of a response of this type were between two states of a reader, in this format
 pub record TookResponse (kind : ResponseKind) (roles wide : Bool) (old new : Unread) (response : Response) : Type 0 where
   pub number : kind_number kind ≡ (response_line response).kind
   pub schema : (n : ℕ) → ltb (response_top_schema kind) n ≡ false → eqb n 1 ≡ wide → n ≡ (response_line response).schema
@@ -76,7 +76,7 @@ from_made kind roles wide make read old new response took e =
     let m = made_ok make (read old) response new e in
     subst (λ (r : Response). TookResponse kind roles wide old new r) m.2 (took m.0 m.1)
 
--- a number that is there exactly where it is to be
+-- a number that is there exactly if it is to be
 there_is : (wide : Bool) (n : Option ℕ) → HasRole wide n → wide ≡ is_there n
 there_is false None has = refl
 there_is false (Some n) has = absurd has

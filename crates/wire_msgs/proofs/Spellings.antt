@@ -1,4 +1,4 @@
--- Each line has one spelling, and what is written is among what a client may send.
+-- Each line has one encoding, and what is written is among what a client may send.
 use Rattle.std.proofs.Common.{◌≡◌, ℕ, ◌+◌, ◌/◌, ◌%◌, ◌<◌, ◌≤◌, List, [], ◌∷◌, ◌++◌, length, inl, inr, Result, Ok, Err, refl, sym, ap, subst, ◌∙◌, arith}
 use Rattle.std.specs.Prelude.{IfOk, OnOk, IsErr}
 use Rattle.std.specs.declared.alloc.AllocError.{AllocError}
@@ -13,7 +13,7 @@ use Rattle.wire_words.proofs.Padding.{raw_is_padded, padded_is_raw}
 use Rattle.wire_words.proofs.SpellingLaws.{tuple_spelled, tuple_only, tuple_accepted}
 use Rattle.wire_msgs.specs.Fields.{Field, Word, AnyWord, Pair, Text, Blob, Params, Rest, Line, width, IsField, AreFields, Stands, WritesLine, field_bytes, body_bytes, line_bytes, Fits, AllFit}
 
--- ---- what is written is spelled so
+-- ---- what is written is encoded so
 
 field_written : (field : Field) → Fits field → IsField dialects.Exact field (field_bytes field)
 field_written (Word n) fits = record { fits = fits; parts = refl }
@@ -51,7 +51,7 @@ is_written line (Ok bytes) fits parts whole many =
     let body = body_fits line.kind line.schema (body_bytes line.fields) words (λ lt. not_err bytes (many lt)) in
     subst (λ (b : List ℕ). WritesLine line b) (sym parts) (line_written line fits body)
 
--- ---- it is the one spelling
+-- ---- it is the one encoding
 
 field_only : (field : Field) (bytes : List ℕ) → IsField dialects.Exact field bytes → bytes ≡ field_bytes field
 field_only (Word n) bytes s = s.parts

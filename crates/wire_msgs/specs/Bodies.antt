@@ -97,7 +97,7 @@ abbrev pub optional_at : Bool → Unread → Reading (Option ℕ)
 optional_at false left = Ok (None, left)
 optional_at true left = made (λ (n : ℕ). Some n) (word_at left)
 
--- so many of them
+-- this many of them
 unfoldable pub many_at : {A : Type 0} → (Unread → Reading A) → ℕ → Unread → Reading (List A)
 many_at one zero left = Ok ([], left)
 many_at one (suc count) left = do
@@ -105,13 +105,13 @@ many_at one (suc count) left = do
   others ← many_at one count first.1
   Ok (first.0 ∷ others.0, others.1)
 
--- their number in a word, and so many of them
+-- their number in a word, and this many of them
 abbrev pub counted_at : {A : Type 0} → (Unread → Reading A) → Unread → Reading (List A)
 counted_at one left = do
   count ← word_at left
   many_at one count.0 count.1
 
--- a server, with its role where roles are told
+-- a server, with its role where roles are listed
 unfoldable pub server_at : Bool → Unread → Reading NodeInfo
 server_at roles left =
     made (λ (x : (ℕ × List ℕ) × Option ℕ). record { id = x.0.0; address = x.0.1; role = x.1 }) (both word_text (optional_at roles) left)

@@ -1,4 +1,4 @@
--- The fields of a body, which the table of messages is made of, and the bytes that stand for each.
+-- The fields of a body, which the table of messages is made of, and the bytes that represent each.
 use Rattle.std.specs.Prelude.{◌≡◌, ◌<◌, ◌≤◌, ◌^◌, ◌%◌, ℕ, Bool, true, false, List, [], ◌∷◌, ◌++◌, ◌⊎◌, length, IsUtf8}
 use Rattle.std.specs.List.{AllByRecursion}
 use Rattle.wire_words.specs.declared.message.Message.{Message}
@@ -49,9 +49,9 @@ abbrev pub most_params : Bool → ℕ
 most_params false = 255
 most_params true = 32766
 
--- ---- the one spelling
+-- ---- the one encoding
 
--- parameters: no tuple where there are none
+-- parameters: no tuple if there are none
 abbrev pub params_bytes : Bool → List Value → List ℕ
 params_bytes wide [] = []
 params_bytes wide (v ∷ vs) = tuple (width wide) (v ∷ vs)
@@ -75,7 +75,7 @@ body_bytes (field ∷ fields) = field_bytes field ++ body_bytes fields
 abbrev pub line_bytes : Line → List ℕ
 line_bytes line = message line.kind line.schema (body_bytes line.fields)
 
--- ---- which bytes stand for a field: exactly as it is written, or as a client may send it
+-- ---- which bytes represent a field: exactly as it is written, or as a client may send it
 
 abbrev pub IsAnyWord : Dialect → List ℕ → Type 0
 IsAnyWord dialects.Exact bytes = IsWord 0 bytes
@@ -111,7 +111,7 @@ abbrev pub AreFields : Dialect → List Field → List ℕ → Type 0
 AreFields dialect [] bytes = bytes ≡ []
 AreFields dialect (field ∷ fields) bytes = (front rest : List ℕ) × (bytes ≡ front ++ rest) × IsField dialect field front × AreFields dialect fields rest
 
--- the message stands for the line
+-- the message represents the line
 pub record Stands (dialect : Dialect) (line : Line) (m : Message) : Type 0 where
   pub kind : m.kind ≡ line.kind
   pub schema : m.schema ≡ line.schema
@@ -126,7 +126,7 @@ pub record WritesLine (line : Line) (bytes : List ℕ) : Type 0 where
 
 -- ---- what can be written
 
--- what has a spelling: a text without a NUL, so many parameters with such texts, and a rest of whole words
+-- what has an encoding: a text without a NUL, this many parameters whose texts have none, and a rest of whole words
 abbrev pub HasSpelling : Field → Type 0
 HasSpelling (Word n) = Unit {0}
 HasSpelling AnyWord = Unit {0}

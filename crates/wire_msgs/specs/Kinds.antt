@@ -13,7 +13,7 @@ cluster_kind n =
     else if n == 17 then Some requests.Transfer else if n == 18 then Some requests.Describe
     else if n == 19 then Some requests.Weight else None
 
--- the type of request that a number stands for; 2 stands for none
+-- the type of request that a number represents; 2 represents none
 abbrev pub request_kind : ℕ → Option RequestKind
 request_kind n =
     if n == 0 then Some requests.Leader else if n == 1 then Some requests.Client else if n == 3 then Some requests.Open
@@ -43,7 +43,7 @@ takes_memory requests.Add = true
 takes_memory requests.Dump = true
 takes_memory _ = false
 
--- the type of response that a number stands for
+-- the type of response that a number represents
 abbrev pub response_kind : ℕ → Option ResponseKind
 response_kind n =
     if n == 0 then Some responses.Failure else if n == 1 then Some responses.Server else if n == 2 then Some responses.Welcome

@@ -13,11 +13,11 @@ use Rattle.wire_msgs.specs.declared.response.ResponseKind.{ResponseKind}
 use Rattle.wire_msgs.specs.Kinds.{request_kind, request_top_schema, takes_memory, response_kind, response_top_schema, response_takes_memory}
 use Rattle.wire_msgs.specs.Bodies.{Reading, request_at, response_at}
 
--- how many words n bytes are, where a part of a word counts as one
+-- how many words n bytes are, if a part of a word counts as one
 abbrev pub words_in : ℕ → ℕ
 words_in n = (n + 7) / 8
 
--- the fault of a message, where an item has this one
+-- the fault of a message, if an item has this one
 abbrev pub of_word : WordFault → MsgFault
 of_word word_faults.NoMemory = NoMemory
 of_word fault = Word fault
@@ -26,7 +26,7 @@ abbrev pub in_message : {X : Type 0} → Result X WordFault → Result X MsgFaul
 in_message (Ok x) = Ok x
 in_message (Err fault) = Err (of_word fault)
 
--- what was read, where nothing is left
+-- what was read, if nothing is left
 abbrev pub ended : {X : Type 0} → X × Unread → Result X MsgFault
 ended x = if length x.1.bytes == 0 then Ok x.0 else Err (Tail (words_in (length x.1.bytes)))
 
@@ -52,7 +52,7 @@ response_in (Some kind) roles m = whole_of (response_top_schema kind) (response_
 unfoldable pub response_of : ℕ → Message → Result Response MsgFault
 response_of format m = response_in (response_kind m.kind) (format == 1) m
 
--- whether reading a message may take memory: its type and its schema are there, and such a request takes memory
+-- whether reading a message may take memory: its type and its schema are there, and a request of the type takes memory
 abbrev pub may_take_memory : Option RequestKind → Message → Bool
 may_take_memory None m = false
 may_take_memory (Some kind) m = not (nat_lt (request_top_schema kind) m.schema) && takes_memory kind

@@ -27,15 +27,15 @@ request_line (Transfer id) = line 17 (Word id ∷ [])
 request_line (Describe format) = line 18 (Word format ∷ [])
 request_line (Weight weight) = line 19 (Word weight ∷ [])
 
--- The message stands for the request, as a client may send it.
+-- The message represents the request, as a client may send it.
 abbrev pub Reads : Message → Request → Type 0
 Reads m request = Stands dialects.Client (request_line request) m
 
--- the one spelling of a request
+-- the one encoding of a request
 abbrev pub request_bytes : Request → List ℕ
 request_bytes request = line_bytes (request_line request)
 
--- The bytes are a message that stands for the request, exactly as it is written.
+-- The bytes are a message that represents the request, exactly as it is written.
 abbrev pub WritesRequest : Request → List ℕ → Type 0
 WritesRequest request bytes = WritesLine (request_line request) bytes
 

@@ -18,7 +18,7 @@ abbrev pub is_there : Option ℕ → Bool
 is_there None = false
 is_there (Some n) = true
 
--- a server in a list, with its role where the list tells roles
+-- a server in a list, with its role where the list has roles
 abbrev pub server_fields : NodeInfo → List Field
 server_fields server = Word server.id ∷ Text server.address ∷ optional server.role
 
@@ -38,27 +38,27 @@ response_line responses.Empty = line 8 (Word 0 ∷ [])
 response_line (responses.Files files) = line 9 (Word (length files) ∷ flat_map file_fields files)
 response_line (responses.Metadata failure_domain weight) = line 10 (Word failure_domain ∷ Word weight ∷ [])
 
--- a server has a role exactly in a list that tells roles
+-- a server has a role exactly in a list that has roles
 abbrev pub HasRole : Bool → Option ℕ → Type 0
 HasRole false None = Unit {0}
 HasRole true (Some role) = Unit {0}
 HasRole _ _ = ⊥
 
--- a list of servers tells roles exactly in format 1
+-- a list of servers has roles exactly in format 1
 abbrev pub IsInFormat : Bool → Response → Type 0
 IsInFormat roles (responses.Servers servers) = AllByRecursion (λ (server : NodeInfo). HasRole roles server.role) servers
 IsInFormat roles response = Unit {0}
 
--- The message stands for the response, in this format of its list of servers.
+-- The message represents the response, in this format of its list of servers.
 pub record ReadsResponse (format : ℕ) (m : Message) (response : Response) : Type 0 where
   pub stands : Stands dialects.Exact (response_line response) m
   pub in_format : IsInFormat (format == 1) response
 
--- the one spelling of a response
+-- the one encoding of a response
 abbrev pub response_bytes : Response → List ℕ
 response_bytes response = line_bytes (response_line response)
 
--- The bytes are a message that stands for the response.
+-- The bytes are a message that represents the response.
 abbrev pub Writes : Response → List ℕ → Type 0
 Writes response bytes = WritesLine (response_line response) bytes
 

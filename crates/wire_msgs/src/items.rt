@@ -27,7 +27,7 @@ pub(crate) fn two_words(words: &mut Words<'_>) -> Result<(u64, u64), WordFault>
     Ok((first, second))
 }
 
-// Parameters, in a wide tuple or not; there are none where nothing is left.
+// Parameters, in a wide tuple or not; there are none if nothing is left.
 pub(crate) fn params(
     alloc: Global,
     wide: bool,

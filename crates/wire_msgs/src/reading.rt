@@ -35,20 +35,20 @@ fn whole_request(alloc: Global, number: u8, schema: u8, body: &[u8]) -> Result<R
 }
 
 /// Reads a request, as a client may send it. The first fault comes: `Kind` where no type of request has the message's
-/// number, `Schema` where the type has no such schema, `Word` at the first item that isn't there, and `Tail` where words
+/// number, `Schema` where the type doesn't have the schema, `Word` at the first item that isn't there, and `Tail` where words
 /// are left. A body that ends where its tuple would begin has no parameters.
 ///
-/// `NoMemory` means out of memory for the request's texts and values; where its type has none, and for `Kind` and
+/// `NoMemory` means out of memory for the request's texts and values; if its type has none, and for `Kind` and
 /// `Schema`, no memory is taken. The body is passed over once, and each text and each blob is copied once, out of it.
 #[tactic(auto, unfolding(crate::specs::Reading::request_of))]
 pub fn read_request(alloc: Global, message: &Message) -> Result<Request, MsgFault>
-    // What is read is what the message stands for.
+    // What is read is what the message represents.
     ensures found { IfOk result (Reads message.now) }
-    // What the message stands for is read, unless memory runs out.
+    // What the message represents is read, unless memory runs out.
     ensures only { (request : Request) → Reads message.now request → Gives (Ok request) result }
     // Which fault it is.
     ensures exact { Gives (request_of message.now) result }
-    // Where there is no text and no value to be kept, memory doesn't run out.
+    // If there is no text and no value to be kept, memory doesn't run out.
     ensures memory { IsErrOf result MsgFault.NoMemory → IsTrue (may_take_memory (request_kind message.now.kind) message.now) }
 {
     let body = message.body.as_slice();
@@ -82,21 +82,21 @@ fn whole_response(
 }
 
 /// Reads a response, exactly as it is written; a list of servers is read in format 0, without roles, or in format 1, with
-/// them. The faults are those of `read_request`; `Word(Pad(at))` also where a field that has to be zero isn't. A body of
-/// rows is taken as it is, where it is whole words; one with a part of a word is `Tail(1)`.
+/// them. The faults are those of `read_request`; `Word(Pad(at))` also if a field that has to be zero isn't. A body of
+/// rows is taken as it is, if it is whole words; one with a part of a word is `Tail(1)`.
 ///
-/// `NoMemory` means out of memory for the response's texts, lists and bytes; where its type has none, and for `Kind` and
+/// `NoMemory` means out of memory for the response's texts, lists and bytes; if its type has none, and for `Kind` and
 /// `Schema`, no memory is taken. The body is passed over once, and each text, each file and a body of rows is copied once.
 #[tactic(auto, unfolding(crate::specs::Reading::response_of))]
 pub fn read_response(alloc: Global, message: &Message, format: u64) -> Result<Response, MsgFault>
     requires { format ≤ 1 }
-    // What is read is what the message stands for.
+    // What is read is what the message represents.
     ensures found { IfOk result (ReadsResponse format message.now) }
-    // What the message stands for is read, unless memory runs out.
+    // What the message represents is read, unless memory runs out.
     ensures only { (response : Response) → ReadsResponse format message.now response → Gives (Ok response) result }
     // Which fault it is.
     ensures exact { Gives (response_of format message.now) result }
-    // Where there is no text, no list and no bytes to be kept, memory doesn't run out.
+    // If there is no text, no list and no bytes to be kept, memory doesn't run out.
     ensures memory { IsErrOf result MsgFault.NoMemory
         → IsTrue (response_may_take_memory (response_kind message.now.kind) message.now) }
 {

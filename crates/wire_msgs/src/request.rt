@@ -132,7 +132,7 @@ pub enum RequestKind {
 }
 
 impl RequestKind {
-    /// The type that a message's number stands for.
+    /// The type that a message's number represents.
     pub fn of(kind: u8) -> Option<RequestKind>
         ensures { result ≡ request_kind kind }
     {
@@ -151,7 +151,7 @@ impl RequestKind {
         }
     }
 
-    /// The type that a number above 10 stands for: those of the cluster and its servers.
+    /// The type that a number above 10 represents: those of the cluster and its servers.
     fn of_cluster(kind: u8) -> Option<RequestKind>
         ensures { result ≡ cluster_kind kind }
     {

@@ -31,7 +31,7 @@ fn in_range(value: &Value)
     }
 }
 
-// The same of all values.
+// What values hold is in range, since they are there.
 fn all_in_range(values: &[Value])
     requires { AreWritable values.now }
     ensures { AllByRecursion IsInRange values.now }
@@ -41,7 +41,7 @@ fn all_in_range(values: &[Value])
     }
 }
 
-// Parameters: no tuple where there are none.
+// Parameters: no tuple if there are none.
 fn params(out: &mut Writer, wide: bool, values: &[Value]) -> Result<(), AllocError>
     requires { HasSpelling (Params wide values.now) }
     ensures bytes { OnOk result (out.new ≡ out.old ++ params_bytes wide values.now) }

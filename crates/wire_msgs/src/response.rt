@@ -10,7 +10,7 @@ use wire_words::{WireBytes, WireText};
 pub struct NodeInfo {
     pub id: u64,
     pub address: WireText,
-    /// 0 for a voter, 1 for a standby, 2 for a spare; none where the list tells no roles.
+    /// 0 for a voter, 1 for a standby, 2 for a spare; none if the list tells no roles.
     pub role: Option<u64>,
 }
 
@@ -34,7 +34,7 @@ pub enum Response {
         id: u64,
         address: WireText,
     },
-    /// The client is known from now on. A client that is silent for so many milliseconds may be dropped.
+    /// The client is known from now on. A client that is silent for this many milliseconds may be dropped.
     Welcome {
         heartbeat_timeout: u64,
     },
@@ -46,7 +46,7 @@ pub enum Response {
     Db {
         id: u32,
     },
-    /// The statement is prepared under this number, and has so many parameters. In schema 1 the place in the text follows
+    /// The statement is prepared under this number, and has this many parameters. In schema 1 the place in the text follows
     /// at which the rest begins.
     Stmt {
         db: u32,
@@ -93,7 +93,7 @@ pub enum ResponseKind {
 }
 
 impl ResponseKind {
-    /// The type that a message's number stands for.
+    /// The type that a message's number represents.
     pub fn of(kind: u8) -> Option<ResponseKind>
         ensures { result ≡ response_kind kind }
     {

@@ -49,7 +49,7 @@ fn optional(there: bool, words: &mut Words<'_>) -> Result<Option<u64>, WordFault
     Ok(Some(number))
 }
 
-// A server of a list, with its role where roles are told.
+// A server of a list, with its role where roles are listed.
 #[tactic(auto, unfolding(crate::specs::Bodies::server_at))]
 fn server(alloc: Global, roles: bool, words: &mut Words<'_>) -> Result<NodeInfo, WordFault>
     ensures { Finds (λ x. x) (server_at roles) words.old words.new result }
@@ -59,7 +59,7 @@ fn server(alloc: Global, roles: bool, words: &mut Words<'_>) -> Result<NodeInfo,
     Ok(NodeInfo { id, address, role })
 }
 
-// So many servers. Takes memory for those that are there.
+// This many servers. Takes memory for those that are there.
 fn servers(
     alloc: Global,
     roles: bool,
@@ -76,7 +76,7 @@ fn servers(
     Ok(servers)
 }
 
-// A list of servers behind their number.
+// A list of servers after their number.
 fn counted_servers(
     alloc: Global,
     roles: bool,
@@ -99,7 +99,7 @@ fn file(alloc: Global, words: &mut Words<'_>) -> Result<File, WordFault>
     Ok(File { name, content })
 }
 
-// So many files. Takes memory for those that are there.
+// This many files. Takes memory for those that are there.
 fn files(alloc: Global, words: &mut Words<'_>, count: u64) -> Result<Vec<File>, WordFault>
     ensures { Finds (λ files. files.items) (many_at file_at count) words.old words.new result }
 {
@@ -111,7 +111,7 @@ fn files(alloc: Global, words: &mut Words<'_>, count: u64) -> Result<Vec<File>, 
     Ok(files)
 }
 
-// A list of files behind their number.
+// A list of files after their number.
 fn counted_files(alloc: Global, words: &mut Words<'_>) -> Result<Items<File>, WordFault>
     ensures { Finds (λ files. files) (counted_at file_at) words.old words.new result }
 {

@@ -28,7 +28,7 @@ fn whole_request(alloc: Global, request: &Request) -> Result<WireBytes, AllocErr
 /// and once more on average as that grows.
 pub fn write_request(alloc: Global, request: &Request) -> Result<WireBytes, AllocError>
     requires { IsWritableRequest request.now }
-    // What is written stands for the request.
+    // What is written represents the request.
     ensures writes { IfOk result (WritesRequest request.now) }
     // Which bytes they are.
     ensures bytes { IfOk result (λ bytes. bytes ≡ request_bytes request.now) }
@@ -63,7 +63,7 @@ fn whole_response(alloc: Global, response: &Response) -> Result<WireBytes, Alloc
 /// of memory. Each byte is copied once into the message, and once more on average as that grows.
 pub fn write_response(alloc: Global, response: &Response) -> Result<WireBytes, AllocError>
     requires { IsWritable response.now }
-    // What is written stands for the response.
+    // What is written represents the response.
     ensures writes { IfOk result (Writes response.now) }
     // Which bytes they are.
     ensures bytes { IfOk result (λ bytes. bytes ≡ response_bytes response.now) }

@@ -14,7 +14,7 @@ use Rattle.wire_rows.proofs.Greedy.{one_at_least}
 drop_of_none : (n : ℕ) (rows : Rows) → length rows ≤ 0 → drop n rows ≡ []
 drop_of_none n rows none = at_drop_all (λ (rs : Rows). rs) rows n (omega arith)
 
--- what is left behind the first part is shorter
+-- what is left after the first part is shorter
 pub rest_shorter : (columns : List (List ℕ)) (rows : Rows) (n : ℕ) → length rows ≤ suc n → length (drop (first_count columns rows) rows) ≤ n
 rest_shorter columns rows n le = let one = one_at_least columns rows in rw (length-drop (first_count columns rows) rows) (omega arith)
 
@@ -52,7 +52,7 @@ some_rows : (rest : Rows) (parts : List Rows) → 0 < length rest → where_any 
 some_rows [] parts lt = absurd (omega arith)
 some_rows (r ∷ rest) parts lt = refl
 
--- the cut where no row is behind the first part
+-- the cut where no row is after the first part
 pub cut_last : (columns : List (List ℕ)) (rows part rest : Rows) → part ≡ take (first_count columns rows) rows → rest ≡ drop (first_count columns rows) rows → length rest ≡ 0
     → cut columns rows ≡ part ∷ []
 cut_last columns rows part rest first behind none =
@@ -88,7 +88,7 @@ pub total_more : (columns : List (List ℕ)) (rows part rest : Rows) → part �
 total_more columns rows part rest first behind some =
     ap total_size (bodies_more columns rows part rest first behind some) ∙ sum_by-cons length (body_bytes columns part Follows) (bodies columns (cut columns rest))
 
--- the rows behind the first part are fewer
+-- the rows after the first part are fewer
 pub fewer_rows : (columns : List (List ℕ)) (rows rest : Rows) → rest ≡ drop (first_count columns rows) rows → 0 < length rest → length rest < length rows
 fewer_rows columns rows rest behind some =
     let one = one_at_least columns rows in

@@ -26,7 +26,7 @@ is_known : (at n : ℕ) (o : Option ValueType) (t : ValueType) → known at n o 
 is_known at n None t e = absurd cc
 is_known at n (Some u) t e = (u, refl)
 
--- the first of the codes stands for a type
+-- the first of the codes represents a type
 first_known : (at c : ℕ) (bytes : List ℕ) (count : ℕ) (ts : List ValueType) → types_at dialects.Exact at (take (suc count) (split_halves (c ∷ bytes))) ≡ Ok ts → (u : ValueType) × (type_with dialects.Exact (c % 16) ≡ Some u)
 unfolding types_at
 first_known at c bytes count ts e =
@@ -34,7 +34,7 @@ first_known at c bytes count ts e =
     let one = bind_ok (known at (c % 16) (type_with dialects.Exact (c % 16))) (λ first. all_types dialects.Exact at (take count (c / 16 ∷ split_halves bytes)) >>= λ others. Ok (first ∷ others)) all.0 all.1 in
     is_known at (c % 16) (type_with dialects.Exact (c % 16)) one.0 one.1
 
--- the codes 15 and 14 stand for none
+-- the codes 15 and 14 represent none
 not_fifteen : (n : ℕ) (u : ValueType) → type_with dialects.Exact n ≡ Some u → n ≡ 15 → ⊥
 not_fifteen n u typed is = let none : None ≡ Some u = sym (ap (type_with dialects.Exact) is) ∙ typed in cc
 
@@ -85,7 +85,7 @@ row_not_end count left new vs some e =
     r.1.parts ∙ ap (λ (x : List ℕ). x ++ mid.bytes) r.1.spelled.parts ∙ append_assoc head (replicate r.1.spelled.zeros 0) mid.bytes in
     head_not_end count left head (replicate r.1.spelled.zeros 0 ++ mid.bytes) d.0 some r.0 parts d.1
 
--- ---- what stands next
+-- ---- what comes next
 
 pub next_is_end : (count : ℕ) (left : Unread) (more : More) (x : Next × Unread) → end_at left ≡ Some more → end_here more left ≡ Ok x → next_at count left ≡ Ok x
 unfolding next_at
@@ -117,7 +117,7 @@ unfolding next_at
 next_is_none count left (inl is) none = rw (none, eq-eqb count 0 is) refl
 next_is_none count left (inr is) none = rw (none, eq-eqb (length left.bytes) 0 is) (or_true (eqb count 0) (row_at count left))
 
--- a fault of the row is that of what stands next
+-- a fault of the row is that of what comes next
 fault_is : {X : Type 0} (f : WordFault) (row : Result (List Value × Unread) WordFault) (next : Result X RowReadFault) → Fails f row → (row ≡ Err f → next ≡ Err (of_word f)) → FailsReading (of_word f) next
 fault_is word_faults.NoMemory row next fails so = tt
 fault_is (word_faults.Short n) row next fails so = so fails
@@ -127,7 +127,7 @@ fault_is (word_faults.Pad n) row next fails so = so fails
 fault_is (word_faults.BadCode n m) row next fails so = so fails
 fault_is (word_faults.Float n) row next fails so = so fails
 
--- what looking for an end word gave, where this is the fault if there is none
+-- what looking for an end word gave, if this is the fault without one
 abbrev pub EndOr : RowReadFault → Unread → Unread → Result Next RowReadFault → Type 0
 EndOr fault left new result = MatchOption (end_at left) (result ≡ Err fault) (λ more. (result ≡ Ok (End more)) × (end_here more left ≡ Ok (End more, new)))
 
@@ -145,7 +145,7 @@ fault_or_end : (count : ℕ) (left new : Unread) (f : WordFault) (result : Resul
 fault_or_end count left new f result None is some more fails gave = rw gave (fault_is f (row_at count left) (next_at count left) fails (next_is_fault count left f some more is))
 fault_or_end count left new f result (Some end) is some more fails gave = rw gave.0 (next_is_end count left end (End end, new) is gave.1)
 
--- where the row has a fault; the reader stands where it stood
+-- if the row has a fault; the reader is where it stood
 pub end_or_fault : (count : ℕ) (old left new : Unread) (f : WordFault) (fault : RowReadFault) (result : Result Next RowReadFault) → 0 < count → 0 < length old.bytes → left ≡ old → Fails f (row_at count old) → fault ≡ of_word f
     → EndOr fault left new result → Finds (λ next. next) (next_at count) old new result
 end_or_fault count old left new f fault result some more stays fails is gave =

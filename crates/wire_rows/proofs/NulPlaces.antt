@@ -1,4 +1,4 @@
--- The first text with a NUL, in other words; and that all can be written where there is none.
+-- The first text with a NUL, in other words; and that all can be written without one.
 use Rattle.std.proofs.Common.{◌≡◌, ◌+◌, ℕ, suc, Bool, true, false, cond, Option, Some, None, List, [], ◌∷◌, ◌++◌, length, position, refl, sym, ap, subst, ◌∙◌, arith}
 use Rattle.std.specs.List.{AllByRecursion, position_from}
 use Rattle.std.proofs.lemmas.Iterator.Adapters.{position_from-zero}
@@ -22,7 +22,7 @@ text_of (Text t) holds = (t, refl, holds)
 text_of (Blob b) holds = absurd cc
 text_of Null holds = absurd cc
 
--- in this column of a row stands a text with a NUL, and none stands before it
+-- in this column of a row stands a text with a NUL, and none is before it
 record InRow (values : List Value) (column : ℕ) : Type 0 where
   before : List Value
   content : List ℕ
@@ -131,7 +131,7 @@ located : (from : ℕ) (rows : Rows) (r c : ℕ) → nul_from from rows ≡ Some
 located from [] r c e = absurd cc
 located from (values ∷ rows) r c e = located_at from values rows r c (position holds_nul values) refl e (located (from + 1) rows r c)
 
--- where a text with a NUL is found, it is the first
+-- if a text with a NUL is found, it is the first
 pub first_found : (rows : Rows) (r c : ℕ) → first_nul rows ≡ Some (r, c) → IsFirstNul rows r c
 unfolding first_nul
 first_found rows r c e =
@@ -148,7 +148,7 @@ none_from : (from : ℕ) (rows : Rows) → nul_from from rows ≡ None → AllBy
 none_from from [] e = tt
 none_from from (values ∷ rows) e = none_from_at from values rows (position holds_nul values) refl e (none_from (from + 1) rows)
 
--- where none is found, all rows can be written
+-- if none is found, all rows can be written
 pub all_writable : (rows : Rows) → first_nul rows ≡ None → AllByRecursion AreWritable rows
 unfolding first_nul
 all_writable rows e = none_from 0 rows e

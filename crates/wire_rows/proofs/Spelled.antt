@@ -8,7 +8,7 @@ use Rattle.wire_words.specs.Values.{AreWritable}
 use Rattle.wire_rows.specs.Cut.{Rows}
 use Rattle.wire_rows.specs.Spelling.{HaveNoNul}
 
--- what holds of all that is left holds of the next item and of what is left behind it
+-- what holds of all that is left holds of the next item and of what is left after it
 next_of : {X : Type 0} (P : X → Type 0) (xs : List X) (i : ℕ) (x : X) → i < length xs → AllByRecursion P (drop i xs) → P (get_or xs i x) × AllByRecursion P (drop (i + 1) xs)
 next_of P xs i x lt all = subst (AllByRecursion P) (drop_more xs i x lt) all
 
@@ -34,6 +34,6 @@ take_writable n rows part is all = subst (AllByRecursion AreWritable) (sym is) (
 pub drop_writable : (n : ℕ) (rows rest : Rows) → rest ≡ drop n rows → AllByRecursion AreWritable rows → AllByRecursion AreWritable rest
 drop_writable n rows rest is all = subst (AllByRecursion AreWritable) (sym is) (all_drop AreWritable n rows all)
 
--- four pieces, each behind the one before
+-- four pieces, each after the one before
 pub in_turn : (a b c d : List ℕ) → ((a ++ b) ++ c) ++ d ≡ (a ++ b) ++ (c ++ d)
 in_turn a b c d = append_assoc (a ++ b) c d

@@ -9,11 +9,11 @@ use Rattle.wire_rows.specs.Nuls.{first_nul}
 abbrev pub held : ℕ → ℕ
 held n = min n (2 ^ 64 - 1)
 
--- the bodies, where all together they have at most 16,777,216 bytes
+-- the bodies, if all together they have at most 16,777,216 bytes
 abbrev pub limited : List (List ℕ) → Result (List (List ℕ)) RowFault
 limited parts = if nat_lt 16777216 (total_size parts) then Err (TooBig (held (total_size parts))) else Ok parts
 
--- the bodies, where no text holds a NUL
+-- the bodies, if no text holds a NUL
 abbrev pub without_nul : Option (ℕ × ℕ) → List (List ℕ) → Result (List (List ℕ)) RowFault
 without_nul (Some place) parts = Err (Nul place.0 place.1)
 without_nul None parts = limited parts

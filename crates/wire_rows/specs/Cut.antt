@@ -27,13 +27,13 @@ abbrev pub where_any : {A B : Type 0} → List A → List B → List B
 where_any [] others = []
 where_any (x ∷ xs) others = others
 
--- the first part, and then the parts of the rows behind it, where there are any; at most so many parts after the first
+-- the first part, and then the parts of the rows after it, if there are any; at most this many parts after the first
 abbrev pub cut_in : ℕ → List (List ℕ) → Rows → List Rows
 cut_in zero columns rows = rows ∷ []
 cut_in (suc n) columns rows =
     take (first_count columns rows) rows ∷ where_any (drop (first_count columns rows) rows) (cut_in n columns (drop (first_count columns rows) rows))
 
--- the parts: each takes a row at least, so there are no more of them than rows, but one where there are no rows
+-- the parts: each takes a row at least, so there are no more of them than rows, but one if there are no rows
 unfoldable pub cut : List (List ℕ) → Rows → List Rows
 cut columns rows = cut_in (length rows) columns rows
 
@@ -58,7 +58,7 @@ abbrev pub joined : List Rows → Rows
 joined [] = []
 joined (part ∷ parts) = part ++ joined parts
 
--- one row more has no room in this part, where another row follows
+-- one row more has no room in this part, if another row follows
 abbrev pub IsFull : List (List ℕ) → Rows → List Rows → Type 0
 IsFull columns part [] = Unit {0}
 IsFull columns part ([] ∷ parts) = ⊥

@@ -18,7 +18,7 @@ abbrev pub place_in : ℕ → Option ℕ → Option (ℕ × ℕ) → Option (ℕ
 place_in row (Some column) other = Some (row, column)
 place_in row None other = other
 
--- the row and the column of the first text with a NUL, by rows and then columns, where the rows are counted from here
+-- the row and the column of the first text with a NUL, by rows and then columns, if the rows are counted from here
 abbrev pub nul_from : ℕ → List (List Value) → Option (ℕ × ℕ)
 nul_from row [] = None
 nul_from row (values ∷ rows) = place_in row (position holds_nul values) (nul_from (row + 1) rows)
@@ -27,7 +27,7 @@ nul_from row (values ∷ rows) = place_in row (position holds_nul values) (nul_f
 unfoldable pub first_nul : List (List Value) → Option (ℕ × ℕ)
 first_nul rows = nul_from 0 rows
 
--- At this row and column stands a text with a NUL, and none stands before it.
+-- At this row and column stands a text with a NUL, and none is before it.
 pub record IsFirstNul (rows : List (List Value)) (row column : ℕ) : Type 0 where
   pub rows_before : List (List Value)
   pub values_before : List Value

@@ -19,7 +19,7 @@ use Rattle.wire_rows.specs.declared.reading.Next.TheVariants.{Row, End}
 use Rattle.wire_rows.specs.Spelling.{HaveWidth}
 use Rattle.wire_rows.specs.Cut.{Rows, more_after}
 
--- the fault of a part, where an item has this one
+-- the fault of a part, if an item has this one
 abbrev pub of_word : WordFault → RowReadFault
 of_word word_faults.NoMemory = NoMemory
 of_word fault = Word fault
@@ -28,7 +28,7 @@ abbrev pub in_part : {X : Type 0} → Result X WordFault → Result X RowReadFau
 in_part (Ok x) = Ok x
 in_part (Err fault) = Err (of_word fault)
 
--- the names of so many columns
+-- the names of this many columns
 unfoldable pub names_at : ℕ → Unread → Result (List (List ℕ) × Unread) WordFault
 names_at zero left = Ok ([], left)
 names_at (suc count) left = do
@@ -48,13 +48,13 @@ end_with (Err fault) = None
 unfoldable pub end_at : Unread → Option More
 end_at left = end_with (word_at left)
 
--- the row of so many values that stands here; where there are no columns, or nothing is left, no row can
+-- the row of this many values that is here; if there are no columns, or nothing is left, no row can
 abbrev pub row_here : ℕ → Unread → Result (Next × Unread) RowReadFault
 row_here count left =
     if (count == 0) || (length left.bytes == 0) then Err NoEnd
     else in_part (row_at count left) >>= λ row. Ok (Row row.0, row.1)
 
--- the end word with this meaning, which stands here
+-- the end word with this meaning, which is here
 abbrev pub end_here : More → Unread → Result (Next × Unread) RowReadFault
 end_here more left = in_part (word_at left) >>= λ word. Ok (End more, word.1)
 
@@ -62,7 +62,7 @@ abbrev pub next_with : Option More → ℕ → Unread → Result (Next × Unread
 next_with (Some more) count left = end_here more left
 next_with None count left = row_here count left
 
--- what stands here: the end word, or else a row
+-- what is here: the end word, or else a row
 unfoldable pub next_at : ℕ → Unread → Result (Next × Unread) RowReadFault
 next_at count left = next_with (end_at left) count left
 
@@ -70,21 +70,21 @@ next_at count left = next_with (end_at left) count left
 abbrev pub one_before : List Value → Result ((List (List Value) × More) × Unread) RowReadFault → Result ((List (List Value) × More) × Unread) RowReadFault
 one_before values behind = behind >>= λ rest. Ok ((values ∷ rest.0.0, rest.0.1), rest.1)
 
--- what stands here, and where it is a row what is behind it
+-- what is here, and if it is a row what follows it
 abbrev pub going_on : Next × Unread → (Unread → Result ((List (List Value) × More) × Unread) RowReadFault) → Result ((List (List Value) × More) × Unread) RowReadFault
 going_on (End more, left) behind = Ok (([], more), left)
 going_on (Row values, left) behind = one_before values (behind left)
 
--- the rows up to the end word, where at most so many bytes are left
+-- the rows up to the end word, where at most this many bytes are left
 unfoldable pub rows_at : ℕ → ℕ → Unread → Result ((List (List Value) × More) × Unread) RowReadFault
 rows_at zero count left = Err NoEnd
 rows_at (suc n) count left = next_at count left >>= λ next. going_on next (rows_at n count)
 
--- how many words n bytes are, where a part of a word counts as one
+-- how many words n bytes are, if a part of a word counts as one
 abbrev pub words_in : ℕ → ℕ
 words_in n = (n + 7) / 8
 
--- a part of these columns, behind whose end word nothing is left
+-- a part of these columns, after whose end word nothing is left
 abbrev pub ended : List (List ℕ) → (List (List Value) × More) × Unread → Result (Part × More) RowReadFault
 ended columns rows =
     if length rows.1.bytes == 0 then Ok (record { columns = columns; rows = rows.0.0 }, rows.0.1)
@@ -103,7 +103,7 @@ abbrev pub FailsReading : {X : Type 0} → RowReadFault → Result X RowReadFaul
 FailsReading NoMemory reading = Unit {0}
 FailsReading fault reading = reading ≡ Err fault
 
--- A call gave what reading gives, seen by view, and left the reader there; where it failed, the fault is that of reading.
+-- A call gave what reading gives, seen by view, and left the reader there; if it failed, the fault is that of reading.
 abbrev pub Finds : {X Y : Type 0} → (X → Y) → (Unread → Result (Y × Unread) RowReadFault) → Unread → Unread → Result X RowReadFault → Type 0
 Finds view read old new result = MatchResult result (λ x. read old ≡ Ok (view x, new)) (λ fault. FailsReading fault (read old))
 
@@ -123,7 +123,7 @@ abbrev pub IsName : List ℕ → Type 0
 IsName name = IsUtf8 name × HasNoNul name
 
 -- An answer that the wire can carry: 64 bits hold the number of columns, each row has as many values, which have
--- spellings, and where there are no columns there are no rows.
+-- encodings, and if there are no columns there are no rows.
 pub record IsSendable (columns : List (List ℕ)) (rows : Rows) : Type 0 where
   pub count_fits : length columns < 2 ^ 64
   pub names : AllByRecursion IsName columns

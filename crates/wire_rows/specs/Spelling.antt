@@ -12,7 +12,7 @@ abbrev pub names_bytes : List (List ℕ) → List ℕ
 names_bytes [] = []
 names_bytes (name ∷ names) = text name ++ names_bytes names
 
--- what stands before the rows
+-- what is before the rows
 abbrev pub head_bytes : List (List ℕ) → List ℕ
 head_bytes columns = word (length columns) ++ names_bytes columns
 
@@ -34,6 +34,6 @@ body_bytes columns rows more = head_bytes columns ++ (rows_bytes rows ++ end_wor
 abbrev pub HaveNoNul : List (List ℕ) → Type 0
 HaveNoNul names = AllByRecursion HasNoNul names
 
--- each row has so many values
+-- each row has this many values
 abbrev pub HaveWidth : ℕ → List (List Value) → Type 0
 HaveWidth width rows = AllByRecursion (λ values. length values ≡ width) rows

@@ -30,7 +30,7 @@ impl<'a> Columns<'a> {
         }
     }
 
-    /// How many of the rows the first part takes: at least one, where there are any.
+    /// How many of the rows the first part takes: at least one, if there are any.
     #[tactic(auto, using(crate::proofs::Greedy::size_more, crate::proofs::Greedy::first_at, crate::proofs::Greedy::first_all))]
     fn first_count(&self, rows: &[Row]) -> usize
         ensures { result ≡ min (first_count self.now.names.now rows.now) (length rows.now) }
@@ -45,7 +45,7 @@ impl<'a> Columns<'a> {
         rows.len()
     }
 
-    /// The rows of the first part, and the rows behind it.
+    /// The rows of the first part, and the rows after it.
     pub(crate) fn split<'r>(&self, rows: &'r [Row]) -> (&'r [Row], &'r [Row])
         ensures first { result.0.now ≡ take (first_count self.now.names.now rows.now) rows.now }
         ensures rest { result.1.now ≡ drop (first_count self.now.names.now rows.now) rows.now }

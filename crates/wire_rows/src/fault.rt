@@ -7,13 +7,13 @@ use std::alloc::{AllocError, AllocFailed};
 use thiserror::Error;
 use wire_words::WordFault;
 
-/// Why an answer can't be cut into parts.
+/// Why an answer can't be split into parts.
 #[derive(Clone, Copy, Debug, PartialEq, Eq, Error)]
 pub enum RowFault {
     /// A text holds a NUL, so that the wire can't carry it. The numbers are the row's and the column's, from 0.
     #[error("the text in row {0}, column {1} holds a NUL")]
     Nul(u64, u64),
-    /// The bodies of all parts together have so many bytes, which is more than 16,777,216.
+    /// The bodies of all parts together have this many bytes, which is more than 16,777,216.
     #[error("the answer has {0} bytes")]
     TooBig(u64),
     /// There is not enough memory.
@@ -47,7 +47,7 @@ pub enum RowReadFault {
     /// follows their number.
     #[error("the part has no end word")]
     NoEnd,
-    /// So many words follow the end word.
+    /// This many words follow the end word.
     #[error("{0} words follow the end word")]
     Tail(u64),
     /// There is not enough memory.

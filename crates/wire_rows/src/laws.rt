@@ -22,7 +22,7 @@ pub fn parts_read_back()
         map part_of (bodies columns (cut columns rows)) ≡ read_as columns (cut columns rows) }
 {}
 
-/// No row begins as an end word does: its first byte is neither FF nor EE, where it has a value.
+/// No row begins as an end word does: its first byte is neither FF nor EE, if it has a value.
 pub fn end_words_begin_no_row()
     ensures last { (values : List Value) → values ≢ [] → slice_index (row values) 0 ≢ 255 }
     ensures follows { (values : List Value) → values ≢ [] → slice_index (row values) 0 ≢ 238 }

@@ -1,5 +1,5 @@
-//! The rows of an answer in dqlite's wire protocol, version 1: the bodies of ROWS messages. An answer is cut into parts,
-//! each the body of a message of its own, and a client reads them back one by one.
+//! The rows of an answer in dqlite's wire protocol, version 1: the bodies of ROWS messages. An answer is split into parts,
+//! each the body of its own message, and a client reads them back one by one.
 //!
 //! A body is the number of columns in a word, the names of the columns, rows, and an end word: eight bytes FF in the last
 //! part, and eight bytes EE in the others.

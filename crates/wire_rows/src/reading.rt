@@ -9,14 +9,14 @@ use dq_base::Items;
 use std::alloc::Global;
 use wire_words::{WireText, WordFault, Words};
 
-/// What stands next in the body of a part.
+/// What comes next in the body of a part.
 #[derive(Drop)]
 pub(crate) enum Next {
     Row(Row),
     End(More),
 }
 
-/// The names of so many columns. Takes memory for those that are there.
+/// The names of this many columns. Takes memory for those that are there.
 fn names(alloc: Global, words: &mut Words<'_>, count: u64) -> Result<Vec<WireText>, WordFault>
     ensures { FindsItems (λ names. names.items) (names_at count) words.old words.new result }
 {
@@ -28,7 +28,7 @@ fn names(alloc: Global, words: &mut Words<'_>, count: u64) -> Result<Vec<WireTex
     Ok(names)
 }
 
-/// The end word that stands next, which the reader then has passed, or none.
+/// The end word that comes next, which the reader then has passed, or none.
 #[tactic(auto, unfolding(crate::specs::Reading::end_at))]
 fn end_word(words: &mut Words<'_>) -> Option<More>
     ensures which { result ≡ end_at words.old }
@@ -81,14 +81,14 @@ fn rows(alloc: Global, words: &mut Words<'_>, count: u64) -> Result<(Vec<Row>, M
     Err(RowReadFault::NoEnd)
 }
 
-/// Reads the body of a part: the number of columns, their names, and rows up to the end word, which tells whether another
+/// Reads the body of a part: the number of columns, their names, and rows up to the end word, which says whether another
 /// part follows. With columns no row begins as an end word does.
 ///
 /// The first fault comes. `Word` names the first item that is at fault: the number, a name, the codes of a row, which are
 /// one item, or a value. `NoEnd` comes where the body ends at a place where a row or the end word would begin, and, where
-/// there are no columns, where something else than an end word follows the number. `Tail` has the number of words behind
-/// the end word, where a part of a word counts as one. `NoMemory` means out of memory. The names and the values are
-/// copied once, and no room is taken ahead for the names that the number claims.
+/// there are no columns, if something else than an end word follows the number. `Tail` has the number of words after
+/// the end word, if a part of a word counts as one. `NoMemory` means out of memory. The names and the values are
+/// copied once, and no room is taken ahead for the names that the number states.
 #[tactic(auto, unfolding(crate::specs::Reading::part_of))]
 pub fn read_part(alloc: Global, body: &[u8]) -> Result<(Part, More), RowReadFault>
     ensures { Gives (part_of body.now) result }

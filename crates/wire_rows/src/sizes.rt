@@ -9,7 +9,7 @@ use wire_words::{Value, WireText};
 
 // Sizes in bytes, of which none is above the last number of 64 bits: a sum stops there.
 
-/// So many bytes, filled up to whole words.
+/// This many bytes, filled up to whole words.
 #[tactic(auto, using(crate::proofs::Lengths::rounded_up))]
 fn filled(len: u64) -> u64
     ensures { result ≡ held (len + gap len) }
@@ -53,7 +53,7 @@ pub(crate) fn row_size(contents: &[Value]) -> u64
     size
 }
 
-/// What stands before the rows of each part: the number of columns and their names.
+/// What is before the rows of each part: the number of columns and their names.
 pub(crate) fn head_size(columns: &[WireText]) -> u64
     ensures { result ≡ held (length (head_bytes columns.now)) }
 {
@@ -64,7 +64,7 @@ pub(crate) fn head_size(columns: &[WireText]) -> u64
     size
 }
 
-/// So many bytes, and then these rows.
+/// This many bytes, and then these rows.
 pub(crate) fn with_rows(size: u64, rows: &[Row]) -> u64
     ensures { result ≡ held (size + length (rows_bytes rows.now)) }
 {

@@ -98,13 +98,13 @@ fn all_bodies(
 }
 
 /// Cuts an answer into parts, and gives their bodies in order. Each row must have as many values as there are columns, and
-/// where there are no columns there can be no rows. No name of a column may hold a NUL.
+/// if there are no columns there can be no rows. No name of a column may hold a NUL.
 ///
 /// The first part takes as many rows as have room in 65,536 bytes together with the number and the names of the columns and
-/// the end word, or one row where none has room; the parts after it are cut from the rows behind in the same way. An answer
+/// the end word, or one row where none has room; the parts after it are cut from the rows after in the same way. An answer
 /// without rows is one part.
 ///
-/// `Nul` names the first text with a NUL, by rows and then columns. Else `TooBig` comes exactly where all bodies together
+/// `Nul` names the first text with a NUL, by rows and then columns. Else `TooBig` comes exactly if all bodies together
 /// have more than 16,777,216 bytes, with their number, or 18,446,744,073,709,551,615 where it is above that. `NoMemory`
 /// means out of memory.
 ///

@@ -246,7 +246,7 @@ fn message_in(alloc: Global, bytes: &[u8]) -> Option<Message> {
     message(alloc, bytes[4], bytes[5], &bytes[8..]).ok()
 }
 
-/// What is written of a request, where it can be written.
+/// What is written of a request, if it can be written.
 fn request_written(alloc: Global, request: &Request) -> Option<WireBytes> {
     if request_fits(request) {
         write_request(alloc, request).ok()
@@ -301,7 +301,7 @@ fn response_fits(response: &Response) -> bool
     }
 }
 
-/// What is written of a response, where it can be written.
+/// What is written of a response, if it can be written.
 fn response_written(alloc: Global, response: &Response) -> Option<WireBytes> {
     if response_fits(response) {
         write_response(alloc, response).ok()

@@ -10,7 +10,7 @@ fn text(alloc: Global, text: &str) -> Result<WireText, AllocError> {
     Ok(WireText::new(String::from_str(alloc, text)?))
 }
 
-/// So many columns of one name.
+/// This many columns of one name.
 #[tactic(auto, using(crate::proofs::Tables::one_name_more))]
 fn columns(alloc: Global, count: usize) -> Result<Vec<WireText>, AllocError>
     ensures names { IfOk result (λ names. HaveNoNul names.items) }
@@ -24,7 +24,7 @@ fn columns(alloc: Global, count: usize) -> Result<Vec<WireText>, AllocError>
     Ok(names)
 }
 
-/// So many rows of one integer.
+/// This many rows of one integer.
 #[tactic(auto, using(crate::proofs::Tables::one_row_more))]
 fn integers(alloc: Global, count: usize) -> Result<Vec<Row>, AllocError>
     ensures { IfOk result (λ rows. HaveWidth 1 rows.items) }
@@ -84,7 +84,7 @@ fn a_row(rt: HostRuntime) -> Result<(), Fail> {
     Ok(())
 }
 
-/// The bodies of so many rows of one integer.
+/// The bodies of this many rows of one integer.
 fn parts_of_integers(alloc: Global, count: usize) -> Result<Vec<WireBytes>, RowFault> {
     let names = columns(alloc, 1)?;
     let rows = integers(alloc, count)?;
@@ -102,10 +102,10 @@ fn size_end_rows(alloc: Global, bodies: &[WireBytes], place: usize) -> Option<(u
     Some((body.len(), end[0], rows))
 }
 
-/// How long the body of a part is and how it ends, and how many rows are read in it, where it is there.
+/// How long the body of a part is and how it ends, and how many rows are read in it, if it is there.
 type SizeEndRows = Option<(usize, u8, usize)>;
 
-/// That of the first two parts of so many rows of one integer.
+/// That of the first two parts of this many rows of one integer.
 fn first_two(alloc: Global, count: usize) -> Result<(SizeEndRows, SizeEndRows), RowFault> {
     let bodies = parts_of_integers(alloc, count)?;
     Ok((
@@ -133,7 +133,7 @@ fn fault_of_text(alloc: Global, content: &str) -> Result<Option<RowFault>, Alloc
     Ok(parts_of_row(alloc, values).err())
 }
 
-/// The fault of a row of one blob with so many bytes.
+/// The fault of a row of one blob with this many bytes.
 fn fault_of_blob(alloc: Global, size: usize) -> Result<Option<RowFault>, AllocError> {
     let bytes = WireBytes::new(vec![in alloc; 0; size]?);
     let values = vec![in alloc; Value::Blob(bytes)]?;
@@ -152,7 +152,7 @@ fn refusals(rt: HostRuntime) {
     );
 }
 
-/// What is read in the only part of an answer without rows that has so many columns.
+/// What is read in the only part of an answer without rows that has this many columns.
 fn read_without_rows(alloc: Global, count: usize) -> Option<(usize, usize, More)> {
     let names = columns(alloc, count).ok()?;
     let bodies = parts(alloc, names.as_slice(), &[]).ok()?;

@@ -41,8 +41,8 @@ fn streams_are_cut(rt: HostRuntime) {
     }
 }
 
-/// The fault that a splitter tells of a piece behind a version word, and how many messages come of that piece and these bytes,
-/// where a peer's messages follow behind the piece.
+/// The fault that a splitter reports of a piece after a version word, and how many messages come of that piece and these bytes,
+/// if a peer's messages follow after the piece.
 fn peers(alloc: Global, piece: &[u8], behind: &[u8]) -> (Option<SplitFault>, Option<usize>) {
     let mut splitter = Splitter::after_version(alloc);
     let Ok(first) = splitter.feed(piece) else {
@@ -77,7 +77,7 @@ fn peers_may_send_longer_messages(rt: HostRuntime) {
     }
 }
 
-/// The fault of a piece, and then that of a byte, behind the messages that one piece gave; and what is held then.
+/// The fault of a piece, and then that of a byte, after the messages that one piece gave; and what is held then.
 fn faults_behind(alloc: Global, stream: &[u8], piece: &[u8]) -> Option<([SplitFault; 2], u64)> {
     let mut splitter = Splitter::after_version(alloc);
     splitter.feed(stream).ok()?;
@@ -103,7 +103,7 @@ fn large_message(alloc: Global) -> Result<WireBytes, AllocError> {
     writer.finish_message()
 }
 
-/// How many bytes the blob of the last message has, where there is a message.
+/// How many bytes the blob of the last message has, if there is a message.
 fn blob_size(alloc: Global, messages: &[Message]) -> Option<u64> {
     let blob = Words::new(messages.last()?.body.as_slice())
         .blob(alloc)

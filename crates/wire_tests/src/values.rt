@@ -32,7 +32,7 @@ fn are_as(values: &[Value], wanted: &[Wanted]) -> bool {
             .all(|(value, wanted)| is_as(value, wanted))
 }
 
-/// How values stand in a body: as a tuple, as a wide one, as a row of so many, or alone with these types.
+/// How values are in a body: as a tuple, as a wide one, as a row of this many, or alone with these types.
 #[derive(Clone, Copy)]
 enum Form {
     Tuple,
@@ -83,7 +83,7 @@ fn writes_back(
     Ok(writer.finish().as_slice() == bytes)
 }
 
-/// Whether a body is read as these values alone, and is written back so where it is exact, and otherwise where not.
+/// Whether a body is read as these values alone, and is written back so if it is exact, and otherwise where not.
 fn values_pass(
     alloc: Global,
     form: Form,
@@ -165,7 +165,7 @@ const TUPLES_AND_ROWS: &[(Form, &[u8], &[Wanted], bool)] = &[
     ),
 ];
 
-// The head of the second tuple is one that a real client sent, with bytes of an earlier request behind its code. The
+// The head of the second tuple is one that a real client sent, with bytes of an earlier request after its code. The
 // first wide tuple is that of a real EXEC.
 #[test]
 fn values_are_read_and_written_back(rt: HostRuntime) {
@@ -228,7 +228,7 @@ fn faulty_values(rt: HostRuntime) {
     }
 }
 
-/// What is written of a value, where it can be written.
+/// What is written of a value, if it can be written.
 fn value_again(alloc: Global, value: &Value) -> Result<Option<WireBytes>, AllocError> {
     if !value.is_writable() {
         return Ok(None);

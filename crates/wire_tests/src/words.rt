@@ -15,7 +15,7 @@ fn headers(rt: HostRuntime) {
     );
 }
 
-/// A word and a pair, and behind them the faults of another word and another pair with the place and what is left then.
+/// A word and a pair, and after them the faults of another word and another pair with the place and what is left then.
 fn numbers_of(body: &[u8]) -> Option<(u64, (u32, u32), [WordFault; 2], u64, u64)> {
     let mut words = Words::new(body);
     let word = words.u64().ok()?;
@@ -39,7 +39,7 @@ fn numbers(rt: HostRuntime) {
     );
 }
 
-/// What is written of a text, where it can be written.
+/// What is written of a text, if it can be written.
 fn text_again(alloc: Global, text: &WireText) -> Result<Option<WireBytes>, AllocError> {
     if text.has_nul() {
         return Ok(None);
@@ -135,7 +135,7 @@ fn is_copy(copied: Result<WireBytes, WordFault>, lent: Result<&[u8], WordFault>)
     }
 }
 
-/// A reader behind the first word of a body.
+/// A reader after the first word of a body.
 fn behind_word(body: &[u8]) -> Words<'_> {
     let mut words = Words::new(body);
     let _word = words.u64();

@@ -31,7 +31,7 @@ part_not_long : (b : Bool) (f : Front) (words : ℕ) → cond b Part f ≡ Long 
 part_not_long true f words e = absurd cc
 part_not_long false f words e = (refl, e)
 
--- a message stands at the front
+-- a message is at the front
 pub record IsWhole (limit : ℕ) (bytes : List ℕ) (m : Message) (rest : List ℕ) : Type 0 where
   pub head : ltb (length bytes) 8 ≡ false
   pub few : ltb limit (header_of bytes).words ≡ false
@@ -104,9 +104,9 @@ messages_long limit bytes words e = messages_by_front limit bytes ∙ ap (λ (f 
 pub messages_whole : (limit : ℕ) (bytes : List ℕ) (m : Message) (rest : List ℕ) → front limit bytes ≡ Whole m rest → messages_in limit bytes ≡ one_before m (messages_in limit rest)
 messages_whole limit bytes m rest e = messages_by_front limit bytes ∙ ap (λ (f : Front). taken bytes f (messages_in limit)) e
 
--- ---- more bytes behind
+-- ---- more bytes after
 
--- more bytes behind four or eight leave what a header says
+-- more bytes after four or eight leave what a header says
 header_front : (bytes more : List ℕ) → 8 ≤ length bytes → header_of (bytes ++ more) ≡ header_of bytes
 header_front (a ∷ b ∷ c ∷ d ∷ e ∷ f ∷ g ∷ h ∷ bytes) more long = refl
 header_front _ more long = absurd (omega arith)
@@ -126,7 +126,7 @@ pub front_is_with : (limit : ℕ) (bytes : List ℕ) → ltb (length bytes) 8 �
 unfolding front
 front_is_with limit bytes e = ap (λ (b : Bool). cond b Part (front_with limit (header_of bytes) (drop 8 bytes))) e
 
--- what stands behind a header, by the tests of it
+-- what follows a header, by the tests of it
 abbrev whole_with : Header → List ℕ → Front
 whole_with h behind = Whole (message_with h (take (body_size h) behind)) (drop (body_size h) behind)
 
@@ -216,11 +216,11 @@ joined_by zero limit bytes more below =
 joined_by (suc n) limit bytes more below =
     joined_case limit bytes more (front limit bytes) refl (λ m rest e. joined_by n limit rest more (omega (arith, whole_shorter limit bytes m rest e, below)))
 
--- bytes behind a version word, and more bytes
+-- bytes after a version word, and more bytes
 pub messages_joined : (limit : ℕ) (bytes more : List ℕ) → messages_in limit (bytes ++ more) ≡ added limit (messages_in limit bytes) more
 messages_joined limit bytes more = joined_by (length bytes) limit bytes more (omega arith)
 
--- a whole word is read the same with more bytes behind it
+-- a whole word is read the same with more bytes after it
 pub word_front : (bytes more : List ℕ) → 8 ≤ length bytes → little_number 8 (bytes ++ more) ≡ little_number 8 bytes
 word_front (a ∷ b ∷ c ∷ d ∷ e ∷ f ∷ g ∷ h ∷ bytes) more long = refl
 word_front _ more long = absurd (omega arith)

@@ -1,4 +1,4 @@
--- What a splitter holds, and what it stands for.
+-- What a splitter holds, and what it represents.
 use Rattle.std.proofs.Common.{◌≡◌, ◌+◌, ℕ, Bool, true, false, List, [], length, take, Option, Some, None, is_some, refl, ap, arith}
 use Rattle.std.proofs.lemmas.List.{length-append, length-take-le}
 use Rattle.wire_words.specs.declared.splitter.SplitFault.{SplitFault}
@@ -12,7 +12,7 @@ head_short u head nothing =
     let front = length-take-le u.head_len u.head (omega (arith, head.width, head.short)) in
     omega (arith, size, front, length-append (take u.head_len u.head) u.body.items)
 
--- where nothing is unread, no message is whole
+-- if nothing is unread, no message is whole
 pub holds_nothing : (limit : ℕ) (u : Unfinished) → IsHead u → held_bytes u ≡ [] → Holds limit u
 unfolding front
 holds_nothing limit u head nothing = record {

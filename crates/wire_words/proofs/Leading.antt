@@ -35,7 +35,7 @@ step_short limit false bytes piece whole e lt = ap (stream limit) (sym e) ∙ st
 
 -- ---- a piece that completes a head
 
--- the unread bytes and the piece are the whole head, the body so far and what is behind
+-- the unread bytes and the piece are the whole head, the body so far and what follows
 pub whole_bytes : (u : Unfinished) (piece head behind : List ℕ) (len : ℕ) → IsHead u → len ≡ 8 → length head ≡ 8
     → take u.head_len u.head ++ piece ≡ take len head ++ behind → (u.head_len ≡ 8 → (len ≡ 8) × (head ≡ u.head) × (behind ≡ piece))
     → held_bytes u ++ piece ≡ head ++ (u.body.items ++ behind)
@@ -89,12 +89,12 @@ part_case true c words m r e = absurd cc
 part_case false true words m r e = refl
 part_case false false words m r e = absurd cc
 
--- a part of a message has fewer bytes than its header claims
+-- a part of a message has fewer bytes than its header states
 part_short : (limit : ℕ) (h : Header) (behind : List ℕ) → front_with limit h behind ≡ Part → length behind < body_size h
 part_short limit h behind e =
     ltb-true (length behind) (body_size h) (part_case (ltb limit h.words) (ltb (length behind) (body_size h)) h.words (message_with h (take (body_size h) behind)) (drop (body_size h) behind) e)
 
--- what is held behind a whole head has room in the message
+-- what is held after a whole head has room in the message
 pub body_fits : (limit : ℕ) (u : Unfinished) → Holds limit u → (head : List ℕ) → (u.head_len ≡ 8 → head ≡ u.head) → length u.body.items ≤ body_size (header_of head)
 body_fits limit u h head same =
     elim (cases_lt u.head_len 8) [
@@ -156,7 +156,7 @@ short_piece limit ms u next piece behind h none same lt width bytes all kept =
       },
     )
 
--- a whole head with what is behind it, where no version word was read
+-- a whole head with what follows it, if no version word was read
 pub step_opening : (limit : ℕ) (u : Unfinished) (piece head behind : List ℕ) → Holds limit u → u.begun ≡ false → length head ≡ 8 → held_bytes u ++ piece ≡ head ++ (u.body.items ++ behind)
     → going_on limit (end_with None u.begun (held_bytes u)) piece ≡ versioned limit (little_number 8 head) behind
 step_opening limit u piece head behind h begun width whole =

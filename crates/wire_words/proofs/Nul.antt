@@ -1,4 +1,4 @@
--- A text is read exactly where its spelling stands.
+-- A text is read exactly if the bytes are its encoding.
 use Rattle.std.proofs.Common.{◌≡◌, ℕ, suc, ◌+◌, ◌<◌, Bool, true, false, not, cond, ltb, ◌||◌, List, [], ◌∷◌, ◌++◌, length, take, drop, get_or, Option, Some, None, Ok, Err, refl, sym, ap, subst, ◌∙◌, append_assoc, arith}
 use Rattle.std.specs.Prelude.{IsUtf8}
 use Rattle.std.specs.List.{list_any, position, prefix_len}
@@ -54,7 +54,7 @@ nul_found bytes n e =
       through = take_more bytes n 0 p.0 ∙ ap (λ (b : ℕ). take n bytes ++ b ∷ []) (eqb-true _ _ p.1);
     }
 
--- ---- a spelling by the relation and by the function
+-- ---- an encoding by the relation and by the function
 
 pub text_is_spelled : (t : List ℕ) → IsUtf8 t → HasNoNul t → IsText t (text t)
 text_is_spelled t utf8 no_nul = record { utf8 = utf8; no_nul = no_nul; padded = raw_is_padded (t ++ 0 ∷ []) }

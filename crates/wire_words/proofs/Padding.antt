@@ -1,4 +1,4 @@
--- Bytes that zeros fill up to a whole word are read exactly where their spelling stands.
+-- Bytes that zeros fill up to a whole word are read exactly if the bytes are their encoding.
 use Rattle.std.proofs.Common.{◌≡◌, ℕ, zero, suc, ◌+◌, ◌%◌, ◌<◌, ◌≤◌, Bool, true, false, cond, ltb, ◌&&◌, List, [], ◌∷◌, ◌++◌, length, take, drop, replicate, Ok, Err, refl, sym, ap, ◌∙◌, append_assoc, arith}
 use Rattle.std.specs.List.{list_all}
 use Rattle.std.proofs.lemmas.Bool.{ltb-false, le-ltb, eqb-true}
@@ -25,7 +25,7 @@ all_zeros (suc n) = all_zeros n
 pub gap_is : (n filling : ℕ) → filling < 8 → (n + filling) % 8 ≡ 0 → filling ≡ gap n
 gap_is n filling few whole = omega arith
 
--- ---- a spelling by the relation and by the function
+-- ---- an encoding by the relation and by the function
 
 pub raw_is_padded : (bytes : List ℕ) → IsPadded bytes (raw bytes)
 raw_is_padded bytes =
@@ -40,7 +40,7 @@ padded_is_raw bytes padded p =
 
 -- ---- reading
 
--- a reader found so many bytes, which are these, with their zeros
+-- a reader found this many bytes, which are these, with their zeros
 pub record IsFilled (size : ℕ) (old new : Unread) (bytes : List ℕ) : Type 0 where
   pub room : ltb (length old.bytes) (size + gap size) ≡ false
   pub zeros : are_zeros size (gap size) old.bytes ≡ true

@@ -1,4 +1,4 @@
--- Parts that stand one after the other, and bytes that are filled up, are read exactly where their spelling stands.
+-- Parts that stand one after the other, and bytes that are filled up, are read exactly if the bytes are their encoding.
 use Rattle.std.proofs.Common.{◌≡◌, ℕ, ◌+◌, ◌%◌, ◌≤◌, false, cond, ltb, List, ◌++◌, length, take, drop, Ok, Err, refl, sym, ap, subst, ◌∙◌, append_assoc, arith}
 use Rattle.std.specs.List.{list_all}
 use Rattle.std.proofs.lemmas.Bool.{ltb-false, le-ltb}

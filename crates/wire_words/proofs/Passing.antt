@@ -12,7 +12,7 @@ use Rattle.wire_words.proofs.Parts.{blob_took, blob_again}
 use Rattle.wire_words.proofs.Nul.{text_took, text_again, text_is_spelled, spelled_is_text}
 use Rattle.wire_words.proofs.Numbers.{AreBytes-take, AreBytes-drop}
 
--- these bytes stood between two states of a reader
+-- these bytes were between two states of a reader
 pub record Passed (item : List ℕ) (old new : Unread) : Type 0 where
   pub parts : old.bytes ≡ item ++ new.bytes
   pub place : new.at ≡ old.at + length item

@@ -1,4 +1,4 @@
--- A word is read exactly where its spelling stands.
+-- A word is read exactly if the bytes are its encoding.
 use Rattle.std.proofs.Common.{◌≡◌, ℕ, ◌+◌, ◌^◌, ◌<◌, ◌≤◌, Bool, true, false, cond, ltb, List, ◌++◌, length, take, drop, Result, Ok, Err, refl, sym, ap, ◌∙◌, append_assoc, arith}
 use Rattle.std.proofs.lemmas.Bool.{ltb-false, le-ltb}
 use Rattle.std.proofs.lemmas.List.{take-append-drop, take-take, drop-take, length-append, length-drop, drop_at}
@@ -38,7 +38,7 @@ at_place place bytes = record { at = place; bytes = bytes }
 pub same_unread : (a b : Unread) → a.at ≡ b.at → a.bytes ≡ b.bytes → a ≡ b
 same_unread a b e f = ap (λ (place : ℕ). at_place place a.bytes) e ∙ ap (at_place b.at) f
 
--- what stood after n bytes, where they are the item
+-- what was after n bytes, if they are the item
 pub past_is : (old new : Unread) (item : List ℕ) → old.bytes ≡ item ++ new.bytes → new.at ≡ old.at + length item → past (length item) old ≡ new
 past_is old new item parts place =
     same_unread (past (length item) old) new (sym place) (ap (drop (length item)) parts ∙ drop_at item new.bytes (length item) refl)

@@ -1,4 +1,4 @@
--- The steps of loops that read items: so many of them, or one for each element of a list; and of those that read types.
+-- The steps of loops that read items: this many of them, or one for each element of a list; and of those that read types.
 use Rattle.std.proofs.Common.{◌≡◌, ℕ, suc, ◌+◌, ◌-◌, ◌<◌, ◌≤◌, ◌/◌, ◌%◌, List, [], ◌∷◌, ◌++◌, length, get_or, drop, Option, Some, None, Result, Ok, Err, refl, sym, ap, ◌∙◌, append_assoc, arith}
 use Rattle.std.proofs.lemmas.List.{append-nil, at_drop_more, at_drop_all}
 use Rattle.wire_words.specs.declared.fault.WordFault.{WordFault}
@@ -26,7 +26,7 @@ fails_so (faults.Pad n) step whole so fails = so (faults.Pad n) fails
 fails_so (faults.BadCode n m) step whole so fails = so (faults.BadCode n m) fails
 fails_so (faults.Float n) step whole so fails = so (faults.Float n) fails
 
--- ---- so many items
+-- ---- this many items
 
 pub many_more : {A : Type 0} (one : Unread → Result (A × Unread) WordFault) (front : List A) (count i : ℕ) (left next : Unread) (x : A) (total : Result (List A × Unread) WordFault) → i < count → one left ≡ Ok (x, next)
     → with_front front (many_at one (count - i) left) ≡ total → with_front (front ++ x ∷ []) (many_at one (count - (i + 1)) next) ≡ total

@@ -1,4 +1,4 @@
--- Rows are read exactly where their spelling stands.
+-- Rows are read exactly if the bytes are their encoding.
 use Rattle.std.proofs.Common.{◌≡◌, ℕ, zero, suc, ◌+◌, ◌-◌, ◌*◌, ◌/◌, ◌%◌, ◌<◌, ◌≤◌, Bool, true, false, ◌&&◌, cond, eqb, List, [], ◌∷◌, ◌++◌, length, take, drop, get_or, replicate, Option, Some, None, Ok, Err, inl, inr, refl, sym, ap, subst, ◌∙◌, arith}
 use Rattle.std.specs.List.{list_all, list_any}
 use Rattle.std.proofs.lemmas.Bool.{eqb-true}
@@ -30,7 +30,7 @@ pub split_length : (bytes : List ℕ) → length (split_halves bytes) ≡ 2 * le
 split_length [] = refl
 split_length (b ∷ bytes) = omega (arith, split_length bytes)
 
--- where all halves are zeros, all bytes are
+-- if all halves are zeros, all bytes are
 zero_halves : (bytes : List ℕ) → AreBytes bytes → list_all is_zero (split_halves bytes) ≡ true → bytes ≡ replicate (length bytes) 0
 zero_halves [] fits e = refl
 zero_halves (b ∷ bytes) fits e =
@@ -39,7 +39,7 @@ zero_halves (b ∷ bytes) fits e =
     let is : b ≡ 0 = omega (arith, eqb-true (b % 16) 0 low.0, eqb-true (b / 16) 0 high.0) in
     ap (λ (x : ℕ). x ∷ bytes) is ∙ ap (λ (xs : List ℕ). 0 ∷ xs) (zero_halves bytes (λ i. fits (suc i)) high.1)
 
--- Bytes whose halves are so many numbers and then zeros are the halves of these numbers and then zeros.
+-- Bytes whose halves are this many numbers and then zeros are the halves of these numbers and then zeros.
 joined_halves : (count : ℕ) (bytes : List ℕ) → AreBytes bytes → count ≤ 2 * length bytes → list_all is_zero (drop count (split_halves bytes)) ≡ true
     → bytes ≡ halves (take count (split_halves bytes)) ++ replicate (length bytes - (count + 1) / 2) 0
 joined_halves zero bytes fits le e =

@@ -1,4 +1,4 @@
--- Each value, tuple and row has one spelling, and what is written is among what is read.
+-- Each value, tuple and row has one encoding, and what is written is among what is read.
 use Rattle.std.proofs.Common.{◌≡◌, ℕ, ◌^◌, ◌<◌, List, [], ◌∷◌, ◌++◌, length, replicate, refl, sym, ap, ◌∙◌, arith}
 use Rattle.std.specs.Int.{w64, cast_unsigned}
 use Rattle.std.specs.List.{AllByRecursion}

@@ -1,4 +1,4 @@
--- Tuples are read exactly where their spelling stands.
+-- Tuples are read exactly if the bytes are their encoding.
 use Rattle.std.proofs.Common.{◌≡◌, ℕ, ◌+◌, ◌^◌, ◌%◌, ◌<◌, ◌≤◌, false, ltb, List, [], ◌∷◌, ◌++◌, length, take, drop, Ok, refl, sym, ap, subst, ◌∙◌, append_assoc, arith}
 use Rattle.std.proofs.lemmas.Bool.{ltb-false, le-ltb}
 use Rattle.std.proofs.lemmas.List.{length-append, length-take-le, length-drop, take_at, drop_at, take-append-drop}
@@ -17,7 +17,7 @@ use Rattle.wire_words.proofs.ReadBack.{refused_not, ok_is, bind_ok}
 use Rattle.wire_words.proofs.Parts.{took_both, took_parts, bytes_after, client_took, client_again}
 use Rattle.wire_words.proofs.ValueLaws.{values_took, values_again, values_length, codes_read, client_types, codes_length}
 
--- a count in so many bytes is read as it was written
+-- a count in this many bytes is read as it was written
 pub record IsWidth (width : ℕ) : Type 0 where
   pub size : (n : ℕ) → length (little_bytes width n) ≡ width
   pub back : (bytes : List ℕ) → width ≤ length bytes → AreBytes bytes → little_bytes width (little_number width bytes) ≡ take width bytes

@@ -1,4 +1,4 @@
--- Values, tuples and rows are read exactly where their spelling stands.
+-- Values, tuples and rows are read exactly if the bytes are their encoding.
 use Rattle.std.proofs.Common.{◌≡◌, ℕ, suc, false, cond, eqb, List, [], ◌∷◌, ◌++◌, length, Option, Some, None, Result, Ok, Err, refl, sym, ap, subst, ◌∙◌, arith, inl, inr}
 use Rattle.std.specs.Int.{w64, cast_signed}
 use Rattle.std.specs.List.{list_any}
@@ -152,7 +152,7 @@ all_codes dialect at (n ∷ ns) ts e =
     let first : code a.0 ≡ n = with_code dialect n a.0 (known_ok at n (type_with dialect n) a.0 a.1) in
     ap codes (sym (ok_is (a.0 ∷ b.0) ts b.2)) ∙ ap (λ (m : ℕ). m ∷ codes b.0) first ∙ ap (λ (ms : List ℕ). n ∷ ms) (all_codes dialect at ns b.0 b.1)
 
--- the codes of types that were read are those that stood there
+-- the codes of types that were read are those that were there
 pub codes_read : (dialect : Dialect) (at : ℕ) (ns : List ℕ) (ts : List ValueType) → types_at dialect at ns ≡ Ok ts → codes ts ≡ ns
 unfolding types_at
 codes_read dialect at ns ts e =

@@ -26,7 +26,7 @@ part_by false limit wide bytes long le e =
     let fewer : h.words ≤ wide = omega arith in
     front_is_with wide bytes long ∙ with_part wide h behind (le-ltb _ _ fewer) a.1
 
--- a part of a message is one where a message may have more words
+-- a part of a message is one if a message may have more words
 pub part_wider : (limit wide : ℕ) (bytes : List ℕ) → limit ≤ wide → front limit bytes ≡ Part → front wide bytes ≡ Part
 part_wider limit wide bytes le e = part_by (ltb (length bytes) 8) limit wide bytes refl le e
 
@@ -79,7 +79,7 @@ stream_wider limit wide bytes le none = stream_by (ltb (length bytes) 8) limit w
 
 -- ---- splitters
 
--- the same of a splitter that was fed these bytes
+-- the same for a splitter that was fed these bytes
 pub same_stream : (old : Splitting) (wide : ℕ) (before : List ℕ) → old.limit ≤ wide → old ≡ fed old.limit before → fault_in old.end ≡ None → stream wide before ≡ stream old.limit before
 same_stream old wide before le is none =
     stream_wider old.limit wide before le (ap (λ (s : Splitting). fault_in s.end) (sym is) ∙ none)

@@ -9,7 +9,7 @@ use Rattle.wire_words.specs.declared.unfinished.Standing.{Standing}
 use Rattle.wire_words.specs.declared.unfinished.Standing.TheVariants as standings
 use Rattle.wire_words.specs.Stream.{Front, Part, Long, Whole, Stream, front, message_with, end_with}
 
--- what stands at the front, without where it lies in memory
+-- what is at the front, without where it lies in memory
 abbrev pub front_of : Standing → Front
 front_of standings.Part = Part
 front_of (standings.Long words) = Long words
@@ -19,7 +19,7 @@ front_of (standings.Whole header body rest) = Whole (message_with header body.no
 abbrev pub held_bytes : Unfinished → List ℕ
 held_bytes u = take u.head_len u.head ++ u.body.items
 
--- The head is as long as it says; a body begins behind a whole head, and behind the version word.
+-- The head is as long as it says; a body begins after a whole head, and after the version word.
 pub record IsHead (u : Unfinished) : Type 0 where
   pub width : length u.head ≡ 8
   pub short : u.head_len ≤ 8

@@ -1,4 +1,4 @@
--- Items of a body: the one spelling of each value, and which bytes spell it. Each fills whole words of eight bytes.
+-- Items of a body: the one encoding of each value, and which bytes encode it. Each fills whole words of eight bytes.
 use Rattle.std.specs.Prelude.{◌≡◌, ◌<◌, ◌^◌, ◌+◌, ◌-◌, ◌*◌, ◌/◌, ◌%◌, ◌==◌, ℕ, Bool, false, List, [], ◌∷◌, ◌++◌, length, replicate, slice_index, IsUtf8}
 use Rattle.byteorder.specs.Endian.{little_bytes}
 use Rattle.dq_base.specs.Names.{has_nul}
@@ -49,22 +49,22 @@ pub record IsPadded (bytes padded : List ℕ) : Type 0 where
   pub parts : padded ≡ bytes ++ replicate zeros 0
   pub whole : length padded % 8 ≡ 0
 
--- these bytes spell the number
+-- these bytes encode the number
 pub record IsWord (n : ℕ) (bytes : List ℕ) : Type 0 where
   pub fits : n < 2 ^ 64
   pub parts : bytes ≡ little_bytes 8 n
 
--- these bytes spell the two numbers
+-- these bytes encode the two numbers
 pub record IsPair (first second : ℕ) (bytes : List ℕ) : Type 0 where
   pub first_fits : first < 2 ^ 32
   pub second_fits : second < 2 ^ 32
   pub parts : bytes ≡ little_bytes 4 first ++ little_bytes 4 second
 
--- these bytes spell the bytes: they themselves, and zeros
+-- these bytes encode the bytes: they themselves, and zeros
 abbrev pub IsRaw : List ℕ → List ℕ → Type 0
 IsRaw content bytes = IsPadded content bytes
 
--- these bytes spell the text: UTF-8 without a NUL, one NUL, and zeros
+-- these bytes encode the text: UTF-8 without a NUL, one NUL, and zeros
 pub record IsText (t bytes : List ℕ) : Type 0 where
   pub utf8 : IsUtf8 t
   pub no_nul : HasNoNul t

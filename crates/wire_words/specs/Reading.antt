@@ -72,20 +72,20 @@ text_to (Some n) left = text_of n left
 unfoldable pub text_at : Unread → Result (List ℕ × Unread) WordFault
 text_at left = text_to (position is_zero left.bytes) left
 
--- so many bytes of an item that begins at this place, and what fills them up to a whole word
+-- this many bytes of an item that begins at this place, and what fills them up to a whole word
 abbrev pub filled_at : Dialect → ℕ → ℕ → Unread → Result (List ℕ × Unread) WordFault
 filled_at dialect at size left =
     if nat_lt (length left.bytes) (size + gap size) then Err (Short at)
     else if may_fill dialect (take (gap size) (drop size left.bytes)) then Ok (take size left.bytes, past (size + gap size) left)
     else Err (Pad at)
 
--- a blob: the number of its bytes in a word, and so many bytes with what fills them up
+-- a blob: the number of its bytes in a word, and this many bytes with what fills them up
 unfoldable pub blob_at : Dialect → Unread → Result (List ℕ × Unread) WordFault
 blob_at dialect left = do
   size ← word_at left
   filled_at dialect left.at size.0 size.1
 
--- so many items, one after the other
+-- this many items, one after the other
 unfoldable pub many_at : {A E : Type 0} → (Unread → Result (A × Unread) E) → ℕ → Unread → Result (List A × Unread) E
 many_at one zero left = Ok ([], left)
 many_at one (suc count) left = do
@@ -112,11 +112,11 @@ abbrev pub Gives : {X Y : Type 0} → (X → Y) → (Unread → Result (Y × Unr
 Gives view read old new result =
     MatchResult result (λ x. read old ≡ Ok (view x, new)) (λ e. (new ≡ old) × Fails e (read old))
 
--- The same of several items, one after the other, where nothing is said of where a fault leaves the reader.
+-- What a reader of several items gave, one after the other, is what reading gives; nothing is said of where a fault leaves the reader.
 abbrev pub Finds : {X Y : Type 0} → (X → Y) → (Unread → Result (Y × Unread) WordFault) → Unread → Unread → Result X WordFault → Type 0
 Finds view read old new result = MatchResult result (λ x. read old ≡ Ok (view x, new)) (λ e. Fails e (read old))
 
--- What stood between two states of a reader is an item.
+-- What was between two states of a reader is an item.
 pub record Took (IsItem : List ℕ → Type 0) (old new : Unread) : Type 0 where
   pub item : List ℕ
   pub spelled : IsItem item

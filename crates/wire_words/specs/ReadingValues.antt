@@ -24,7 +24,7 @@ client_type dialects.Client n =
     if n == 9 then Some types.UnixTime else if n == 10 then Some types.Iso8601
     else if n == 11 then Some types.Boolean else None
 
--- the type that a number stands for
+-- the type that a number represents
 abbrev pub type_with : Dialect → ℕ → Option ValueType
 type_with dialect n =
     if n == 1 then Some types.Integer else if n == 2 then Some types.Float else if n == 3 then Some types.Text
@@ -34,7 +34,7 @@ abbrev pub known : ℕ → ℕ → Option ValueType → Result ValueType WordFau
 known at n None = Err (BadCode at n)
 known at n (Some t) = Ok t
 
--- the types of these codes, which stand in an item that begins at this place
+-- the types of these codes, which are in an item that begins at this place
 abbrev pub all_types : Dialect → ℕ → List ℕ → Result (List ValueType) WordFault
 all_types dialect at [] = Ok []
 all_types dialect at (n ∷ ns) = do
@@ -49,7 +49,7 @@ is_float _ = false
 abbrev pub no_float : ℕ → List ValueType → Result (List ValueType) WordFault
 no_float at ts = if list_any is_float ts then Err (Float at) else Ok ts
 
--- the types of these codes, of which none may be a float: a code that stands for no type is the fault before a float is
+-- the types of these codes, of which none may be a float: a code that represents no type is the fault before a float is
 unfoldable pub types_at : Dialect → ℕ → List ℕ → Result (List ValueType) WordFault
 types_at dialect at ns = all_types dialect at ns >>= no_float at
 
@@ -93,20 +93,20 @@ values_at dialect ts left = each_at (value_at dialect) ts left
 
 -- ---- tuples and rows
 
--- the head of a tuple: so many codes behind a count of this width, and what fills them up to a whole word
+-- the head of a tuple: this many codes after a count of this width, and what fills them up to a whole word
 abbrev pub codes_at : ℕ → ℕ → Unread → Result (List ValueType × Unread) WordFault
 codes_at width count left = do
   head ← filled_at dialects.Client left.at (width + count) left
   types ← types_at dialects.Client left.at (drop width head.0)
   Ok (types, head.1)
 
--- a tuple of so many values, whose count has this width
+-- a tuple of this many values, whose count has this width
 abbrev pub tuple_with : ℕ → ℕ → Unread → Result (List Value × Unread) WordFault
 tuple_with width count left = do
   types ← codes_at width count left
   values_at dialects.Client types.0 types.1
 
--- a tuple as a client writes it, with its count in so many bytes
+-- a tuple as a client writes it, with its count in this many bytes
 unfoldable pub tuple_at : ℕ → Unread → Result (List Value × Unread) WordFault
 tuple_at width left =
     if nat_lt (length left.bytes) width then Err (Short left.at)
@@ -125,24 +125,24 @@ abbrev pub split_halves : List ℕ → List ℕ
 split_halves [] = []
 split_halves (b ∷ bytes) = (b % 16) ∷ (b / 16) ∷ split_halves bytes
 
--- how many bytes so many codes of four bits fill, up to a whole word
+-- how many bytes this many codes of four bits fill, up to a whole word
 abbrev pub row_head_size : ℕ → ℕ
 row_head_size count = (count + 1) / 2 + gap ((count + 1) / 2)
 
--- the types of a row of so many values, of whose head these are the codes and the zeros behind them
+-- the types of a row of this many values, of whose head these are the codes and the zeros after them
 abbrev pub row_types : ℕ → ℕ → List ℕ → Result (List ValueType) WordFault
 row_types at count halves = do
   types ← types_at dialects.Exact at (take count halves)
   if list_all is_zero (drop count halves) then Ok types else Err (Pad at)
 
--- the head of a row of so many values: whole words with their codes
+-- the head of a row of this many values: whole words with their codes
 unfoldable pub row_head_at : ℕ → Unread → Result (List ValueType × Unread) WordFault
 row_head_at count left = do
   head ← raw_at (row_head_size count) left
   types ← row_types left.at count (split_halves head.0)
   Ok (types, head.1)
 
--- a row of so many values
+-- a row of this many values
 unfoldable pub row_at : ℕ → Unread → Result (List Value × Unread) WordFault
 row_at count left = do
   types ← row_head_at count left

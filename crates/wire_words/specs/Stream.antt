@@ -7,28 +7,28 @@ use Rattle.wire_words.specs.declared.splitter.SplitFault.{SplitFault}
 use Rattle.wire_words.specs.declared.splitter.SplitFault.TheVariants.{Version, TooLong, NoMemory}
 use Rattle.wire_words.specs.Message.{header_of}
 
--- What stands at the front of bytes that may be cut anywhere: a part of a message, a header that claims too many words,
+-- What is at the front of bytes that may end anywhere: a part of a message, a header that states too many words,
 -- or a message with what follows it.
 pub data Front : Type 0 where
   Part : Front
   Long : ℕ → Front
   Whole : Message → List ℕ → Front
 
--- how many bytes the body has that a header claims
+-- how many bytes the body has that a header states
 abbrev pub body_size : Header → ℕ
 body_size header = 8 * header.words
 
 abbrev pub message_with : Header → List ℕ → Message
 message_with header body = record { kind = header.kind; schema = header.schema; body = body }
 
--- what stands behind this header
+-- what follows this header
 abbrev pub front_with : ℕ → Header → List ℕ → Front
 front_with limit header behind =
     if nat_lt limit header.words then Long header.words
     else if nat_lt (length behind) (body_size header) then Part
     else Whole (message_with header (take (body_size header) behind)) (drop (body_size header) behind)
 
--- the front, where a message may have so many words
+-- the front, if a message may have this many words
 unfoldable pub front : ℕ → List ℕ → Front
 front limit bytes = if nat_lt (length bytes) 8 then Part else front_with limit (header_of bytes) (drop 8 bytes)
 
@@ -54,18 +54,18 @@ after_messages messages stream = record { messages = messages ++ stream.messages
 abbrev pub one_before : Message → Stream → Stream
 one_before message stream = record { messages = message ∷ stream.messages; end = stream.end }
 
--- the front of the bytes, and where that is a message what the bytes behind it are
+-- the front of the bytes, and if that is a message what the bytes after it are
 abbrev pub taken : List ℕ → Front → (List ℕ → Stream) → Stream
 taken bytes Part behind = ended (Rest bytes)
 taken bytes (Long words) behind = ended (Broken (TooLong words))
 taken bytes (Whole message rest) behind = one_before message (behind rest)
 
--- what is left of the bytes after at most so many messages were taken off their front, and these messages
+-- what is left of the bytes after at most this many messages were taken off their front, and these messages
 abbrev pub taking : ℕ → ℕ → List ℕ → Stream
 taking zero limit bytes = ended (Rest bytes)
 taking (suc n) limit bytes = taken bytes (front limit bytes) (taking n limit)
 
--- the stream that these bytes are behind a version word: each message has eight bytes or more
+-- the stream that these bytes are after a version word: each message has eight bytes or more
 unfoldable pub messages_in : ℕ → List ℕ → Stream
 messages_in limit bytes = taking (length bytes) limit bytes
 
@@ -73,7 +73,7 @@ messages_in limit bytes = taking (length bytes) limit bytes
 abbrev pub versioned : ℕ → ℕ → List ℕ → Stream
 versioned limit version behind = if version == 1 then messages_in limit behind else ended (Broken (Version version))
 
--- the stream that these bytes are, where a message may have so many words
+-- the stream that these bytes are, if a message may have this many words
 unfoldable pub stream : ℕ → List ℕ → Stream
 stream limit bytes =
     if nat_lt (length bytes) 8 then ended (Opening bytes)
@@ -97,7 +97,7 @@ fault_in (Opening bytes) = None
 fault_in (Rest bytes) = None
 fault_in (Broken fault) = Some fault
 
--- What a splitter stands for: how many words a message may have, and how the stream ends so far.
+-- What a splitter represents: how many words a message may have, and how the stream ends so far.
 pub record Splitting : Type 0 where
   pub limit : ℕ
   pub end : End
@@ -118,7 +118,7 @@ fed limit bytes = record { limit = limit; end = (stream limit bytes).end }
 abbrev pub version_word : List ℕ
 version_word = little_bytes 8 1
 
--- the messages, or where there are none the fault at the end
+-- the messages, or if there are none the fault at the end
 abbrev pub answer_of : List Message → End → Result (List Message) SplitFault
 answer_of [] (Broken fault) = Err fault
 answer_of messages end = Ok messages
@@ -127,7 +127,7 @@ answer_of messages end = Ok messages
 abbrev pub answer : Stream → Result (List Message) SplitFault
 answer stream = answer_of stream.messages stream.end
 
--- the messages were answered, or where there are none the fault
+-- the messages were answered, or if there are none the fault
 abbrev pub Answers : {X : Type 0} → (X → List Message) → List Message → Option SplitFault → Result X SplitFault → Type 0
 Answers view messages fault result =
     MatchResult result
@@ -158,7 +158,7 @@ BreaksWith NoMemory limit before after old new = new ≡ old
 BreaksWith fault limit before after old new =
     (stream limit after ≡ record { messages = (stream limit before).messages; end = Broken fault }) × (new ≡ fed limit after)
 
--- how a splitter's stream ends: by its fault, else with these bytes unread, within the version word or behind it
+-- how a splitter's stream ends: by its fault, else with these bytes unread, within the version word or after it
 abbrev pub end_with : Option SplitFault → Bool → List ℕ → End
 end_with (Some fault) begun bytes = Broken fault
 end_with None true bytes = Rest bytes

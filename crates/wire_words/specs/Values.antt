@@ -1,4 +1,4 @@
--- Values: the one spelling of each, alone, in a tuple and in a row, and which bytes spell it.
+-- Values: the one encoding of each, alone, in a tuple and in a row, and which bytes encode it.
 use Rattle.std.specs.Prelude.{◌≡◌, ◌<◌, ◌^◌, ◌+◌, ◌*◌, ◌%◌, ℕ, ℤ, List, [], ◌∷◌, ◌++◌, length, IsUtf8, FitsSigned}
 use Rattle.std.specs.Int.{w64, cast_unsigned, cast_signed}
 use Rattle.std.specs.List.{AllByRecursion}
@@ -11,9 +11,9 @@ use Rattle.wire_words.specs.declared.value.Dialect.{Dialect}
 use Rattle.wire_words.specs.declared.value.Dialect.TheVariants as dialects
 use Rattle.wire_words.specs.Items.{word, text, blob, raw, HasNoNul, IsPadded, IsWord, IsText}
 
--- ---- the one spelling
+-- ---- the one encoding
 
--- the number that stands for a type
+-- the number that represents a type
 abbrev pub code : ValueType → ℕ
 code types.Integer = 1
 code types.Float = 2
@@ -50,7 +50,7 @@ abbrev pub values : List Value → List ℕ
 values [] = []
 values (v ∷ vs) = value v ++ values vs
 
--- a tuple: the count in so many bytes, one code a value, zeros to a whole word, and the values
+-- a tuple: the count in this many bytes, one code a value, zeros to a whole word, and the values
 abbrev pub tuple : ℕ → List Value → List ℕ
 tuple width vs = raw (little_bytes width (length vs) ++ codes (types_of vs)) ++ values vs
 
@@ -72,7 +72,7 @@ halves (a ∷ b ∷ others) = (a + 16 * b) ∷ halves others
 abbrev pub row : List Value → List ℕ
 row vs = raw (halves (codes (types_of vs))) ++ values vs
 
--- a text can be written as long as it holds no NUL
+-- a text can be written if it holds no NUL
 abbrev pub IsWritable : Value → Type 0
 IsWritable (Integer n) = Unit {0}
 IsWritable (Text t) = HasNoNul t
@@ -82,14 +82,14 @@ IsWritable Null = Unit {0}
 abbrev pub AreWritable : List Value → Type 0
 AreWritable vs = AllByRecursion IsWritable vs
 
--- what the parts of a value hold, so that it has a spelling
+-- what the parts of a value hold, so that it has an encoding
 abbrev pub IsInRange : Value → Type 0
 IsInRange (Integer n) = FitsSigned w64 n
 IsInRange (Text t) = IsUtf8 t × HasNoNul t
 IsInRange (Blob b) = length b < 2 ^ 64
 IsInRange Null = Unit {0}
 
--- ---- which bytes spell it
+-- ---- which bytes encode it
 
 -- the bytes and then fewer than eight others, in all a whole number of words
 pub record IsRounded (bytes rounded : List ℕ) : Type 0 where
@@ -111,17 +111,17 @@ pub record Joined (IsFirst IsSecond : List ℕ → Type 0) (bytes : List ℕ) : 
   pub is_first : IsFirst first
   pub is_second : IsSecond second
 
--- these bytes spell the integer: they are a word, and it is the integer in two's complement
+-- these bytes encode the integer: they are a word, and it is the integer in two's complement
 pub record IsInteger (n : ℤ) (bytes : List ℕ) : Type 0 where
   pub number : ℕ
   pub spelled : IsWord number bytes
   pub read_so : n ≡ cast_signed w64 number
 
--- these bytes spell the blob: its length in a word, it itself, and what fills it up
+-- these bytes encode the blob: its length in a word, it itself, and what fills it up
 abbrev pub IsBlob : Dialect → List ℕ → List ℕ → Type 0
 IsBlob dialect content = Joined (IsWord (length content)) (IsFilled dialect content)
 
--- these bytes spell the value as one of this type: times and booleans are integers, and a date is a text
+-- these bytes encode the value as one of this type: times and booleans are integers, and a date is a text
 abbrev pub IsValue : Dialect → ValueType → Value → List ℕ → Type 0
 IsValue dialect types.Integer (Integer n) = IsInteger n
 IsValue dialect types.UnixTime (Integer n) = IsInteger n
@@ -132,13 +132,13 @@ IsValue dialect types.Blob (Blob b) = IsBlob dialect b
 IsValue dialect types.Null Null = IsWord 0
 IsValue dialect _ _ = λ bytes. ⊥
 
--- these bytes spell the values, one after the other, as values of these types
+-- these bytes encode the values, one after the other, as values of these types
 abbrev pub AreValues : Dialect → List ValueType → List Value → List ℕ → Type 0
 AreValues dialect [] [] = λ bytes. bytes ≡ []
 AreValues dialect (t ∷ ts) (v ∷ vs) = Joined (IsValue dialect t v) (AreValues dialect ts vs)
 AreValues dialect _ _ = λ bytes. ⊥
 
--- these bytes spell the values as a tuple whose count has so many bytes
+-- these bytes encode the values as a tuple whose count has this many bytes
 pub record IsTuple (width : ℕ) (vs : List Value) (bytes : List ℕ) : Type 0 where
   pub counted : length vs < 256 ^ width
   pub spelled : Joined (IsPadded (little_bytes width (length vs) ++ codes (types_of vs))) (AreValues dialects.Exact (types_of vs) vs) bytes
@@ -149,8 +149,8 @@ IsParams = IsTuple 1
 abbrev pub IsParamsWide : List Value → List ℕ → Type 0
 IsParamsWide = IsTuple 4
 
--- These bytes spell the values as a client may write such a tuple: times and booleans for integers, dates for texts,
--- and anything behind the codes and behind a blob.
+-- These bytes encode the values as a client may write a tuple: times and booleans for integers, dates for texts,
+-- and anything after the codes and after a blob.
 pub record IsTupleRead (width : ℕ) (vs : List Value) (bytes : List ℕ) : Type 0 where
   pub types : List ValueType
   pub counted : length vs < 256 ^ width
@@ -162,6 +162,6 @@ IsParamsRead = IsTupleRead 1
 abbrev pub IsParamsWideRead : List Value → List ℕ → Type 0
 IsParamsWideRead = IsTupleRead 4
 
--- these bytes spell the row
+-- these bytes encode the row
 abbrev pub IsRow : List Value → List ℕ → Type 0
 IsRow vs = Joined (IsPadded (halves (codes (types_of vs)))) (AreValues dialects.Exact (types_of vs) vs)

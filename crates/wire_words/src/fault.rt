@@ -13,13 +13,13 @@ pub enum WordFault {
     /// No NUL ends the text.
     #[error("no NUL ends the text at byte {0}")]
     NoNul(u64),
-    /// What stands before the NUL isn't UTF-8.
+    /// What is before the NUL isn't UTF-8.
     #[error("the text at byte {0} isn't UTF-8")]
     NotUtf8(u64),
     /// A byte that fills the item up to a word isn't zero.
     #[error("the item at byte {0} isn't filled up with zeros")]
     Pad(u64),
-    /// A value has a code, the second number, that stands for no type.
+    /// A value has a code, the second number, that represents no type.
     #[error("the item at byte {0} has the value code {1}")]
     BadCode(u64, u64),
     /// A value is a floating-point number.

@@ -10,13 +10,13 @@ ghost use Rattle.wire_words.specs.ReadingValues.{value_at, values_at, params_at,
 ghost use Rattle.wire_words.specs.Values.{params, params_wide, row, AreWritable, IsInRange, IsBlob, IsValue, IsParams, IsParamsWide, IsParamsRead, IsParamsWideRead, IsRow};
 ghost use Rattle.wire_words.specs.Stream.{after_messages, one_before, messages_in, version_word, stream, going_on};
 
-/// A word is read exactly where its spelling stands: what is read is spelled so, and what is spelled so is read.
+/// A word is read exactly if the bytes are its encoding: what is read is encoded so, and what is encoded so is read.
 pub fn words_read_back()
     ensures spelled { (old new : Unread) (n : ℕ) → AreBytes old.bytes → word_at old ≡ Ok (n, new) → Took (IsWord n) old new }
     ensures read { (old new : Unread) (n : ℕ) → Took (IsWord n) old new → word_at old ≡ Ok (n, new) }
 {}
 
-/// Two numbers in one word are read exactly where their spelling stands.
+/// Two numbers in one word are read exactly if the bytes are their encoding.
 pub fn pairs_read_back()
     ensures spelled { (old new : Unread) (first second : ℕ) → AreBytes old.bytes → pair_at old ≡ Ok ((first, second), new) →
         Took (IsPair first second) old new }
@@ -24,20 +24,20 @@ pub fn pairs_read_back()
         pair_at old ≡ Ok ((first, second), new) }
 {}
 
-/// A text is read exactly where its spelling stands.
+/// A text is read exactly if the bytes are its encoding.
 pub fn texts_read_back()
     ensures spelled { (old new : Unread) (t : List ℕ) → text_at old ≡ Ok (t, new) → Took (IsText t) old new }
     ensures read { (old new : Unread) (t : List ℕ) → Took (IsText t) old new → text_at old ≡ Ok (t, new) }
 {}
 
-/// Bytes of a known number are read exactly where their spelling stands.
+/// Bytes of a known number are read exactly if the bytes are their encoding.
 pub fn raw_reads_back()
     ensures size { (size : ℕ) (old new : Unread) (bytes : List ℕ) → raw_at size old ≡ Ok (bytes, new) → length bytes ≡ size }
     ensures spelled { (size : ℕ) (old new : Unread) (bytes : List ℕ) → raw_at size old ≡ Ok (bytes, new) → Took (IsRaw bytes) old new }
     ensures read { (old new : Unread) (bytes : List ℕ) → Took (IsRaw bytes) old new → raw_at (length bytes) old ≡ Ok (bytes, new) }
 {}
 
-/// Each value has one spelling, which the writers write.
+/// Each value has one encoding, which the writers write.
 pub fn one_spelling()
     ensures word { (n : ℕ) → n < 2 ^ 64 → IsWord n (word n) }
     ensures only_word { (n : ℕ) (bytes : List ℕ) → IsWord n bytes → bytes ≡ word n }
@@ -49,7 +49,7 @@ pub fn one_spelling()
     ensures only_raw { (content bytes : List ℕ) → IsRaw content bytes → bytes ≡ raw content }
 {}
 
-/// Messages stand apart: where two stand at the front of the same bytes, they are one and the same bytes follow. So no
+/// Messages are prefix-free: if two are at the front of the same bytes, they are one and the same bytes follow. So no
 /// message is a proper front of another.
 pub fn messages_stand_apart()
     ensures same { (kind other schema other_schema : ℕ) (body other_body rest other_rest : List ℕ) → IsBody body → IsBody other_body →
@@ -59,7 +59,7 @@ pub fn messages_stand_apart()
         message kind schema body ++ rest ≡ message other other_schema other_body → rest ≡ [] }
 {}
 
-/// A blob is read exactly where its spelling stands.
+/// A blob is read exactly if the bytes are its encoding.
 pub fn blobs_read_back()
     ensures spelled { (old new : Unread) (bytes : List ℕ) → AreBytes old.bytes → blob_at Dialect.Exact old ≡ Ok (bytes, new) →
         Took (IsBlob Dialect.Exact bytes) old new }
@@ -67,7 +67,7 @@ pub fn blobs_read_back()
         blob_at Dialect.Exact old ≡ Ok (bytes, new) }
 {}
 
-/// A value of a type is read exactly where bytes stand that spell it so.
+/// A value of a type is read exactly if the bytes encode it so.
 pub fn values_read_back()
     ensures spelled { (dialect : Dialect) (t : ValueType) (old new : Unread) (v : Value) → AreBytes old.bytes →
         value_at dialect t old ≡ Ok (v, new) → Took (IsValue dialect t v) old new }
@@ -75,7 +75,7 @@ pub fn values_read_back()
         value_at dialect t old ≡ Ok (v, new) }
 {}
 
-/// A tuple, with a count of either width, is read exactly where bytes stand as which a client may write it.
+/// A tuple, with a count of either width, is read exactly if the bytes are ones that a client may write for it.
 pub fn params_read_back()
     ensures spelled { (old new : Unread) (vs : List Value) → AreBytes old.bytes → params_at old ≡ Ok (vs, new) →
         Took (IsParamsRead vs) old new }
@@ -86,7 +86,7 @@ pub fn params_read_back()
         params_wide_at old ≡ Ok (vs, new) }
 {}
 
-/// A row is read exactly where its spelling stands.
+/// A row is read exactly if the bytes are its encoding.
 pub fn rows_read_back()
     ensures count { (count : ℕ) (old new : Unread) (vs : List Value) → AreBytes old.bytes → row_at count old ≡ Ok (vs, new) →
         length vs ≡ count }
@@ -95,7 +95,7 @@ pub fn rows_read_back()
     ensures read { (old new : Unread) (vs : List Value) → Took (IsRow vs) old new → row_at (length vs) old ≡ Ok (vs, new) }
 {}
 
-/// Each tuple and each row has one spelling, which the writers write, and a tuple so spelled is among those that are
+/// Each tuple and each row has one encoding, which the writers write, and a tuple so encoded is among those that are
 /// read.
 pub fn one_spelling_of_values()
     ensures params { (vs : List Value) → length vs < 2 ^ 8 → AllByRecursion IsInRange vs → IsParams vs (params vs) }
@@ -121,7 +121,7 @@ pub fn what_is_read_can_be_written()
         AreWritable vs }
 {}
 
-/// A stream is its version word and then its messages, each of which is given where its spelling stands; and the stream
+/// A stream is its version word and then its messages, each of which is given if the bytes are its encoding; and the stream
 /// of bytes in two pieces is that of the first with what the second adds to it.
 pub fn streams_read_back()
     ensures begins { (limit : ℕ) (bytes : List ℕ) → stream limit (version_word ++ bytes) ≡ messages_in limit bytes }

@@ -14,7 +14,7 @@ pub enum SplitFault {
     /// The stream begins with another word than the version 1.
     #[error("the stream begins with version {0}")]
     Version(u64),
-    /// A header claims so many words, which are more than a message may have.
+    /// A header states this many words, which are more than a message may have.
     #[error("a header claims {0} words")]
     TooLong(u32),
     /// There is not enough memory.
@@ -49,7 +49,7 @@ pub const MAX_PEER_WORDS: u32 = 33_554_432;
 /// part of a message unread, or at a fault.
 ///
 /// It holds what is unread and no more. A byte is copied once into the message that it is part of, which grows with its
-/// bytes and not with what its header claims; where a message comes in several pieces, growing copies each byte once
+/// bytes and not with what its header states; if a message comes in several pieces, growing copies each byte once
 /// more on average.
 #[derive(Drop)]
 pub struct Splitter {
@@ -71,7 +71,7 @@ impl Model for Splitter {
     ghost invariant = { λ s. Holds s.limit s.unfinished × (s.limit ≤ peer_limit) };
 }
 
-/// The messages, or where there are none the fault.
+/// The messages, or if there are none the fault.
 fn answer(messages: Vec<Message>, fault: Option<SplitFault>) -> Result<Vec<Message>, SplitFault>
     ensures { Answers (λ messages. messages.items) messages.items fault result }
 {
@@ -94,7 +94,7 @@ impl Splitter {
         }
     }
 
-    /// A splitter that stands as if it had been fed the version word, as a client needs to read its answers.
+    /// A splitter that is as if it had been fed the version word, as a client needs to read its answers.
     pub fn after_version(alloc: Global) -> Splitter
         ensures { result ≡ fed client_limit version_word }
     {
@@ -107,7 +107,7 @@ impl Splitter {
     }
 
     /// The splitter of the same stream where a peer's messages follow, which may have 33,554,432 words: what is unread stays so,
-    /// and so does a fault. Where the stream has none, it stands as if that had been its limit from the start.
+    /// and so does a fault. If the stream has none, it is as if that had been its limit from the start.
     pub fn for_peer(self) -> Splitter
         ensures value { result ≡ record { limit = peer_limit; end = self.end } }
         ensures joined { (before : List ℕ) → self ≡ fed self.limit before → fault_in self.end ≡ None → result ≡ fed peer_limit before }
@@ -141,7 +141,7 @@ impl Splitter {
         }
     }
 
-    /// Takes the next piece of the stream, of any length, and gives the messages that are whole with it. A fault behind
+    /// Takes the next piece of the stream, of any length, and gives the messages that are whole with it. A fault after
     /// messages of this piece is answered by the next feed, also of an empty piece; one without messages before it at
     /// once. All later feeds answer it too. `NoMemory` leaves the splitter as it was before the piece.
     pub fn feed(&mut self, piece: &[u8]) -> Result<Vec<Message>, SplitFault>
@@ -150,7 +150,7 @@ impl Splitter {
         // The messages of all pieces are those of the pieces joined.
         ensures joined { (before : List ℕ) → self.old ≡ fed self.old.limit before →
             IfOk result (λ messages. Adds self.old.limit before (before ++ piece.now) messages.items self.new) }
-        // A fault is that of the pieces joined, and no message stands before it that wasn't given.
+        // A fault is that of the pieces joined, and no message is before it that wasn't given.
         ensures fault { (before : List ℕ) → self.old ≡ fed self.old.limit before → IfErr result (λ fault.
             BreaksWith fault self.old.limit before (before ++ piece.now) self.old self.new) }
     {

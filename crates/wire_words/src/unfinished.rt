@@ -15,14 +15,14 @@ use std::mem;
 pub(crate) struct Unfinished {
     /// Whether the version word was read.
     pub(crate) begun: bool,
-    /// The first bytes of the version word or of a header, and behind them bytes of no meaning.
+    /// The first bytes of the version word or of a header, and after them bytes of no meaning.
     pub(crate) head: [u8; 8],
     pub(crate) head_len: usize,
-    /// What stands behind a whole header.
+    /// What follows a whole header.
     pub(crate) body: Vec<u8>,
 }
 
-/// A head with some bytes more, and what stands behind them.
+/// A head with some bytes more, and what follows them.
 #[derive(Clone, Copy)]
 pub(crate) struct Filled<'a> {
     head: [u8; 8],
@@ -30,14 +30,14 @@ pub(crate) struct Filled<'a> {
     behind: &'a [u8],
 }
 
-/// What stands at the front of bytes that may be cut anywhere.
+/// What is at the front of bytes that may end anywhere.
 #[derive(Clone, Copy)]
 pub(crate) enum Standing<'a> {
     /// A part of a message.
     Part,
-    /// A header that claims so many words, which are too many.
+    /// A header that states this many words, which are too many.
     Long(u32),
-    /// A message, by its header and its body, and what stands behind it.
+    /// A message, by its header and its body, and what follows it.
     Whole(Header, &'a [u8], &'a [u8]),
 }
 
@@ -63,7 +63,7 @@ impl Unfinished {
         }
     }
 
-    /// These bytes are unread, behind the version word.
+    /// These bytes are unread, after the version word.
     fn with_bytes(alloc: Global, bytes: &[u8]) -> Result<Unfinished, AllocError>
         ensures begun { IfOk result (λ unfinished. unfinished.begun ≡ true) }
         ensures bytes { IfOk result (λ unfinished. held_bytes unfinished ≡ bytes.now) }
@@ -100,7 +100,7 @@ fn fill_head(head: [u8; 8], len: usize, piece: &[u8]) -> Filled<'_>
     }
 }
 
-/// What stands at the front of the bytes.
+/// What is at the front of the bytes.
 #[tactic(auto, unfolding(crate::specs::Stream::front))]
 fn standing_at(limit: u32, bytes: &[u8]) -> Standing<'_>
     ensures { front_of result ≡ front limit bytes.now }
@@ -121,7 +121,7 @@ fn standing_at(limit: u32, bytes: &[u8]) -> Standing<'_>
     Standing::Whole(header, body, rest)
 }
 
-/// Takes the whole messages off the front of bytes behind a version word, and pushes them.
+/// Takes the whole messages off the front of bytes after a version word, and pushes them.
 fn cut<'a>(
     alloc: Global,
     limit: u32,
@@ -156,7 +156,7 @@ fn cut<'a>(
     }
 }
 
-/// Goes on behind a version word with this number.
+/// Continues after a version word with this number.
 fn go_on_behind(
     alloc: Global,
     limit: u32,
@@ -206,7 +206,7 @@ fn complete(
     Ok(end.fault)
 }
 
-/// Goes on with a message of which the header is there, and of whose body some bytes may be.
+/// Continues with a message of which the header is there, and of whose body some bytes may be.
 fn go_on_with(
     alloc: Global,
     limit: u32,
@@ -239,7 +239,7 @@ fn go_on_with(
     complete(alloc, limit, unfinished, header, last, after, messages)
 }
 
-/// Goes on with a piece of any length: pushes the messages that are whole with it, and gives the fault, if any. Out of
+/// Continues with a piece of any length: pushes the messages that are whole with it, and gives the fault, if any. Out of
 /// memory leaves what is unread as it was.
 pub(crate) fn go_on(
     alloc: Global,

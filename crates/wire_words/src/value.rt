@@ -14,7 +14,7 @@ pub enum Value {
     Null,
 }
 
-/// The type of a value on the wire, which a code stands for.
+/// The type of a value on the wire, which a code represents.
 #[derive(Clone, Copy, Debug, PartialEq, Eq)]
 pub enum ValueType {
     /// Code 1: a word, in two's complement.
@@ -40,13 +40,13 @@ pub enum ValueType {
 pub enum Dialect {
     /// Exactly as they are written: with the codes 1, 3, 4 and 5 alone, and zeros wherever bytes are filled up.
     Exact,
-    /// As clients send them: with the codes 9, 10 and 11 too, and any bytes behind the codes of a tuple and behind a
-    /// blob. Real clients leave in these places what stood in their buffer before.
+    /// As clients send them: with the codes 9, 10 and 11 too, and any bytes after the codes of a tuple and after a
+    /// blob. Real clients leave in these places what was in their buffer before.
     Client,
 }
 
 impl ValueType {
-    /// The type that a code stands for, if any.
+    /// The type that a code represents, if any.
     pub fn with_code(dialect: Dialect, code: u8) -> Option<ValueType>
         ensures { result ≡ type_with dialect code }
     {
@@ -82,7 +82,7 @@ impl ValueType {
         matches!(self, ValueType::Float)
     }
 
-    /// The code that stands for the type.
+    /// The code that represents the type.
     pub fn code(self) -> u8
         ensures { result ≡ code self }
     {

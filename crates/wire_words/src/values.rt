@@ -10,7 +10,7 @@ use crate::words::{Words, are_zero};
 use byteorder::{ByteOrder, LittleEndian};
 use std::alloc::Global;
 
-// The types of these codes, which stand in an item that begins at `at`.
+// The types of these codes, which are in an item that begins at `at`.
 fn known_types(
     alloc: Global,
     dialect: Dialect,
@@ -36,7 +36,7 @@ fn has_float(types: &[ValueType]) -> bool
     types.iter().any(|value_type| value_type.is_float())
 }
 
-// The same, where none of them is to be that of floating-point numbers.
+// The types that codes represent, if none of them is to be that of floating-point numbers.
 #[tactic(auto, unfolding(crate::specs::ReadingValues::types_at))]
 fn types_of(
     alloc: Global,
@@ -94,7 +94,7 @@ fn halves_of(alloc: Global, bytes: &[u8]) -> Result<Vec<u8>, WordFault>
     Ok(halves)
 }
 
-// The types of a row of so many values, from its codes and the zeros behind them.
+// The types of a row of this many values, from its codes and the zeros after them.
 fn types_of_row(
     alloc: Global,
     at: u64,
@@ -112,7 +112,7 @@ fn types_of_row(
     Ok(types)
 }
 
-// How many bytes the head of a row of so many values has, zeros included.
+// How many bytes the head of a row of this many values has, zeros included.
 fn row_head_len(count: u64) -> u64
     ensures { result ≡ row_head_size count }
 {
@@ -121,7 +121,7 @@ fn row_head_len(count: u64) -> u64
     if over == 0 { codes } else { codes + (8 - over) }
 }
 
-// The head of a tuple: so many codes behind a count of this width, and what fills them up.
+// The head of a tuple: this many codes after a count of this width, and what fills them up.
 fn tuple_head(
     alloc: Global,
     words: &mut Words<'_>,
@@ -136,7 +136,7 @@ fn tuple_head(
     types_of(alloc, Dialect::Client, at, &head[width as usize..])
 }
 
-// The head of a row of so many values.
+// The head of a row of this many values.
 #[tactic(auto, unfolding(crate::specs::ReadingValues::row_head_at))]
 fn row_head(alloc: Global, words: &mut Words<'_>, count: u64) -> Result<Vec<ValueType>, WordFault>
     ensures { Finds (λ types. types.items) (row_head_at count) words.old words.new result }
@@ -148,7 +148,7 @@ fn row_head(alloc: Global, words: &mut Words<'_>, count: u64) -> Result<Vec<Valu
 }
 
 impl<'a> Words<'a> {
-    // A tuple of so many values, whose count has this width.
+    // A tuple of this many values, whose count has this width.
     fn tuple(&mut self, alloc: Global, width: u64, count: u64) -> Result<Vec<Value>, WordFault>
         requires { width + count < 2 ^ 64 }
         ensures { Gives (λ values. values.items) (tuple_with width count) self.old self.new result }
@@ -233,9 +233,9 @@ impl<'a> Words<'a> {
     }
 
     /// Reads a client's tuple of parameters: their number in one byte, a code for each, and, from the next whole word on,
-    /// the values. What stands between the codes and the values isn't looked at. The count and the codes are one item:
-    /// `Short` where they and what fills them up aren't all there, else `BadCode` of the first code that stands for no
-    /// type, else `Float` where a code stands for floating-point numbers. Then the fault is that of the first value that
+    /// the values. What is between the codes and the values isn't looked at. The count and the codes are one item:
+    /// `Short` where they and what fills them up aren't all there, else `BadCode` of the first code that represents no
+    /// type, else `Float` where a code represents floating-point numbers. Then the fault is that of the first value that
     /// has one. `NoMemory` means out of memory.
     #[tactic(auto, unfolding(crate::specs::ReadingValues::tuple_at))]
     pub fn params(&mut self, alloc: Global) -> Result<Vec<Value>, WordFault>
@@ -249,7 +249,7 @@ impl<'a> Words<'a> {
     }
 
     /// Reads a client's wide tuple of parameters, whose number has 32 bits, and else as `params` does. No room is taken
-    /// ahead for the values that the number claims.
+    /// ahead for the values that the number states.
     #[tactic(auto, unfolding(crate::specs::ReadingValues::tuple_at))]
     pub fn params_wide(&mut self, alloc: Global) -> Result<Vec<Value>, WordFault>
         ensures { Gives (λ values. values.items) params_wide_at self.old self.new result }
@@ -262,9 +262,9 @@ impl<'a> Words<'a> {
         self.tuple(alloc, 4, u64::from(LittleEndian::read_u32(rest)))
     }
 
-    /// Reads a row of so many values: a code of four bits for each, the first in the low half of a byte, zeros to a whole
+    /// Reads a row of this many values: a code of four bits for each, the first in the low half of a byte, zeros to a whole
     /// word, and the values. The codes are one item: `Short`, `BadCode` and `Float` as in `params`, and then `Pad` where a
-    /// bit behind them isn't zero. Then the fault is that of the first value that has one. `NoMemory` means out of memory.
+    /// bit after them isn't zero. Then the fault is that of the first value that has one. `NoMemory` means out of memory.
     #[tactic(auto, unfolding(crate::specs::ReadingValues::row_at))]
     pub fn row(&mut self, alloc: Global, count: u64) -> Result<Vec<Value>, WordFault>
         ensures { Gives (λ values. values.items) (row_at count) self.old self.new result }

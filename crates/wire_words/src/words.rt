@@ -15,7 +15,7 @@ use std::alloc::Global;
 use std::marker::Model;
 
 /// Reads the items of a body from left to right. Clauses see what it has left: its place in the body and the bytes from
-/// there on. After a fault it stands where the call began.
+/// there on. After a fault it is where the call began.
 #[derive(Drop)]
 pub struct Words<'a> {
     body: &'a [u8],
@@ -33,7 +33,7 @@ impl<'a> Model for Words<'a> {
     ghost invariant = { λ w. w.place ≤ length w.body.now };
 }
 
-// How long an item of this size is with its zeros, where it fits into the room.
+// How long an item of this size is with its zeros, if it fits into the room.
 fn filled(room: usize, size: u64) -> Option<usize>
     ensures { result ≡ (if nat_lt room (size + gap size) then None else Some (size + gap size)) }
 {
@@ -64,7 +64,7 @@ pub(crate) fn are_zero(bytes: &[u8]) -> bool
     bytes.iter().all(|b| *b == 0)
 }
 
-// Whether the bytes may stand behind others to fill them up.
+// Whether the bytes may follow others to fill them up.
 fn may_fill(dialect: Dialect, bytes: &[u8]) -> bool
     ensures { result ≡ may_fill dialect bytes.now }
 {
@@ -81,7 +81,7 @@ fn nul_place(bytes: &[u8]) -> Option<usize>
     bytes.iter().position(|b| *b == 0)
 }
 
-// The bytes as a text, where they are UTF-8.
+// The bytes as a text, if they are UTF-8.
 #[tactic(auto, using(crate::proofs::Utf8::not_utf8, crate::proofs::Utf8::are_utf8))]
 fn as_text(bytes: &[u8]) -> Option<&str>
     ensures { MatchOption result (is_utf8 bytes.now ≡ false) (λ text. (text.now ≡ bytes.now) × (is_utf8 bytes.now ≡ true)) }
@@ -111,7 +111,7 @@ impl<'a> Words<'a> {
         (self.body.len() - self.place) as u64
     }
 
-    /// Reads a number of 64 bits, little-endian. `Short` exactly where fewer than eight bytes are left.
+    /// Reads a number of 64 bits, little-endian. `Short` exactly if fewer than eight bytes are left.
     #[tactic(auto, unfolding(crate::specs::Reading::word_at))]
     pub fn u64(&mut self) -> Result<u64, WordFault>
         ensures exact { Gives (λ n. n) word_at self.old self.new result }
@@ -126,7 +126,7 @@ impl<'a> Words<'a> {
         Ok(value)
     }
 
-    /// Reads two numbers of 32 bits, little-endian, which share a word. `Short` exactly where fewer than eight bytes are
+    /// Reads two numbers of 32 bits, little-endian, which share a word. `Short` exactly if fewer than eight bytes are
     /// left.
     #[tactic(auto, unfolding(crate::specs::Reading::pair_at))]
     pub fn u32_pair(&mut self) -> Result<(u32, u32), WordFault>
@@ -159,7 +159,7 @@ impl<'a> Words<'a> {
         &self.body[self.place..]
     }
 
-    // So many bytes of an item that begins at `at`, which may be before here, and what fills them up to a whole word.
+    // This many bytes of an item that begins at `at`, which may be before here, and what fills them up to a whole word.
     pub(crate) fn filled_slice(
         &mut self,
         dialect: Dialect,
@@ -244,7 +244,7 @@ impl<'a> Words<'a> {
         Ok(WireText::new(text))
     }
 
-    // The number of a blob's bytes in a word, and so many bytes with what fills them up.
+    // The number of a blob's bytes in a word, and this many bytes with what fills them up.
     #[tactic(auto, unfolding(crate::specs::Reading::blob_at))]
     pub(crate) fn blob_in(&mut self, dialect: Dialect) -> Result<&'a [u8], WordFault>
         ensures exact { Gives (λ bytes. bytes.now) (blob_at dialect) self.old self.new result }
@@ -258,7 +258,7 @@ impl<'a> Words<'a> {
         Ok(bytes)
     }
 
-    /// Reads a blob and lends it: a word with the number of its bytes, and so many bytes with zeros that fill them up to a
+    /// Reads a blob and lends it: a word with the number of its bytes, and this many bytes with zeros that fill them up to a
     /// whole word. `Short` where they aren't all there, and else `Pad` where a byte in place of a zero isn't one.
     pub fn blob_slice(&mut self) -> Result<&'a [u8], WordFault>
         ensures exact { Gives (λ bytes. bytes.now) (blob_at Dialect.Exact) self.old self.new result }

@@ -48,7 +48,7 @@ fn little(value: u32) -> [u8; 4]
     bytes
 }
 
-// The count and behind it the code of each value.
+// The count and after it the code of each value.
 fn codes_of(alloc: Global, count: &[u8], contents: &[Value]) -> Result<Vec<u8>, AllocError>
     ensures { IfOk result (λ head. head.items ≡ count.now ++ codes (types_of contents.now)) }
 {
@@ -98,7 +98,7 @@ impl Writer {
         }
     }
 
-    /// A writer that has written nothing, with room for so many bytes.
+    /// A writer that has written nothing, with room for this many bytes.
     pub fn with_capacity(alloc: Global, bytes: usize) -> Result<Writer, AllocError>
         ensures { IfOk result (λ writer. writer ≡ []) }
     {
@@ -260,7 +260,7 @@ impl Writer {
     }
 
     /// What was written, which has to begin with a header, with the count of the words after it in its first four bytes.
-    /// An error comes exactly where that count is more than 4,294,967,295.
+    /// An error comes exactly if that count is more than 4,294,967,295.
     pub fn finish_message(self) -> Result<WireBytes, AllocError>
         requires { 8 ≤ length self }
         ensures counted { IfOk result (λ bytes. bytes ≡ counted self) }

@@ -1,4 +1,4 @@
-// What a load does to the disk, once it knows that the files stand for a state: it syncs all files and the names, repairs
+// What a load does to the disk, once it knows that the files represent a state: it syncs all files and the names, repairs
 // the last segment, and empties a log that the snapshot drops whole.
 ghost use Rattle.std.specs.Prelude.{◌<◌, ◌∷◌, [], suc, length, Some};
 ghost use Rattle.disk_model.specs.Calls.{Sync, SyncNames, CutTo, Remove};
@@ -87,7 +87,7 @@ fn remove_segment<D: Disk>(alloc: Global, disk: &mut D, number: u64) -> Result<(
     Ok(())
 }
 
-// Repairs the last segment: one without its first word goes, and a torn tail is cut off.
+// Repairs the last segment: one without its first word goes, and a torn tail is truncated.
 fn repair_last<D: Disk>(alloc: Global, disk: &mut D, last: LastSegment) -> Result<(), StoreFault>
     requires { last.number < 10000000000000000 }
     ensures went { Went (all_spelled file_name (repairs last)) (D.states disk.old) (D.states disk.new) result }
@@ -103,7 +103,7 @@ fn repair_last<D: Disk>(alloc: Global, disk: &mut D, last: LastSegment) -> Resul
     cut_segment(alloc, disk, last.number, last.good)
 }
 
-/// Repairs the last segment, where there is one.
+/// Repairs the last segment, if there is one.
 pub(crate) fn repair<D: Disk>(
     alloc: Global,
     disk: &mut D,

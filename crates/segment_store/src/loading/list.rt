@@ -150,7 +150,7 @@ impl FolderList {
     }
 }
 
-// Lists the file of a name, where it is one of a node.
+// Lists the file of a name, if it is one of a node.
 fn take_name(list: &mut FolderList, name: &str) -> Result<(), AllocError>
     ensures { OnOk result (TakesName name.now list.old list.new) }
 {

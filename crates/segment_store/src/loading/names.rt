@@ -8,7 +8,7 @@ use crate::names::File;
 /// A number of fewer than sixteen digits is below this one.
 const LESS: u64 = 1_000_000_000_000_000;
 
-// One digit more behind a number, where it is one and the number has fewer than sixteen digits.
+// One digit more after a number, if it is one and the number has fewer than sixteen digits.
 fn with_digit(number: u64, byte: u8) -> Option<u64>
     ensures { result ≡ digits_in number byte }
 {
@@ -19,7 +19,7 @@ fn with_digit(number: u64, byte: u8) -> Option<u64>
     }
 }
 
-// The number that digits spell.
+// The number that digits encode.
 fn number_in(digits: &[u8]) -> Option<u64>
     ensures { result ≡ read_digits 0 digits.now }
 {
@@ -33,7 +33,7 @@ fn number_in(digits: &[u8]) -> Option<u64>
     Some(number)
 }
 
-// What stands behind a kind at the front of a text.
+// What follows a kind at the front of a text.
 fn behind<'a>(text: &'a [u8], kind: &[u8]) -> Option<&'a [u8]>
     ensures { MatchOption result ((rest : List ℕ) → text.now ≡ kind.now ++ rest → ⊥) (λ rest. text.now ≡ kind.now ++ rest.now) }
 {
@@ -44,7 +44,7 @@ fn behind<'a>(text: &'a [u8], kind: &[u8]) -> Option<&'a [u8]>
     if front == kind { Some(rest) } else { None }
 }
 
-// The number of sixteen digits behind a kind.
+// The number of sixteen digits after a kind.
 fn number_behind(text: &[u8], kind: &[u8]) -> Option<u64>
     ensures { MatchOption result ((n : ℕ) → n < 10000000000000000 → text.now ≡ kind.now ++ number_text n → ⊥) (λ n. (n < 10000000000000000) × (text.now ≡ kind.now ++ number_text n)) }
 {

@@ -28,7 +28,7 @@ fn size_of(bytes: &[u8]) -> u64
     bytes.len() as u64
 }
 
-// Puts the front of a piece behind other bytes.
+// Puts the front of a piece after other bytes.
 fn push_front(bytes: &mut Vec<u8>, piece: &[u8], count: usize) -> Result<(), AllocError>
     requires { count ≤ length piece.now }
     ensures { OnOk result (bytes.new.items ≡ bytes.old.items ++ take count piece.now) }
@@ -37,7 +37,7 @@ fn push_front(bytes: &mut Vec<u8>, piece: &[u8], count: usize) -> Result<(), All
     Ok(())
 }
 
-// Reads more bytes behind those that were read, and answers whether there were any.
+// Reads more bytes after those that were read, and answers whether there were any.
 fn read_more<D: Disk>(
     disk: &mut D,
     name: &str,
@@ -105,7 +105,7 @@ fn metadata_name(first: bool) -> File
     if first { File::First } else { File::Second }
 }
 
-// Reads a file of metadata, where it is there, and answers its size.
+// Reads a file of metadata, if it is there, and answers its size.
 fn read_metadata<D: Disk>(
     alloc: Global,
     disk: &mut D,
@@ -187,7 +187,7 @@ fn read_segments<D: Disk>(
     Ok(())
 }
 
-/// How long the files of metadata are, where they are there: the first and the second.
+/// How long the files of metadata are, if they are there: the first and the second.
 pub(crate) type Sizes = (Option<u64>, Option<u64>);
 
 /// Reads all files that are listed, each once.

@@ -1,4 +1,4 @@
--- A `&` to a connection holds a `&` to the database file, which lies behind the log.
+-- A `&` to a connection holds a `&` to the database file, which is stored beneath the log.
 use Rattle.sqlite_open_files.proofs.Steps.{◌≡◌, ℕ, List, [], ◌∷◌, refl, ap, proved, ftrue, flft, named, Val, vptr, tables, ‵, ◌⊛◌, at_ret, ◌$◌, ◌∵◌, !, qed, done, move, keep, drop, split, join, fsplit, fjoin, fpick, feq_i, rewrite, suffices, group, enter, of_opd, addr, stop, fld, first, blocks, exec, returns, alloc_all, pass_all, free_all, look_at, get, through, sets, sets_last, env, unhide, hide, RefOf, yes, ShrRef, shr_vals, shr_Tells, plain, nothing, Stays, walk_of, says, stay_dropped, Goes-dropped, ends_at}
 use Rattle.std.proofs.Common.{◌+◌, arith}
 use mir.Syntax.{Fn, Args, dcons, dnil, a_type}

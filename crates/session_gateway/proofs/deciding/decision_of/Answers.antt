@@ -108,7 +108,7 @@ returns-in-RunsAll-clause-ran g c = λ own weight.
     let same = ap (assigned script.text script.pieces) c.as_slice-params-in-RunsAll.ensures in
     IfOk-weaker c.run_script.result _ _ (λ decision h. ran _ _ c.args.call.now.view.now (machine_of c.args.machine.now) (table_of c.args.machine.now c.args.sessions.now weight) there.conn (session_of c.args.machine.now there) _ _ decision c.args.params c.args.wanted _ (assigned script.text script.pieces c.args.params) (assigned script.text script.pieces c.as_slice-params-in-RunsAll.result.now) c.in-RunsAll.is refl same h) (c.run_script.ensures.ran own weight)
 
--- ---- no number stands for two images
+-- ---- no number represents two images
 
 pub returns-in-Never-clause-agree : goal.returns-in-Never-clause-agree
 returns-in-Never-clause-agree g c = λ own. idle_agrees _ _ c.args.call.now.number _ (Ok (decisions.Refused c.in-Never.cause)) (get_or c.args.sessions.now c.args.place own).transaction (λ tx. refl) c.requires.agree
