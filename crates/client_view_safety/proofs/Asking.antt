@@ -21,7 +21,6 @@ use Rattle.session_spec.specs.Servers.{has_server}
 use Rattle.session_spec.specs.Sessions.{Prepared, Session, Gateway, View, in_tx}
 use Rattle.session_spec.specs.Statements.{prepared_from, any_barred, is_left_out, is_write_word, any_write, wrong_params, with_params, with_all, prepared_at, prepared_count}
 use Rattle.session_spec.proofs.Losing.{lost_so}
-use Rattle.session_safety.specs.Staying.{has_transaction}
 use Rattle.headline.specs.Clients.{Client, is_idle, Idle, Begun, Lost, Purpose, unless, kind_purpose, sole_purpose, list_purpose, text_purpose, query_purpose, query_text_purpose, prepared_purpose, prepare_purpose, request_purpose, purpose}
 use Rattle.headline.specs.Clients as client
 use Rattle.client_view_safety.specs.Views.{is_lost, KnowsSession, IsAskedFor, RequestsAskPurposes}
