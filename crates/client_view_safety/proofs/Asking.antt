@@ -1,5 +1,5 @@
 -- What a message asks for is what the node does for it.
-use Rattle.std.proofs.Common.{◌≡◌, inl, inr, ℕ, Bool, true, false, List, [], ◌∷◌, length, map, refl, sym, ap, subst}
+use Rattle.std.proofs.Common.{◌≡◌, inl, inr, ℕ, Bool, true, false, true≢false, List, [], ◌∷◌, length, map, refl, sym, ap, ◌∙◌, subst}
 use Rattle.std.specs.Prelude.{◌&&◌, ◌||◌, ◌==◌, not, nat_lt, nat_le, is_none, Option, Some, None, Result, Ok, Err, if◌then◌else◌}
 use Rattle.std.proofs.lemmas.Bool.{cond_both}
 use Rattle.wire_words.specs.declared.value.Value.{Value}
@@ -12,16 +12,18 @@ use Rattle.sql_scan.specs.declared.heading.WordKind.TheVariants as words
 use Rattle.sql_scan.specs.Statements.{scan_of}
 use Rattle.sql_engine.specs.Replies.{Statement}
 use Rattle.raft_spec.specs.Node.{Server, among, voters}
-use Rattle.session_spec.specs.Asking.{Asked, Never, asks_describe, asks_cluster, asks_connect, is_other_node, asks_transfer, may_take_over, if_settled, is_barred_node, asks_add, is_promotion, asks_role, asks_assign, asks_remove, files_of, body_size, asks_dump, has_database, is_name, barriers_asked, asks_open, no_database, in_database, never_or, asks_kind, asks_one, asks_several, asks_statements, asks_text, asks_query, not_one, asks_rows, asks_exec, asks_prepared_query, asks_finalize, with_room, tail_of, asks_prepare, at_leader, asked_by}
+use Rattle.session_spec.specs.Asking.{Asked, Never, Tells, Sets, Opens, Creates, Prepares, Drops, Forgets, Begins, Commits, RollsBack, Changes, Runs, Reads, asks_describe, asks_cluster, asks_connect, is_other_node, asks_transfer, may_take_over, if_settled, is_barred_node, asks_add, is_promotion, asks_role, asks_assign, asks_remove, files_of, body_size, asks_dump, has_database, is_name, barriers_asked, asks_open, no_database, in_database, never_or, asks_kind, asks_one, asks_several, asks_statements, asks_text, asks_query, not_one, asks_rows, asks_exec, asks_prepared_query, asks_finalize, with_room, tail_of, asks_prepare, lost_word, lost_one, lost_statements, lost_text, lost_exec, lost_in, asks_lost, unless_lost, at_leader, asked_unless_lost, asked_by}
 use Rattle.session_spec.specs.Causes.{Cause, NotAllowed, OneStatementWanted}
+use Rattle.session_spec.specs.Laws.{has_statement}
 use Rattle.session_spec.specs.Limits.{change_in_flight, one_too_many, log_full, write_hindrance}
 use Rattle.session_spec.specs.Machine.{Machine, is_named}
 use Rattle.session_spec.specs.Servers.{has_server}
 use Rattle.session_spec.specs.Sessions.{Prepared, Session, Gateway, View, in_tx}
 use Rattle.session_spec.specs.Statements.{prepared_from, any_barred, is_left_out, is_write_word, any_write, wrong_params, with_params, with_all, prepared_at, prepared_count}
-use Rattle.headline.specs.Clients.{Client, is_idle, Purpose, unless, kind_purpose, sole_purpose, list_purpose, text_purpose, query_purpose, query_text_purpose, prepared_purpose, prepare_purpose, request_purpose}
+use Rattle.session_spec.proofs.Losing.{lost_so}
+use Rattle.headline.specs.Clients.{Client, is_idle, Idle, Begun, Lost, Purpose, unless, kind_purpose, sole_purpose, list_purpose, text_purpose, query_purpose, query_text_purpose, prepared_purpose, prepare_purpose, request_purpose, purpose}
 use Rattle.headline.specs.Clients as client
-use Rattle.client_view_safety.specs.Views.{KnowsSession, IsAskedFor, RequestsAskPurposes}
+use Rattle.client_view_safety.specs.Views.{is_lost, KnowsSession, IsAskedFor, RequestsAskPurposes}
 
 module _ (m : Machine) where
   -- ---- tests
@@ -190,48 +192,273 @@ module _ (m : Machine) where
 
   -- ---- requests
 
-  pub request_asked : (v : View) (g : Gateway) (c : ℕ) (s : Session) (k : Client) (r : Request) → KnowsSession k s →
-      IsAskedFor m (request_purpose k r) (asked_by v m g c s r)
-  unfolding asked_by
-  request_asked v g c s k requests.Leader h = inl refl
-  request_asked v g c s k (requests.Client id) h = inl refl
-  request_asked v g c s k (requests.Open name flags vfs) h =
+  -- if no transaction is lost
+  unlost_asked : (v : View) (g : Gateway) (c : ℕ) (s : Session) (k : Client) (r : Request) → KnowsSession k s →
+      (has_statement r ≡ true → is_idle k.transaction ≡ not (in_tx s)) → IsAskedFor m (request_purpose k r) (asked_unless_lost v m g c s r)
+  unfolding asked_unless_lost
+  unlost_asked v g c s k requests.Leader h idle = inl refl
+  unlost_asked v g c s k (requests.Client id) h idle = inl refl
+  unlost_asked v g c s k (requests.Open name flags vfs) h idle =
       led v (unless (client.has_database k || not (is_name name)) (client.Opens name (barriers_asked flags))) _
       (open_asked v g k s name (barriers_asked flags) h.name)
-  request_asked v g c s k (requests.Prepare db sql wide) h =
+  unlost_asked v g c s k (requests.Prepare db sql wide) h idle =
       led v (client.in_database k db (prepare_purpose sql wide (scan_of sql))) _
       (here k s db (prepare_purpose sql wide (scan_of sql)) _ h.name (prepare_asked s sql wide (scan_of sql)))
-  request_asked v g c s k (requests.Exec db id params wide) h =
+  unlost_asked v g c s k (requests.Exec db id params wide) h idle =
       led v (client.in_database k db (prepared_purpose k false (k.prepared id) params)) _
       (here k s db (prepared_purpose k false (k.prepared id) params) _ h.name
       (subst (λ o. IsAskedFor m (prepared_purpose k false o params) (asks_exec (write_hindrance m g c s) (in_tx s) (prepared_at s.statements id) params))
-      (sym (h.prepared id)) (exec_asked k (write_hindrance m g c s) (in_tx s) (prepared_at s.statements id) params h.idle)))
-  request_asked v g c s k (requests.Query db id params wide) h =
+      (sym (h.prepared id)) (exec_asked k (write_hindrance m g c s) (in_tx s) (prepared_at s.statements id) params (idle refl))))
+  unlost_asked v g c s k (requests.Query db id params wide) h idle =
       led v (client.in_database k db (prepared_purpose k true (k.prepared id) params)) _
       (here k s db (prepared_purpose k true (k.prepared id) params) _ h.name
       (subst (λ o. IsAskedFor m (prepared_purpose k true o params) (asks_prepared_query (write_hindrance m g c s) (prepared_at s.statements id) params))
       (sym (h.prepared id)) (prepared_asked k (write_hindrance m g c s) (prepared_at s.statements id) params)))
-  request_asked v g c s k (requests.Finalize db id) h =
+  unlost_asked v g c s k (requests.Finalize db id) h idle =
       here k s db (unless (is_none (k.prepared id)) (client.Drops id)) _ h.name
       (subst (λ o. IsAskedFor m (unless (is_none o) (client.Drops id)) (asks_finalize (prepared_at s.statements id) id)) (sym (h.prepared id))
       (finalize_asked (prepared_at s.statements id) id))
-  request_asked v g c s k (requests.ExecSql db sql params wide) h =
+  unlost_asked v g c s k (requests.ExecSql db sql params wide) h idle =
       led v (client.in_database k db (text_purpose k sql (scan_of sql) params)) _
       (here k s db (text_purpose k sql (scan_of sql) params) _ h.name
-      (text_asked k (write_hindrance m g c s) (in_tx s) sql (scan_of sql) params h.idle))
-  request_asked v g c s k (requests.QuerySql db sql params wide) h =
+      (text_asked k (write_hindrance m g c s) (in_tx s) sql (scan_of sql) params (idle refl)))
+  unlost_asked v g c s k (requests.QuerySql db sql params wide) h idle =
       led v (client.in_database k db (query_text_purpose sql (scan_of sql) params)) _
       (here k s db (query_text_purpose sql (scan_of sql) params) _ h.name (rows_asked (write_hindrance m g c s) sql (scan_of sql) params))
-  request_asked v g c s k (requests.Interrupt db) h = here k s db client.Empties _ h.name (inr (inl (refl, refl)))
-  request_asked v g c s k (requests.Connect id address) h = connect_asked v id
-  request_asked v g c s k (requests.Add id address) h = led v client.Empties _ (settled g client.Empties _ (add_asked v.servers id address))
-  request_asked v g c s k (requests.Assign id role) h = led v client.Empties _ (settled g client.Empties _ (assign_asked v id role))
-  request_asked v g c s k (requests.Remove id) h = led v client.Empties _ (settled g client.Empties _ (remove_asked v id))
-  request_asked v g c s k (requests.Dump name) h = dump_asked name
-  request_asked v g c s k (requests.Cluster format) h = cluster_asked v format
-  request_asked v g c s k (requests.Transfer id) h = led v client.Empties _ (transfer_asked v id)
-  request_asked v g c s k (requests.Describe format) h = describe_asked g.weight format
-  request_asked v g c s k (requests.Weight weight) h = refl
+  unlost_asked v g c s k (requests.Interrupt db) h idle = here k s db client.Empties _ h.name (inr (inl (refl, refl)))
+  unlost_asked v g c s k (requests.Connect id address) h idle = connect_asked v id
+  unlost_asked v g c s k (requests.Add id address) h idle = led v client.Empties _ (settled g client.Empties _ (add_asked v.servers id address))
+  unlost_asked v g c s k (requests.Assign id role) h idle = led v client.Empties _ (settled g client.Empties _ (assign_asked v id role))
+  unlost_asked v g c s k (requests.Remove id) h idle = led v client.Empties _ (settled g client.Empties _ (remove_asked v id))
+  unlost_asked v g c s k (requests.Dump name) h idle = dump_asked name
+  unlost_asked v g c s k (requests.Cluster format) h idle = cluster_asked v format
+  unlost_asked v g c s k (requests.Transfer id) h idle = led v client.Empties _ (transfer_asked v id)
+  unlost_asked v g c s k (requests.Describe format) h idle = describe_asked g.weight format
+  unlost_asked v g c s k (requests.Weight weight) h idle = refl
+
+  -- ---- a lost transaction
+
+  -- it is about no statement, and no transaction begins
+  abbrev IsApart : Purpose → Type 0
+  IsApart client.Begins = ⊥
+  IsApart (client.Runs rows statements) = ⊥
+  IsApart (client.Prepares prepared tail) = ⊥
+  IsApart p = Unit {0}
+
+  unless_apart : (b : Bool) (p : Purpose) → IsApart p → IsApart (unless b p)
+  unless_apart true p h = tt
+  unless_apart false p h = h
+
+  apart : (k : Client) (r : Request) → has_statement r ≡ false → IsApart (request_purpose k r)
+  apart k requests.Leader none = tt
+  apart k (requests.Client id) none = tt
+  apart k (requests.Open name flags vfs) none = unless_apart (client.has_database k || not (is_name name)) (client.Opens name (barriers_asked flags)) tt
+  apart k (requests.Prepare db sql wide) none = absurd (true≢false none)
+  apart k (requests.Exec db id params wide) none = absurd (true≢false none)
+  apart k (requests.Query db id params wide) none = absurd (true≢false none)
+  apart k (requests.Finalize db id) none = unless_apart (not (client.has_database k && (db == 0))) (unless (is_none (k.prepared id)) (client.Drops id))
+      (unless_apart (is_none (k.prepared id)) (client.Drops id) tt)
+  apart k (requests.ExecSql db sql params wide) none = absurd (true≢false none)
+  apart k (requests.QuerySql db sql params wide) none = absurd (true≢false none)
+  apart k (requests.Interrupt db) none = unless_apart (not (client.has_database k && (db == 0))) client.Empties tt
+  apart k (requests.Connect id address) none = tt
+  apart k (requests.Add id address) none = tt
+  apart k (requests.Assign id role) none = tt
+  apart k (requests.Remove id) none = tt
+  apart k (requests.Dump name) none = tt
+  apart k (requests.Cluster format) none = tt
+  apart k (requests.Transfer id) none = tt
+  apart k (requests.Describe format) none = tt
+  apart k (requests.Weight weight) none = tt
+
+  -- it is asked for whether the client has heard of the loss or not
+  same_apart : (t : client.Transaction) (p : Purpose) → IsApart p → client.unless_lost t p ≡ p
+  same_apart Idle p h = refl
+  same_apart (Begun begin last) p h = refl
+  same_apart Lost client.Never h = refl
+  same_apart Lost (client.Opens name barriers) h = refl
+  same_apart Lost client.Begins h = absurd h
+  same_apart Lost client.Commits h = refl
+  same_apart Lost client.RollsBack h = refl
+  same_apart Lost (client.Runs rows statements) h = absurd h
+  same_apart Lost (client.Prepares prepared tail) h = absurd h
+  same_apart Lost (client.Drops id) h = refl
+  same_apart Lost (client.Dumps name) h = refl
+  same_apart Lost client.Empties h = refl
+  same_apart Lost client.Other h = refl
+
+  -- what is asked for while it is lost
+  abbrev IsLostFor : client.Transaction → Purpose → Asked → Type 0
+  IsLostFor t p x = IsAskedFor m (client.unless_lost t p) x
+
+  lost_tested : (t : client.Transaction) (b c : Bool) (p : Purpose) (cause : Cause) (x : Asked) → c ≡ b → IsLostFor t p x →
+      IsLostFor t (unless c p) (if b then Never cause else x)
+  lost_tested t true c p cause x e h = tt
+  lost_tested t false c p cause x e h = subst (λ d. IsLostFor t (unless d p) x) (sym e) h
+
+  word_lost : (t : client.Transaction) (word : WordKind) (s : Statement) → IsLostFor t (kind_purpose false word s) (lost_word word)
+  word_lost t (words.Begin at_once) s = tt
+  word_lost t words.Commit s = inl (same_apart t client.Commits tt, refl)
+  word_lost t words.Rollback s = inr (same_apart t client.RollsBack tt, refl)
+  word_lost t words.Write s = tt
+  word_lost t words.LeftOut s = tt
+  word_lost t words.Other s = tt
+
+  one_lost : (t : client.Transaction) (k : Client) (p : Prepared) (params : List Value) → is_idle k.transaction ≡ false →
+      IsLostFor t (sole_purpose k p params) (lost_one p params)
+  one_lost t k p params idle =
+      lost_tested t (wrong_params (p ∷ []) params) (wrong_params (p ∷ []) params) (kind_purpose (is_idle k.transaction) p.word (with_all p params)) _ _ refl
+      (subst (λ b. IsLostFor t (kind_purpose b p.word (with_all p params)) (lost_word p.word)) (sym idle) (word_lost t p.word (with_all p params)))
+
+  statements_lost : (t : client.Transaction) (k : Client) (ps : List Prepared) (params : List Value) → is_idle k.transaction ≡ false →
+      IsLostFor t (list_purpose k ps params) (lost_statements ps params)
+  statements_lost t k [] params idle = tt
+  statements_lost t k (p ∷ []) params idle = one_lost t k p params idle
+  statements_lost t k (p ∷ q ∷ ps) params idle = tt
+
+  text_lost : (t : client.Transaction) (k : Client) (sql : List ℕ) (scanned : Result (List StatementSpan) ScanFault) (params : List Value) →
+      is_idle k.transaction ≡ false → IsLostFor t (text_purpose k sql scanned params) (lost_text sql scanned params)
+  text_lost t k sql (Err fault) params idle = tt
+  text_lost t k sql (Ok spans) params idle = statements_lost t k (map (prepared_from sql) spans) params idle
+
+  exec_lost : (t : client.Transaction) (k : Client) (p : Option Prepared) (params : List Value) → is_idle k.transaction ≡ false →
+      IsLostFor t (prepared_purpose k false p params) (lost_exec p params)
+  exec_lost t k None params idle = tt
+  exec_lost t k (Some p) params idle = one_lost t k p params idle
+
+  here_lost : (t : client.Transaction) (k : Client) (s : Session) (db : ℕ) (p : Purpose) (x : Asked) → k.name ≡ s.database → IsLostFor t p x →
+      IsLostFor t (client.in_database k db p) (lost_in s db x)
+  here_lost t k s db p x name h = lost_tested t (no_database s db) (not (client.has_database k && (db == 0))) p _ x
+      (ap (λ n. not (nat_lt 0 (length n) && (db == 0))) name) h
+
+  -- no transaction begins while one is lost
+  abbrev pub BeginsUnlost : Bool → Asked → Type 0
+  BeginsUnlost lost (Begins at_once) = lost ≡ false
+  BeginsUnlost lost x = Unit {0}
+
+  begins_apart : (p : Purpose) (x : Asked) → IsApart p → IsAskedFor m p x → BeginsUnlost true x
+  begins_apart p (Never cause) plain is = tt
+  begins_apart p (Tells response) plain is = tt
+  begins_apart p (Sets effect) plain is = tt
+  begins_apart p (Opens name barriers) plain is = tt
+  begins_apart p (Creates name barriers) plain is = tt
+  begins_apart p (Prepares prepared tail) plain is = tt
+  begins_apart p (Drops id) plain is = tt
+  begins_apart p (Forgets response) plain is = tt
+  begins_apart p (Begins at_once) plain is = absurd (subst IsApart is plain)
+  begins_apart p Commits plain is = tt
+  begins_apart p RollsBack plain is = tt
+  begins_apart p (Changes servers) plain is = tt
+  begins_apart p (Runs statements) plain is = tt
+  begins_apart p (Reads statement) plain is = tt
+
+  begins_free : (x : Asked) → BeginsUnlost false x
+  begins_free (Never cause) = tt
+  begins_free (Tells response) = tt
+  begins_free (Sets effect) = tt
+  begins_free (Opens name barriers) = tt
+  begins_free (Creates name barriers) = tt
+  begins_free (Prepares prepared tail) = tt
+  begins_free (Drops id) = tt
+  begins_free (Forgets response) = tt
+  begins_free (Begins at_once) = refl
+  begins_free Commits = tt
+  begins_free RollsBack = tt
+  begins_free (Changes servers) = tt
+  begins_free (Runs statements) = tt
+  begins_free (Reads statement) = tt
+
+  -- ---- requests
+
+  unlost_same : (t : client.Transaction) (p : Purpose) → (is_lost t ≡ true → ⊥) → client.unless_lost t p ≡ p
+  unlost_same Idle p free = refl
+  unlost_same (Begun begin last) p free = refl
+  unlost_same Lost p free = absurd (free refl)
+
+  either_false : (b : Bool) → (b || false) ≡ b
+  either_false true = refl
+  either_false false = refl
+
+  either_true : (b : Bool) → (b || true) ≡ true
+  either_true true = refl
+  either_true false = refl
+
+  module _ (v : View) (g : Gateway) (c : ℕ) (s : Session) (k : Client) (h : KnowsSession k s) where
+    -- what is asked for, by whether a transaction is lost
+    abbrev by_loss : Bool → Request → Asked
+    by_loss b r = unless_lost b (asks_lost s r) (asked_unless_lost v m g c s r)
+
+    -- without a statement
+    bare_asked : (r : Request) → has_statement r ≡ false → IsAskedFor m (request_purpose k r) (asked_unless_lost v m g c s r)
+    bare_asked r none = unlost_asked v g c s k r h (λ e. absurd (true≢false (sym e ∙ none)))
+
+    kept_asked : (r : Request) → has_statement r ≡ false → IsLostFor k.transaction (request_purpose k r) (asked_unless_lost v m g c s r)
+    kept_asked r none = subst (λ w. IsAskedFor m w (asked_unless_lost v m g c s r)) (sym (same_apart k.transaction (request_purpose k r) (apart k r none)))
+        (bare_asked r none)
+
+    kept_begins : (r : Request) → has_statement r ≡ false → BeginsUnlost true (asked_unless_lost v m g c s r)
+    kept_begins r none = begins_apart (request_purpose k r) (asked_unless_lost v m g c s r) (apart k r none) (bare_asked r none)
+
+    lost_asked : (r : Request) → is_idle k.transaction ≡ false → IsLostFor k.transaction (request_purpose k r) (by_loss true r)
+    lost_asked requests.Leader idle = kept_asked requests.Leader refl
+    lost_asked (requests.Client id) idle = kept_asked (requests.Client id) refl
+    lost_asked (requests.Open name flags vfs) idle = kept_asked (requests.Open name flags vfs) refl
+    lost_asked (requests.Prepare db sql wide) idle = tt
+    lost_asked (requests.Exec db id params wide) idle =
+        here_lost k.transaction k s db (prepared_purpose k false (k.prepared id) params) _ h.name
+        (subst (λ o. IsLostFor k.transaction (prepared_purpose k false o params) (lost_exec (prepared_at s.statements id) params)) (sym (h.prepared id))
+        (exec_lost k.transaction k (prepared_at s.statements id) params idle))
+    lost_asked (requests.Query db id params wide) idle = tt
+    lost_asked (requests.Finalize db id) idle = kept_asked (requests.Finalize db id) refl
+    lost_asked (requests.ExecSql db sql params wide) idle =
+        here_lost k.transaction k s db (text_purpose k sql (scan_of sql) params) _ h.name (text_lost k.transaction k sql (scan_of sql) params idle)
+    lost_asked (requests.QuerySql db sql params wide) idle = tt
+    lost_asked (requests.Interrupt db) idle = kept_asked (requests.Interrupt db) refl
+    lost_asked (requests.Connect id address) idle = kept_asked (requests.Connect id address) refl
+    lost_asked (requests.Add id address) idle = kept_asked (requests.Add id address) refl
+    lost_asked (requests.Assign id role) idle = kept_asked (requests.Assign id role) refl
+    lost_asked (requests.Remove id) idle = kept_asked (requests.Remove id) refl
+    lost_asked (requests.Dump name) idle = kept_asked (requests.Dump name) refl
+    lost_asked (requests.Cluster format) idle = kept_asked (requests.Cluster format) refl
+    lost_asked (requests.Transfer id) idle = kept_asked (requests.Transfer id) refl
+    lost_asked (requests.Describe format) idle = kept_asked (requests.Describe format) refl
+    lost_asked (requests.Weight weight) idle = kept_asked (requests.Weight weight) refl
+
+    begins : (b : Bool) (r : Request) → BeginsUnlost b (by_loss b r)
+    begins false r = begins_free (by_loss false r)
+    begins true requests.Leader = kept_begins requests.Leader refl
+    begins true (requests.Client id) = kept_begins (requests.Client id) refl
+    begins true (requests.Open name flags vfs) = kept_begins (requests.Open name flags vfs) refl
+    begins true (requests.Prepare db sql wide) = tt
+    begins true (requests.Exec db id params wide) = lost_so (BeginsUnlost true) s tt tt tt (requests.Exec db id params wide)
+    begins true (requests.Query db id params wide) = tt
+    begins true (requests.Finalize db id) = kept_begins (requests.Finalize db id) refl
+    begins true (requests.ExecSql db sql params wide) = lost_so (BeginsUnlost true) s tt tt tt (requests.ExecSql db sql params wide)
+    begins true (requests.QuerySql db sql params wide) = tt
+    begins true (requests.Interrupt db) = kept_begins (requests.Interrupt db) refl
+    begins true (requests.Connect id address) = kept_begins (requests.Connect id address) refl
+    begins true (requests.Add id address) = kept_begins (requests.Add id address) refl
+    begins true (requests.Assign id role) = kept_begins (requests.Assign id role) refl
+    begins true (requests.Remove id) = kept_begins (requests.Remove id) refl
+    begins true (requests.Dump name) = kept_begins (requests.Dump name) refl
+    begins true (requests.Cluster format) = kept_begins (requests.Cluster format) refl
+    begins true (requests.Transfer id) = kept_begins (requests.Transfer id) refl
+    begins true (requests.Describe format) = kept_begins (requests.Describe format) refl
+    begins true (requests.Weight weight) = kept_begins (requests.Weight weight) refl
+
+    by_asked : (b : Bool) (r : Request) → s.lost ≡ b → IsAskedFor m (purpose k (Some r)) (by_loss b r)
+    by_asked true r e = lost_asked r (h.idle ∙ ap (λ (b : Bool). not (in_tx s || b)) e ∙ ap not (either_true (in_tx s)))
+    by_asked false r e = subst (λ w. IsAskedFor m w (by_loss false r))
+        (sym (unlost_same k.transaction (request_purpose k r) (λ lost. true≢false (sym (h.lost lost) ∙ e))))
+        (unlost_asked v g c s k r h (λ some. h.idle ∙ ap (λ (b : Bool). not (in_tx s || b)) e ∙ ap not (either_false (in_tx s))))
+
+    pub request_asked : (r : Request) → IsAskedFor m (purpose k (Some r)) (asked_by v m g c s r)
+    unfolding asked_by
+    request_asked r = by_asked s.lost r refl
+
+    pub request_begins : (r : Request) → BeginsUnlost s.lost (asked_by v m g c s r)
+    unfolding asked_by
+    request_begins r = begins s.lost r
 
 pub requests_ask_purposes_hold : RequestsAskPurposes
-requests_ask_purposes_hold v m g c k r h = request_asked m v g c (g.session c) k r h
+requests_ask_purposes_hold v m g c k r h = request_asked m v g c (g.session c) k h r

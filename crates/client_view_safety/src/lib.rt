@@ -5,13 +5,13 @@
 ghost use Rattle.client_view_safety.specs.Views.{AnswersKeepViews, RequestsAskPurposes};
 
 /// If a client knows its session, then the node does for a request what the headline says that the request asks for, or
-/// refuses it.
+/// refuses it. A statement that the client knows to be refused, as its transaction was lost, is refused.
 pub fn requests_ask_purposes()
     ensures { RequestsAskPurposes }
 {}
 
 /// If a client knows its session, then it knows, by the answer, the session after each request that is answered at once,
-/// or when the last entry of what it proposed is applied.
+/// or when the last entry of what it proposed is applied. The refusal of a COMMIT that ends a lost transaction is an answer at once.
 pub fn answers_keep_views()
     ensures { AnswersKeepViews }
 {}

@@ -10,7 +10,7 @@ use Rattle.database_state.specs.Files.{empty_image}
 use Rattle.log_commands.specs.Splitting.{split_from, before_last}
 use Rattle.sql_engine.specs.declared.answer.StatementResult.{StatementResult}
 use Rattle.sql_engine.specs.Replies.{Statement}
-use Rattle.session_spec.specs.Asking.{Asked, Never, Tells, Sets, Opens, Creates, Prepares, Drops, Begins, Commits, RollsBack, Changes, Runs, Reads, asked}
+use Rattle.session_spec.specs.Asking.{Asked, Never, Tells, Sets, Opens, Creates, Prepares, Drops, Forgets, Begins, Commits, RollsBack, Changes, Runs, Reads, asked}
 use Rattle.session_spec.specs.Causes.{LogFull, DatabaseFull}
 use Rattle.session_spec.specs.Engines.{Answer, no_pages, Ending, Lacking, TooLarge, Stopped, Ended}
 use Rattle.session_spec.specs.Entries.{Does, tx_of}
@@ -95,6 +95,7 @@ does_once v m g c s (Creates name barriers) answers =
     cond_both (pages_full m g name empty_image) _ _ ProposesOneIfAny (λ p. tt) (λ p. record { flight = _; is = refl; count = refl; reply = tt })
 does_once v m g c s (Prepares p tail) answers = tt
 does_once v m g c s (Drops id) answers = tt
+does_once v m g c s (Forgets response) answers = tt
 does_once v m g c s (Begins at_once) answers = cond_both (at_once && other_holds g c s.database) _ _ ProposesOneIfAny (λ p. tt) (λ p. tt)
 does_once v m g c s Commits answers = commit_once v m g c s s.tx
 does_once v m g c s RollsBack answers = tt

@@ -73,13 +73,17 @@ rows_differ (p ∷ ps) n x e = (cc)
 one_failure : (response : Response) (n : ℕ) (x : List ℕ) → acts.Reply (response ∷ []) ≡ acts.Reply (responses.Failure n x ∷ []) → responses.Failure n x ≡ response
 one_failure response n x e = (cc)
 
+codes_differ : code NotLeader ≡ 26 → ⊥
+codes_differ e = absurd (omega arith)
+
+refusals_differ : acts.Reply (failure NotLeader ∷ []) ≡ acts.Reply (failure NotADatabase ∷ []) → ⊥
+refusals_differ e = codes_differ (code_of (failure NotLeader) (failure NotADatabase) _ _ _ _ e)
+
 no_failure : (reply : Reply) → (IsRefusal reply → reply ≡ Single (failure NotLeader)) → acts.Reply (responses_of reply) ≡ acts.Reply (failure NotADatabase ∷ []) → ⊥
 no_failure (Refusal cause) plain e = let other : Refusal cause ≡ Single (failure NotLeader) = plain tt in (cc)
 no_failure (Single response) plain e =
     let same : Single response ≡ Single (failure NotLeader) = plain (subst IsFailure (one_failure response (code NotADatabase) _ e) tt) in
-    let told : acts.Reply (failure NotLeader ∷ []) ≡ acts.Reply (failure NotADatabase ∷ []) = subst (λ (r : Reply). acts.Reply (responses_of r) ≡ acts.Reply (failure NotADatabase ∷ [])) same e in
-    let codes : 10250 ≡ 26 = code_of (failure NotLeader) (failure NotADatabase) _ _ _ _ told in
-    absurd (omega arith)
+    refusals_differ (subst (λ (r : Reply). acts.Reply (responses_of r) ≡ acts.Reply (failure NotADatabase ∷ [])) same e)
 no_failure (Rows answer) plain e = rows_differ _ _ _ e
 
 -- if no answer at once is a refusal, except for that of a COMMIT of a lost transaction
