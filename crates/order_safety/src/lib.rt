@@ -3,6 +3,8 @@
 
 ghost use Rattle.order_safety.specs.Order.{AnsweredComesFirst, PendingComesFirst};
 
+pub mod refusals;
+
 use sql_engine::Engine;
 
 /// A proposal that was pending at a node at some moment is applied before each entry that any leader appends after that
