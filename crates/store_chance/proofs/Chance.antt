@@ -1,25 +1,23 @@
 -- What a pick leaves of a block over a block.
-use Rattle.std.proofs.Common.{◌≡◌, ◌⊎◌, inl, inr, ⊎_elim, ℕ, zero, suc, ◌+◌, ◌<◌, ◌≤◌, ◌/◌, Bool, true, false, true≢false, cond, List, [], ◌∷◌, ◌++◌, length, take, drop, refl, sym, ap, ◌∙◌, subst, arith}
+use Rattle.std.proofs.Common.{◌≡◌, ◌⊎◌, inl, inr, ⊎_elim, ℕ, zero, suc, ◌+◌, ◌≤◌, ◌/◌, Bool, true, false, true≢false, cond, List, [], ◌∷◌, ◌++◌, length, take, drop, refl, sym, ap, ◌∙◌, subst, arith}
 use Rattle.std.specs.Prelude.{not, ◌&&◌}
 use Rattle.std.specs.Str.{bytes_eq}
 use Rattle.std.proofs.lemmas.Bool.{and_parts}
 use Rattle.std.proofs.lemmas.List.{take_all}
 use Rattle.std.proofs.lemmas.Slice.Eq.{bytes_eq-Decides}
-use Rattle.disk_model.specs.Disk.{Found, found, Wrote, Change, Held}
+use Rattle.disk_model.specs.Disk.{Found, found}
 use Rattle.disk_model.specs.Calls.{put}
-use Rattle.disk_model.specs.Genuine.{WasWritten, Genuine}
+use Rattle.disk_model.specs.Genuine.{WasWritten}
 use Rattle.disk_model.specs.Memory.{Memory, effects_on, outcome, half, half_of, done_in_turn, shown, first_half, kept, whole_calls, keeps_half}
 use Rattle.disk_model.specs.Trait.{Text}
 use Rattle.disk_model.specs.declared.open_calls.UnsyncedEffect.{UnsyncedEffect}
 use Rattle.disk_model.specs.declared.open_calls.UnsyncedEffect.TheVariants.{Write}
 use Rattle.disk_model.specs.declared.open_calls.UnsyncedCall.{UnsyncedCall}
 use Rattle.disk_model.proofs.Bytes.{put_whole}
-use Rattle.store_laws.specs.Store.{Meta, no_meta, Format, reader}
-use Rattle.store_laws.specs.Chance.{BatchesGenuine}
-use Rattle.store_laws.specs.Names.{Segment}
+use Rattle.store_laws.specs.Store.{Meta, no_meta}
 use Rattle.store_format.specs.Metadata.{fits_side, is_block, meta_in, block_bytes}
 use Rattle.store_format.specs.Words.{word_from}
-use Rattle.store_chance.specs.Chance.{torn, PicksLeaveThree, ChecksSuffice, ChecksAreChance, AcrossIsUnfair}
+use Rattle.store_chance.specs.Chance.{torn, PicksLeaveThree, ChecksSuffice, ChecksAreChance}
 
 -- ---- which effects a pick keeps
 
@@ -153,40 +151,3 @@ checks_are_chance m name old new pick one e =
     (λ s. ap (is_block side) (sym (ap (λ (x : Found). x.bytes) s)) ∙ p.0)
     h)
     (picks_leave_three m name (block_bytes old) (block_bytes new) pick one)
-
--- ---- spans
-
-short : (n : ℕ) (l x : List ℕ) → take n l ≡ x → length x ≤ length l
-short zero l x e = subst (λ (y : List ℕ). length y ≤ length l) e (omega arith)
-short (suc n) [] x e = subst (λ (y : List ℕ). length y ≤ 0) e (omega arith)
-short (suc n) (y ∷ l) x e = subst (λ (z : List ℕ). length z ≤ length (y ∷ l)) e (let s = short n l (take n l) refl in omega (arith, s))
-
-taken : (n : ℕ) (l : List ℕ) → n ≤ length l → length (take n l) ≡ n
-taken zero l le = refl
-taken (suc n) [] le = absurd (omega (arith, le))
-taken (suc n) (x ∷ l) le = let t : length (take n l) ≡ n = taken n l (omega (arith, le)) in ap suc t
-
-dropped : (p : ℕ) (l : List ℕ) → p ≤ length l → p + length (drop p l) ≡ length l
-dropped zero l le = omega arith
-dropped (suc p) [] le = absurd (omega (arith, le))
-dropped (suc p) (x ∷ l) le = let t = dropped p l (omega (arith, le)) in omega (arith, t)
-
-not_since : (a b x : List ℕ) (p : ℕ) (since : List Change) → since ≡ Wrote (length a) b ∷ [] → p < length a → WasWritten since p x → ⊥
-not_since a b x p since e lt was = ⊎_elim (λ (w : (length a ≤ p) × _). let le = w.0 in omega (arith, lt, le)) (λ w. w) (subst (λ cs. WasWritten cs p x) e was)
-
-spans_at : (f : Format) (h : Held) (a b c x : List ℕ) (p size : ℕ) → h.bytes ≡ a → h.since ≡ Wrote (length a) b ∷ [] → length x ≡ size → p < length a →
-    length a < p + size → Genuine h p x → ⊥
-spans_at f h a b c x p size e s n lt past g = ⊎_elim
-    (λ (w : take (length x) (drop p h.bytes) ≡ x).
-    let u : length x ≤ length (drop p a) = short (length x) (drop p a) x (ap (λ l. take (length x) (drop p l)) (sym e) ∙ w) in
-    let v = dropped p a (omega (arith, lt)) in
-    omega (arith, u, v, n, past))
-    (λ w. not_since a b x p h.since s lt w)
-    g.why
-
-pub across_is_unfair : AcrossIsUnfair
-across_is_unfair f d g k p a b e s c spans fair =
-    let size = (reader f (a ++ b) (drop p (a ++ b))).size in
-    let genuine = (subst (λ l. BatchesGenuine f (d.held (Segment k)) l) c (fair.segment k)).each p spans.reads in
-    spans_at f (d.held (Segment k)) a b (a ++ b) (take size (drop p (a ++ b))) p size e s
-    (taken size (drop p (a ++ b)) spans.within) spans.inside spans.beyond genuine

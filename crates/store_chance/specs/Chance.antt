@@ -1,14 +1,13 @@
 -- When a torn block of metadata has a valid checksum by chance.
-use Rattle.std.specs.Prelude.{◌≡◌, ◌≢◌, ◌⊎◌, ℕ, ◌+◌, ◌<◌, ◌≤◌, Bool, true, false, not, ◌&&◌, List, [], ◌∷◌, ◌++◌, length, take, drop}
+use Rattle.std.specs.Prelude.{◌≡◌, ◌⊎◌, ℕ, Bool, true, false, not, ◌&&◌, List, [], ◌∷◌, ◌++◌, length, take, drop}
 use Rattle.std.specs.Str.{bytes_eq}
 use Rattle.disk_model.specs.Disk.{found, Wrote, Held}
 use Rattle.disk_model.specs.Genuine.{WasWritten}
 use Rattle.disk_model.specs.Memory.{Memory, effects_on, outcome}
 use Rattle.disk_model.specs.Trait.{Text}
 use Rattle.disk_model.specs.declared.open_calls.UnsyncedEffect.TheVariants.{Write}
-use Rattle.store_laws.specs.Chance.{MetaGenuine, NoChance}
-use Rattle.store_laws.specs.Names.{Segment, NodeFiles, NodeDisk}
-use Rattle.store_laws.specs.Store.{Format, reader}
+use Rattle.store_laws.specs.Chance.{MetaGenuine, BatchesGenuine}
+use Rattle.store_laws.specs.Store.{Format, reader, is_whole}
 use Rattle.store_format.specs.Metadata.{fits_side, is_block, block_bytes}
 use Rattle.store_format.specs.NodeFormat.{node_format}
 use Rattle.store_format.specs.Sums.{sum_bytes}
@@ -26,7 +25,7 @@ reads_by_chance old new = is_block (fits_side true new.version) (torn (block_byt
 
 -- This is one equation of eight bytes: the older block's sum is the sum of the torn front.
 abbrev pub SumsMatch : Metadata → Metadata → Type 0
-SumsMatch old new = drop 32 (torn (block_bytes old) (block_bytes new)) ≡ sum_bytes 2 (take 32 (torn (block_bytes old) (block_bytes new)))
+SumsMatch old new = drop 32 (torn (block_bytes old) (block_bytes new)) ≡ sum_bytes 3 (take 32 (torn (block_bytes old) (block_bytes new)))
 
 -- ---- what a pick leaves
 
@@ -61,21 +60,16 @@ ChecksAreChance =
     (m : Memory) (name : Text) (old new : Metadata) (pick : ℕ) → OneWrite m name (block_bytes old) (block_bytes new) →
     is_chance (fits_side true new.version) (block_bytes old) (block_bytes new) (outcome pick m name).bytes ≡ true → reads_by_chance old new ≡ true
 
--- ---- the premise can be false without any chance
+-- ---- a write that a crash keeps whole
 
--- At a place in the synced bytes of a segment, a batch reads that ends in what was written since. No load looks there. But whoever chooses the bytes of both
--- batches can have one read there.
-pub record ReadsAcross (f : Format) (a b : List ℕ) (p : ℕ) : Type 0 where
-  pub inside : p < length a
-  pub reads : (reader f (a ++ b) (drop p (a ++ b))).size ≢ 0
-  pub beyond : length a < p + (reader f (a ++ b) (drop p (a ++ b))).size
-  pub within : (reader f (a ++ b) (drop p (a ++ b))).size ≤ length (drop p (a ++ b))
+-- A batch was written after whole batches, which are synced.
+pub record WritesBatch (f : Format) (h : Held) (a b : List ℕ) : Type 0 where
+  pub whole : is_whole f a ≡ true
+  pub batch : (reader f a b).size ≡ length b
+  pub bytes : h.bytes ≡ a
+  pub since : h.since ≡ Wrote (length a) b ∷ []
 
--- Then the premise `NoChance` is false of a crash that keeps this write whole.
-abbrev pub AcrossIsUnfair : Type 0
-AcrossIsUnfair =
-    (f : Format) (d : NodeDisk) (g : NodeFiles) (k p : ℕ) (a b : List ℕ) → (d.held (Segment k)).bytes ≡ a → (d.held (Segment k)).since ≡ Wrote (length a) b
-    ∷ [] →
-    (g (Segment k)).bytes ≡ a ++ b →
-    ReadsAcross f a b p →
-    NoChance f d g → ⊥
+-- If a crash keeps this write whole, no batch was found by chance. Nothing is asked of the bytes in the batches: something in them may read as a
+-- batch, at a place that no load reaches.
+abbrev pub WholeWritesAreFair : Type 0
+WholeWritesAreFair = (h : Held) (a b : List ℕ) → WritesBatch node_format h a b → BatchesGenuine node_format h (a ++ b)

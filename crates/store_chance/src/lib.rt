@@ -2,15 +2,15 @@
 //! function.
 #![tactic(auto)]
 
-ghost use Rattle.store_chance.specs.Chance.{PicksLeaveThree, ChecksSuffice, ChecksAreChance, AcrossIsUnfair};
+ghost use Rattle.store_chance.specs.Chance.{PicksLeaveThree, ChecksSuffice, ChecksAreChance, WholeWritesAreFair};
 
 /// After a crash in the write of a block of metadata over an older one, a disk in memory has the old block, the new one
 /// or their torn one. If a check of what is found says no, no metadata was found by chance. It says yes only if the old
-/// block's sum is that of the torn block. The premise that no batch reads by chance can be false without any chance, at
-/// a place that no load looks at.
+/// block's sum is that of the torn block. If a crash keeps a batch whole, which was written after whole batches, no batch
+/// was found by chance, whatever the bytes in the batches are.
 pub fn torn_metadata()
     ensures three { PicksLeaveThree }
     ensures suffices { ChecksSuffice }
     ensures chance { ChecksAreChance }
-    ensures across { AcrossIsUnfair }
+    ensures whole { WholeWritesAreFair }
 {}

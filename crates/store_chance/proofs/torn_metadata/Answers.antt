@@ -1,4 +1,5 @@
-use Rattle.store_chance.proofs.Chance.{picks_leave_three, checks_suffice, checks_are_chance, across_is_unfair}
+use Rattle.store_chance.proofs.Chance.{picks_leave_three, checks_suffice, checks_are_chance}
+use Rattle.store_chance.proofs.Reached.{whole_writes_are_fair}
 use Rattle.store_chance.proofs.torn_metadata.Goals as goal
 
 pub returns-clause-three : goal.returns-clause-three
@@ -10,5 +11,5 @@ returns-clause-suffices c = checks_suffice
 pub returns-clause-chance : goal.returns-clause-chance
 returns-clause-chance c = checks_are_chance
 
-pub returns-clause-across : goal.returns-clause-across
-returns-clause-across c = across_is_unfair
+pub returns-clause-whole : goal.returns-clause-whole
+returns-clause-whole c = whole_writes_are_fair
