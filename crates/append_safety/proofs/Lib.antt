@@ -1,3 +1,4 @@
 pub mod Appending
 pub mod Kept
 pub mod Later
+pub mod Refused

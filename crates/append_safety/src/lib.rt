@@ -10,6 +10,8 @@ ghost use Rattle.append_safety.specs.Appending.{
   NewIsLater,
 };
 
+pub mod refusals;
+
 /// Each applied entry was appended by a leader of its term, in a step of the run. When a leader appended an entry, each
 /// entry before it had been appended too: by this step or an earlier one of the run. A log between two steps that are
 /// kept is the same as the applied entries up to each index at which both have one term; so an applied entry of a

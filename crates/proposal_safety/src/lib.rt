@@ -10,6 +10,8 @@ ghost use Rattle.proposal_safety.specs.Proposing.{
   RequestsProposeOnce,
 };
 
+pub mod refusals;
+
 use sql_engine::Engine;
 
 /// A request proposes one change at most: a new database, or a commit of pages. So does a query that is run later than

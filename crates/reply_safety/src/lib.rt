@@ -3,6 +3,8 @@
 
 ghost use Rattle.reply_safety.specs.Resting.{RequestsRest, LaterQueriesRest, ReadersRest};
 
+pub mod refusals;
+
 use sql_engine::Engine;
 
 /// An answer to statements rests on those statements themselves. If it comes at once outside a transaction, they left
