@@ -4,6 +4,8 @@
 
 ghost use Rattle.client_view_safety.specs.Views.{AnswersKeepViews, RequestsAskPurposes};
 
+pub mod refusals;
+
 /// If a client knows its session, then the node does for a request what the headline says that the request asks for, or
 /// refuses it. A statement that the client knows to be refused, as its transaction was lost, is refused.
 pub fn requests_ask_purposes()

@@ -1,3 +1,4 @@
 pub mod Moments
 pub mod Shown
 pub mod Order
+pub mod Refused

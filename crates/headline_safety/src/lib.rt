@@ -5,6 +5,8 @@
 ghost use Rattle.headline_safety.specs.Order.{ProposalsKeepOrder};
 ghost use Rattle.headline_safety.specs.Shown.{FilesAreShown};
 
+pub mod refusals;
+
 use sql_engine::Engine;
 
 /// A run of whole nodes has one list of entries for all its moments. Take any changes with the names and the images of

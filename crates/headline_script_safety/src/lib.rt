@@ -4,6 +4,8 @@
 
 ghost use Rattle.headline_script_safety.specs.Showing.{ScriptsShowChanges};
 
+pub mod refusals;
+
 use sql_engine::Engine;
 
 /// A script whose turns are a run of whole nodes has one list of entries. Take any changes with the names and the images

@@ -1,3 +1,4 @@
 pub mod Turns
 pub mod Purposes
 pub mod Staying
+pub mod Refused

@@ -9,6 +9,8 @@ ghost use Rattle.history_safety.specs.Histories.{
   TransactionsRun,
 };
 
+pub mod refusals;
+
 use sql_engine::Engine;
 
 /// The image that an open transaction has reached is what some statements make of the image on which it began. So each

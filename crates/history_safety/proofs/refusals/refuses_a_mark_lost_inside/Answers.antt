@@ -1,0 +1,5 @@
+use Rattle.history_safety.proofs.Refused.{no_mark_lost_inside}
+use Rattle.history_safety.proofs.refusals.refuses_a_mark_lost_inside.Goals as goal
+
+pub returns : goal.returns
+returns g c kind = no_mark_lost_inside _
