@@ -8,13 +8,11 @@ use Rattle.serve_threads.specs.declared.host_counts.HostCounts.{HostCounts}
 -- this many workers more were taken, and nothing else was done
 pub record Hires (count : ℕ) (old new : HostCounts) : Type 0 where
   pub listens : new.listens ≡ old.listens
-  pub dials : new.dials ≡ old.dials
   pub workers : new.workers ≡ old.workers + count
 
 -- it listened once, and this many workers were taken
 pub record HasBegun (count : ℕ) (old new : HostCounts) : Type 0 where
   pub listens : new.listens ≡ old.listens + 1
-  pub dials : new.dials ≡ old.dials
   pub workers : new.workers ≡ old.workers + count
 
 -- how a connection to a peer begins: the word of the version, and CONNECT with the own id and address

@@ -16,10 +16,9 @@ use Rattle.serve_node.specs.Crew.{HasBegun}
 use Rattle.serve_node.specs.Ending.{end_of_start, end_of_loop}
 use Rattle.serve_node.specs.Rules.{IsNodeOf}
 
--- how many threads work concurrently with a node: a connection reader and a writer at each of 72 places, a ticker and four readers, and one
--- for each peer
+-- how many threads work concurrently with a node: a ticker and four readers, and one for each peer
 abbrev pub workers_of : Serve → ℕ
-workers_of words = 149 + length words.peers
+workers_of words = 5 + length words.peers
 
 -- What a node is served over: its disk, its engine, and the events of its host, of which those that are left are told or not
 pub record Surroundings (D E : Type 0) : Type 0 where

@@ -4,7 +4,7 @@ use crate::notes::{Note, Notes};
 use node_core::{NodeState, StepOutputs};
 use raft_core::RaftRole;
 use serve_loop::StepReport;
-use serve_threads::Queues;
+use serve_threads::{Queues, Replies};
 use serve_traits::Outbox;
 use session_gateway::ReadJob;
 use std::sync::Wait;
@@ -14,7 +14,7 @@ const WARN_INDEX: u64 = 3_865_410_000;
 
 /// Hands what a node says to those that carry it, and notes how it is where that is new.
 #[derive(Drop)]
-pub(crate) struct Dispatcher<'a, R: Wait + Copy + Drop, L: Drop, W: Notes> {
+pub(crate) struct Dispatcher<'a, R: Wait + Copy + Drop, L: Replies, W: Notes> {
     queues: Queues<R, L, ReadJob>,
     notes: &'a mut W,
     noted: Option<(u64, u64)>,
@@ -30,7 +30,7 @@ fn leader_of(state: &NodeState, id: u64) -> Option<u64> {
     }
 }
 
-impl<'a, R: Wait + Copy + Drop, L: Drop, W: Notes> Dispatcher<'a, R, L, W> {
+impl<'a, R: Wait + Copy + Drop, L: Replies, W: Notes> Dispatcher<'a, R, L, W> {
     /// Nothing was said so far by the node of this id.
     pub(crate) fn new(
         queues: Queues<R, L, ReadJob>,
@@ -95,7 +95,8 @@ impl<'a, R: Wait + Copy + Drop, L: Drop, W: Notes> Dispatcher<'a, R, L, W> {
     }
 }
 
-impl<'a, R: Wait + Copy + Drop, L: Drop, W: Notes> Outbox<StepReport> for Dispatcher<'a, R, L, W> {
+impl<'a, R: Wait + Copy + Drop, L: Replies, W: Notes> Outbox<StepReport>
+    for Dispatcher<'a, R, L, W> {
     ghost use Rattle.std.specs.Prelude.{None};
 
     ghost said = { λ _. None };

@@ -15,7 +15,7 @@ ghost use Rattle.serve_node.specs.Rules.{GoesWell, IsNodeOf, IsRunOfRules};
 ghost use Rattle.serve_node.specs.Serving.{workers_of, GoesOn, Started, Serves};
 ghost use Rattle.serve_node.specs.declared.end.ServeEnd.TheVariants as ends;
 
-use crate::crew::{LinkOf, crew};
+use crate::crew::crew;
 use crate::end::{ServeEnd, end_of_crew, end_of_loop, end_of_start};
 use crate::fault::CrewFault;
 use crate::notes::{Note, Notes};
@@ -65,7 +65,7 @@ fn begin<E: Engine + Send + Drop + 'static, H: Host<Read>, W: Notes>(
     host: &mut H,
     engine: &E,
     notes: &mut W,
-) -> Result<Queues<H::Rt, LinkOf<H>, ReadJob>, CrewFault>
+) -> Result<Queues<H::Rt, H::Replies, ReadJob>, CrewFault>
     requires { IsServable words.now }
     ensures done { OnOk result (HasBegun (workers_of words.now) (H.done host.old) (H.done host.new)) }
     ensures events { H.taken host.new ≡ H.taken host.old }
@@ -74,19 +74,19 @@ fn begin<E: Engine + Send + Drop + 'static, H: Host<Read>, W: Notes>(
     ensures cause { IfErr result (λ f. f ≡ crew.Host → Rose (H.faults host.old) (H.faults host.new)) }
 {
     let address = words.listen.as_str();
-    let door = host.listen(address)?;
+    host.listen(address)?;
     notes.note(Note::Listens {
         id: words.id,
         address,
     });
-    crew(alloc, host, &door, words, engine)
+    crew(alloc, host, words, engine)
 }
 
 /// Has a node make a step for each event that the host brings, and hands what it says to these queues.
 fn step_on<H: Host<Read>, D: Disk, E: Engine, W: Notes>(
     words: &Serve,
     node: Node,
-    queues: Queues<H::Rt, LinkOf<H>, ReadJob>,
+    queues: Queues<H::Rt, H::Replies, ReadJob>,
     host: &mut H,
     disk: &mut D,
     engine: &mut E,

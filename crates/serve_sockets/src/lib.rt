@@ -1,21 +1,23 @@
-//! Where a node listens and dials, and what brings it its events: hosts over the operating system's sockets, and over memory.
-//! And where a client dials.
+//! Hosts of a node, over the operating system's sockets and over memory: they listen, give what dials peers, and bring the node its events.
+//! And the dialer of a client over sockets.
 #![tactic(auto)]
 
-mod frame_position;
 mod list_host;
-mod mem_door;
+mod mem_dialer;
 mod mem_host;
+mod poller;
+mod ready_socket;
 mod stream;
 mod tcp_dialer;
-mod tcp_door;
 mod tcp_host;
-mod tcp_link;
+mod tcp_peer;
+mod tcp_replies;
 
 pub use list_host::ListHost;
-pub use mem_door::MemDoor;
+pub use mem_dialer::{MemPeerConnection, MemPeerDialer};
 pub use mem_host::MemHost;
+pub use ready_socket::ReadySocket;
 pub use tcp_dialer::TcpDialer;
-pub use tcp_door::TcpDoor;
 pub use tcp_host::{HostFault, TcpHost};
-pub use tcp_link::TcpLink;
+pub use tcp_peer::{TcpPeerConnection, TcpPeerDialer};
+pub use tcp_replies::TcpReplies;

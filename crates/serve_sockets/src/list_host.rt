@@ -2,18 +2,18 @@
 
 ghost use Rattle.std.specs.Prelude.{◌≡◌, Some};
 
-use crate::mem_door::MemDoor;
+use crate::mem_dialer::MemPeerDialer;
 use crate::mem_host::MemHost;
 use dq_base::Failed;
-use serve_threads::{ChannelPost, Host};
-use serve_traits::{Event, Inbox, MemInbox, MemLink};
+use serve_threads::{ChannelPost, Host, NoReplies};
+use serve_traits::{Event, Inbox, MemInbox};
 use std::alloc::{AllocError, Global};
 use std::sync::Wait;
 use std::thread::Threads;
 use std::time::Clock;
 
-/// A host over memory whose events are those of a list: a take fails if none is left. It tells them. At its listeners no connection comes,
-/// each dial fails, and what is posted at its ends is never taken.
+/// A host over memory whose events are those of a list: a take fails if none is left. It reports them. No connection comes if it
+/// listens, replies and messages to peers get lost, and what is posted at its ends is never taken.
 #[derive(Drop)]
 pub struct ListHost<R: Wait + Copy + Drop, T: Drop> {
     host: MemHost<R, T>,
@@ -23,7 +23,7 @@ pub struct ListHost<R: Wait + Copy + Drop, T: Drop> {
 impl<R: Wait + Copy + Drop, T: Drop> ListHost<R, T> {
     /// A host with these events that did nothing yet.
     pub fn new(rt: R, alloc: Global, events: Vec<Event<T>>) -> Result<ListHost<R, T>, AllocError> {
-        let host = MemHost::new(rt, alloc, Vec::new(alloc), Vec::new(alloc), Vec::new(alloc))?;
+        let host = MemHost::new(rt, alloc, Vec::new(alloc))?;
         Ok(ListHost {
             host,
             events: MemInbox::new(events),
@@ -49,7 +49,9 @@ impl<R: Wait + Copy + Drop, T: Drop> Inbox<T> for ListHost<R, T> {
 impl<R: Threads + Wait + Clock + Copy + Drop + Send + 'static, T: Drop> Host<T> for ListHost<R, T> {
     type Rt = R;
 
-    type Door = MemDoor;
+    type Dialer = MemPeerDialer;
+
+    type Replies = NoReplies;
 
     ghost done = { λ host. host.host.done };
 
@@ -57,20 +59,20 @@ impl<R: Threads + Wait + Clock + Copy + Drop + Send + 'static, T: Drop> Host<T> 
         self.host.rt
     }
 
+    fn replies(&self) -> Result<NoReplies, AllocError> {
+        Ok(NoReplies)
+    }
+
     fn post(&self) -> Result<ChannelPost<R, T>, AllocError> {
         self.host.post.again()
     }
 
-    fn listen(&mut self, _address: &str) -> Result<MemDoor, Failed> {
+    fn listen(&mut self, _address: &str) -> Result<(), Failed> {
         self.host.listen_once()
     }
 
-    fn twin(&mut self, door: &MemDoor) -> Result<MemDoor, Failed> {
-        self.host.twin_of(door)
-    }
-
-    fn dial(&mut self, _address: &str) -> Result<MemLink, Failed> {
-        self.host.dial_next()
+    fn dialer(&mut self) -> Result<MemPeerDialer, Failed> {
+        self.host.next_dialer()
     }
 
     fn moment(&mut self) -> u64 {

@@ -11,7 +11,7 @@ use std::time::Duration;
 const DIAL_SECONDS: u64 = 10;
 
 /// How many times in a row an interrupted call is tried.
-const MAX_RETRIES: u32 = 1_000;
+pub(crate) const MAX_RETRIES: u32 = 1_000;
 
 /// A stream to the first address that answers in time, of those that a name and a port have.
 pub(crate) fn connect<R: Net>(rt: &R, address: &str) -> io::Result<R::Stream> {

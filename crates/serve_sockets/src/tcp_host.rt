@@ -3,35 +3,60 @@
 ghost use Rattle.std.specs.Prelude.{◌≡◌, None};
 ghost use Rattle.serve_threads.specs.Counts.{IsCounted};
 
-use crate::tcp_door::TcpDoor;
-use crate::tcp_link::TcpLink;
+use crate::poller::Poller;
+use crate::ready_socket::ReadySocket;
+use crate::tcp_peer::TcpPeerDialer;
+use crate::tcp_replies::TcpReplies;
 use dq_base::Failed;
+use serve_places::Places;
 use serve_threads::{ChannelInbox, ChannelPost, Host, HostCounts, event_channel};
 use serve_traits::{Event, Inbox};
 use std::alloc::{AllocError, Global};
 use std::io;
 use std::net::TcpListener;
-use std::sync::Wait;
+use std::sync::{Arc, Mutex, Wait};
 use std::thread::Threads;
 use std::time::Clock;
+
+/// Milliseconds since a moment that doesn't change; 0 if no clock can be read.
+fn moment_of(rt: &HostRuntime) -> u64 {
+    match rt.monotonic() {
+        Ok(time) => time
+            .as_secs()
+            .saturating_mul(1_000)
+            .saturating_add(time.subsec_millis() as u64),
+        Err(_) => 0,
+    }
+}
+
+/// The wait for a listener at this address.
+fn listen_at(sockets: &HostRuntime, address: &str) -> io::Result<Poller> {
+    Poller::new(sockets, TcpListener::bind(sockets, address)?)
+}
 
 /// A call of a host that failed.
 #[derive(Drop)]
 pub struct HostFault {
-    /// What was called: `listen`, `accept` for a second end of a listener, `dial`, `start a thread` or
-    /// `take`.
+    /// What was called: `listen`, `start a thread` or `take`.
     pub call: &'static str,
     /// What the system said, if it did.
     pub error: Option<io::Error>,
 }
 
-/// A host over the operating system: TCP sockets, threads, its clock. Its events come by a channel, so it reports none, but counts them.
+/// A host over the operating system: TCP sockets, threads, its clock. It reports no events, but counts them.
+///
+/// The thread that takes its events reads and writes all connections that come. It takes what other threads post first, then what happens at
+/// the sockets that are ready, one after the other; it asks the system again once each of them had its turn, and waits there if none is.
 #[derive(Drop)]
 pub struct TcpHost<R: Wait + Copy + Drop, T: Drop> {
     rt: R,
     sockets: HostRuntime,
     inbox: ChannelInbox<R, T>,
     post: ChannelPost<R, T>,
+    places: Arc<Mutex<Places<ReadySocket>>, Global>,
+    poller: Option<Poller>,
+    turns: usize,
+    taken: u64,
     done: HostCounts,
     faults: u64,
     last_fault: Option<HostFault>,
@@ -46,6 +71,10 @@ impl<R: Wait + Copy + Drop, T: Drop> TcpHost<R, T> {
             sockets,
             inbox,
             post,
+            places: Arc::new(alloc, Mutex::new(Places::new(alloc)?))?,
+            poller: None,
+            turns: 0,
+            taken: 0,
             done: HostCounts::new(),
             faults: 0,
             last_fault: None,
@@ -57,11 +86,72 @@ impl<R: Wait + Copy + Drop, T: Drop> TcpHost<R, T> {
         self.last_fault.as_ref()
     }
 
+    /// Waits for the next event, of another thread or of a socket.
+    fn wait(&mut self) -> Event<T>
+        ensures taken { self.new.taken ≡ self.old.taken }
+        ensures faults { self.new.faults ≡ self.old.faults }
+    {
+        let rt = self.rt;
+        for _ in rt.forever() {
+            if let Some(event) = self.posted() {
+                return event;
+            }
+            if let Some(event) = self.ready() {
+                return event;
+            }
+        }
+        unreachable!()
+    }
+
+    /// The next event that another thread posted, if there is one. With each heartbeat the sockets whose time is over are closed.
+    fn posted(&mut self) -> Option<Event<T>>
+        ensures taken { self.new.taken ≡ self.old.taken }
+        ensures faults { self.new.faults ≡ self.old.faults }
+    {
+        let Some(poller) = &mut self.poller else {
+            return self.inbox.take().ok();
+        };
+        if !poller.is_woken() {
+            return None;
+        }
+        let event = self.inbox.take_ready();
+        if event.is_none() {
+            poller.settle();
+        }
+        if matches!(event, Some(Event::Beat)) {
+            let mut places = self.places.lock(&self.rt);
+            places.tick(moment_of(&self.sockets));
+            poller.accept(&mut places);
+        }
+        event
+    }
+
+    /// The event of the next socket that has a turn, if there is one. The system is asked first once each socket had its turn.
+    fn ready(&mut self) -> Option<Event<T>>
+        ensures taken { self.new.taken ≡ self.old.taken }
+        ensures faults { self.new.faults ≡ self.old.faults }
+    {
+        let poller = self.poller.as_mut()?;
+        let mut places = self.places.lock(&self.rt);
+        if self.turns == 0 {
+            poller.look(&mut places);
+            self.turns = places.ready_count();
+        }
+        if poller.is_woken() {
+            return None;
+        }
+        if self.turns == 0 {
+            return None;
+        }
+        self.turns -= 1;
+        places.next()
+    }
+
     /// Counts a call that failed, and keeps it.
     fn fail(&mut self, call: &'static str, error: Option<io::Error>) -> Failed
         ensures faults { IsCounted self.old.faults self.new.faults }
         ensures done { self.new.done ≡ self.old.done }
-        ensures taken { self.new.inbox.taken ≡ self.old.inbox.taken }
+        ensures taken { self.new.taken ≡ self.old.taken }
     {
         self.faults = self.faults.saturating_add(1);
         self.last_fault = Some(HostFault { call, error });
@@ -72,22 +162,26 @@ impl<R: Wait + Copy + Drop, T: Drop> TcpHost<R, T> {
 impl<R: Wait + Copy + Drop, T: Drop> Inbox<T> for TcpHost<R, T> {
     ghost left = { λ _. None };
 
-    ghost taken = { λ host. host.inbox.taken };
+    ghost taken = { λ host. host.taken };
 
     ghost faults = { λ host. host.faults };
 
     fn take(&mut self) -> Result<Event<T>, Failed> {
-        match self.inbox.take() {
-            Ok(event) => Ok(event),
-            Err(_) => Err(self.fail("take", None)),
-        }
+        let Some(taken) = self.taken.checked_add(1) else {
+            return Err(self.fail("take", None));
+        };
+        let event = self.wait();
+        self.taken = taken;
+        Ok(event)
     }
 }
 
 impl<R: Threads + Wait + Clock + Copy + Drop + Send + 'static, T: Drop> Host<T> for TcpHost<R, T> {
     type Rt = R;
 
-    type Door = TcpDoor;
+    type Dialer = TcpPeerDialer;
+
+    type Replies = TcpReplies<R>;
 
     ghost done = { λ host. host.done };
 
@@ -96,50 +190,40 @@ impl<R: Threads + Wait + Clock + Copy + Drop + Send + 'static, T: Drop> Host<T> 
     }
 
     fn post(&self) -> Result<ChannelPost<R, T>, AllocError> {
-        self.post.again()
+        match &self.poller {
+            Some(poller) => self.post.waking(poller.waker()),
+            None => self.post.again(),
+        }
     }
 
-    fn listen(&mut self, address: &str) -> Result<TcpDoor, Failed> {
+    fn replies(&self) -> Result<TcpReplies<R>, AllocError> {
+        Ok(TcpReplies {
+            rt: self.rt,
+            places: Arc::try_clone(&self.places)?,
+        })
+    }
+
+    fn listen(&mut self, address: &str) -> Result<(), Failed> {
         let Some(listens) = self.done.listens.checked_add(1) else {
             return Err(self.fail("listen", None));
         };
-        match TcpListener::bind(&self.sockets, address) {
-            Ok(listener) => {
+        match listen_at(&self.sockets, address) {
+            Ok(poller) => {
+                self.places.lock(&self.rt).tick(moment_of(&self.sockets));
+                self.poller = Some(poller);
                 self.done.listens = listens;
-                Ok(TcpDoor::new(self.sockets, listener))
+                Ok(())
             }
             Err(error) => Err(self.fail("listen", Some(error))),
         }
     }
 
-    fn twin(&mut self, door: &TcpDoor) -> Result<TcpDoor, Failed> {
-        match door.twin() {
-            Ok(door) => Ok(door),
-            Err(error) => Err(self.fail("accept", Some(error))),
-        }
-    }
-
-    fn dial(&mut self, address: &str) -> Result<TcpLink, Failed> {
-        let Some(dials) = self.done.dials.checked_add(1) else {
-            return Err(self.fail("dial", None));
-        };
-        match TcpDoor::connect(&self.sockets, address) {
-            Ok(link) => {
-                self.done.dials = dials;
-                Ok(link)
-            }
-            Err(error) => Err(self.fail("dial", Some(error))),
-        }
+    fn dialer(&mut self) -> Result<TcpPeerDialer, Failed> {
+        Ok(TcpPeerDialer::new(self.sockets))
     }
 
     fn moment(&mut self) -> u64 {
-        match self.rt.monotonic() {
-            Ok(time) => time
-                .as_secs()
-                .saturating_mul(1_000)
-                .saturating_add(time.subsec_millis() as u64),
-            Err(_) => 0,
-        }
+        moment_of(&self.sockets)
     }
 
     /// The clocks' nanoseconds, mixed.

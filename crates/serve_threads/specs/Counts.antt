@@ -14,12 +14,9 @@ pub record IsCounted (before now : ℕ) : Type 0 where
   pub never_falls : before ≤ now
   pub rose : Rose before now
 
--- one listen more, one dial more, one worker more
+-- one listen more, one worker more
 abbrev pub one_listen : HostCounts → HostCounts
 one_listen done = record done { listens = done.listens + 1 }
-
-abbrev pub one_dial : HostCounts → HostCounts
-one_dial done = record done { dials = done.dials + 1 }
 
 abbrev pub one_worker : HostCounts → HostCounts
 one_worker done = record done { workers = done.workers + 1 }

@@ -8,14 +8,15 @@ ghost use Rattle.serve_threads.specs.Counts.{IsCounted};
 use crate::credit::{Credit, Debit};
 use crossbeam_channel::{Receiver, SendError, Sender, unbounded};
 use dq_base::Failed;
+use mio::Waker;
 use serve_traits::{Event, Inbox, Post};
 use std::alloc::{AllocError, Global};
 use std::marker::Model;
-use std::sync::Wait;
+use std::sync::{Arc, Wait};
 use std::thread;
 use std::time::{Clock, Duration};
 
-/// How long a post waits where there is no memory for an event, before it tries again, in milliseconds.
+/// How long a post waits if there is no memory for an event, before it tries again, in milliseconds.
 const PAUSE: u64 = 10;
 
 /// An event on its way, with what its post gets back once it is taken or dropped.
@@ -25,7 +26,7 @@ struct QueuedEvent<T> {
     credit: Option<Debit>,
 }
 
-/// An inbox that takes what is posted at its ends. It waits where there is no event, and fails where no end is left. It tells no
+/// An inbox that takes what is posted at its ends. It waits if there is no event, and fails if no end is left. It reports no
 /// events, but counts them.
 #[derive(Drop)]
 pub struct ChannelInbox<R: Wait + Copy + Drop, T: Drop> {
@@ -43,6 +44,7 @@ pub struct ChannelPost<R: Wait + Copy + Drop, T: Drop> {
     rt: R,
     queue: Sender<QueuedEvent<T>>,
     credit: Option<Credit>,
+    waker: Option<Arc<Waker, Global>>,
     faults: u64,
 }
 
@@ -72,6 +74,7 @@ pub fn event_channel<R: Wait + Copy + Drop, T: Drop>(
         rt,
         queue: post,
         credit: None,
+        waker: None,
         faults: 0,
     };
     Ok((inbox, post))
@@ -83,6 +86,16 @@ impl<R: Wait + Copy + Drop, T: Drop> ChannelInbox<R, T> {
         ensures { result ≡ self.now.taken }
     {
         self.taken
+    }
+
+    /// Takes the first event that is there, if one is, and doesn't count it.
+    pub fn take_ready(&mut self) -> Option<Event<T>>
+        ensures { self.new ≡ self.old }
+    {
+        let sent = self.queue.try_recv(&self.rt).ok()?;
+        let QueuedEvent { event, credit } = sent;
+        drop(credit);
+        Some(event)
     }
 
     /// Counts a take that failed.
@@ -123,6 +136,7 @@ impl<R: Wait + Copy + Drop, T: Drop> ChannelPost<R, T> {
             rt: self.rt,
             queue: self.queue.clone()?,
             credit: None,
+            waker: self.waker_again()?,
             faults: 0,
         })
     }
@@ -133,8 +147,35 @@ impl<R: Wait + Copy + Drop, T: Drop> ChannelPost<R, T> {
             rt: self.rt,
             queue: self.queue.clone()?,
             credit: Some(Credit::new(alloc, events)?),
+            waker: self.waker_again()?,
             faults: 0,
         })
+    }
+
+    /// Another end of the same channel, which isn't metered and ends a wait after each event that it posts.
+    pub fn waking(&self, waker: &Arc<Waker, Global>) -> Result<ChannelPost<R, T>, AllocError> {
+        Ok(ChannelPost {
+            rt: self.rt,
+            queue: self.queue.clone()?,
+            credit: None,
+            waker: Some(Arc::try_clone(waker)?),
+            faults: 0,
+        })
+    }
+
+    /// Another owner of the waker, if there is one.
+    fn waker_again(&self) -> Result<Option<Arc<Waker, Global>>, AllocError> {
+        match &self.waker {
+            Some(waker) => Ok(Some(Arc::try_clone(waker)?)),
+            None => Ok(None),
+        }
+    }
+
+    /// Ends the wait of the thread that takes events, if it waits by a waker.
+    fn wake(&self) {
+        if let Some(waker) = &self.waker {
+            let _ = waker.wake();
+        }
     }
 
     /// What an event carries of this end, once it may be posted.
@@ -155,7 +196,10 @@ impl<R: Wait + Clock + Copy + Drop, T: Drop> ChannelPost<R, T> {
         let mut sent = QueuedEvent { event, credit };
         for _ in self.rt.forever() {
             match self.queue.send(&self.rt, sent) {
-                Ok(()) => return true,
+                Ok(()) => {
+                    self.wake();
+                    return true;
+                }
                 Err(SendError::Disconnected(_)) => return false,
                 Err(SendError::OutOfMemory(unsent)) => sent = unsent,
             }

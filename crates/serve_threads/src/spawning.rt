@@ -9,7 +9,7 @@ use crate::host::Host;
 use crate::reader::Reader;
 use crate::worker::Worker;
 use dq_base::Failed;
-use serve_traits::Door;
+use serve_traits::PeerDialer;
 use std::sync::Wait;
 use std::thread::{Builder, Threads};
 use std::time::Clock;
@@ -21,17 +21,19 @@ const READER_STACK: usize = 8_388_608;
 const STACK: usize = 262_144;
 
 /// How much room the thread of a worker has.
-fn stack_of<R: Wait + Clock + Copy + Drop, D: Door, Q: Reader>(worker: &Worker<R, D, Q>) -> usize {
+fn stack_of<R: Wait + Clock + Copy + Drop, D: PeerDialer, Q: Reader>(
+    worker: &Worker<R, D, Q>,
+) -> usize {
     match worker {
         Worker::Reader(_) => READER_STACK,
-        Worker::Keeper(_) | Worker::Writer(_) | Worker::Peer(_) | Worker::Ticker(_) => STACK,
+        Worker::Peer(_) | Worker::Ticker(_) => STACK,
     }
 }
 
 /// Has a worker work in its own thread, and says whether there is one. If there is none the worker is dropped.
 fn start<
     R: Threads + Wait + Clock + Copy + Drop + Send + 'static,
-    D: Door + Send + 'static,
+    D: PeerDialer + Send + 'static,
     Q: Reader + Send + 'static,
 >(rt: &R, worker: Worker<R, D, Q>) -> bool {
     let stack = stack_of(&worker);
@@ -40,7 +42,7 @@ fn start<
         .spawn(
             rt,
             move ||
-                requires link { IsLasting D.Link.row }
+                requires connection { IsLasting D.Connection.row }
                 requires job { IsLasting Q.Job.row }
                 requires told { IsLasting Q.Told.row }
             { worker.run() },
@@ -52,7 +54,7 @@ fn start<
 /// the worker is dropped then.
 pub fn beside<Q: Reader + Send + 'static, H: Host<Q::Told>>(
     host: &mut H,
-    worker: Worker<H::Rt, H::Door, Q>,
+    worker: Worker<H::Rt, H::Dialer, Q>,
 ) -> Result<(), Failed>
     ensures done { Does (H.done host.old) (one_worker (H.done host.old)) (H.done host.new) result }
     ensures events { H.taken host.new ≡ H.taken host.old }

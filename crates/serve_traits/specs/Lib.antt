@@ -1,6 +1,4 @@
 pub mod Told
 pub mod Stepping
-pub mod Serving
-pub mod Pieces
 pub mod Looping
 pub mod Memory

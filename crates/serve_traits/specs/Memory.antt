@@ -13,9 +13,3 @@ pub record Waiting (T : Type 0) : Type 0 where
 pub record Posted (T : Type 0) : Type 0 where
   pub events : List (Event T)
   pub calls : Counted
-
--- the bytes that a connection has left, those that were written, and the calls so far
-pub record Linked : Type 0 where
-  pub left : List ℕ
-  pub written : List ℕ
-  pub calls : Counted

@@ -11,22 +11,16 @@ mod ending;
 #[cfg(test)]
 mod hosts;
 #[cfg(test)]
-mod links;
-#[cfg(test)]
 mod loops;
-#[cfg(test)]
-mod meeting;
 #[cfg(test)]
 mod peers;
 #[cfg(test)]
-mod served;
+mod places;
 #[cfg(test)]
-mod sockets;
+mod script;
+#[cfg(test)]
+mod served;
 #[cfg(test)]
 mod taps;
 #[cfg(test)]
-mod timely;
-#[cfg(test)]
 mod workers;
-#[cfg(test)]
-mod writing;

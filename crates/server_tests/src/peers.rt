@@ -1,12 +1,13 @@
 //! What is sent of what waits for a peer.
 
-use crate::taps::{Deeds, TapDoor};
+use crate::taps::{Deeds, TapDialer};
 use dq_base::{Calls, Items};
 use raft_messages::{LogEnd, MessageBody, RaftMessage};
 use serve_threads::{Peer, PeerQueue};
 use std::alloc::Global;
 use std::sync::Wait;
 use std::test::*;
+use std::time::Clock;
 use wire_words::WireText;
 
 /// Where the low byte of the term is in a message's bytes.
@@ -63,7 +64,7 @@ const ROWS: &[(&[(u8, bool)], &[u64], &[u64], &[u8])] = &[
 ];
 
 /// Whether these are the deeds of a peer's thread that works once all was put.
-fn sends<R: Wait + Copy + Drop>(
+fn sends<R: Wait + Clock + Copy + Drop>(
     rt: R,
     alloc: Global,
     put: &[(u8, bool)],
@@ -76,7 +77,7 @@ fn sends<R: Wait + Copy + Drop>(
     let peer = Peer {
         alloc,
         rt,
-        door: TapDoor {
+        dialer: TapDialer {
             alloc,
             deeds: deeds.again().ok()?,
             at: TERM_AT,

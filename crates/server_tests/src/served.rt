@@ -1,27 +1,27 @@
-//! A core that is served over a socket, with the threads of its connections.
+//! A core that is served over sockets.
 ghost use Rattle.std.specs.Prelude.{None};
 
 use crate::addresses::free_address;
-use crate::echo::{Echo, Next, Said};
+use crate::echo::{Echo, Said};
 use serve_sockets::TcpHost;
-use serve_threads::{
-    ConnectionReader, Host, LeaderContact, Queues, Worker, Writer, beside, write_queue,
-};
-use serve_traits::{Door, Link, LoopEnd, Outbox, StepFault, core_loop};
+use serve_threads::{Host, LeaderContact, Queues, Replies};
+use serve_traits::{LoopEnd, Outbox, StepFault, core_loop};
 use std::alloc::Global;
+use std::io::{Read, Write};
+use std::net::{Shutdown, TcpStream};
 use std::sync::Wait;
 use std::test::*;
 
-/// The version and the header of a message of one word: the first 16 bytes of a connection.
-const FRONT: &[u8; 16] = b"\x01\0\0\0\0\0\0\0\x01\0\0\0\x03\0\0\0";
+/// The version, and a message of one word.
+const ASKED: &[u8; 24] = b"\x01\0\0\0\0\0\0\0\x01\0\0\0\x03\0\0\0sentence";
 
 /// An outbox over queues.
 #[derive(Drop)]
-struct Replies<R: Wait + Copy + Drop, L: Drop> {
+struct Outward<R: Wait + Copy + Drop, L: Replies> {
     queues: Queues<R, L, u8>,
 }
 
-impl<R: Wait + Copy + Drop, L: Drop> Outbox<Said> for Replies<R, L> {
+impl<R: Wait + Copy + Drop, L: Replies> Outbox<Said> for Outward<R, L> {
     ghost said = { λ _. None };
 
     fn put(&mut self, outs: Said) {
@@ -31,75 +31,98 @@ impl<R: Wait + Copy + Drop, L: Drop> Outbox<Said> for Replies<R, L> {
     }
 }
 
-/// Has a host serve one place of its listener: the queues to it.
-pub(crate) fn begin<H: Host<u8>>(
-    host: &mut H,
-    alloc: Global,
-    door: H::Door,
-) -> Option<Queues<H::Rt, <H::Door as Door>::Link, u8>> {
-    let (writer, writes) = write_queue(alloc).ok()?;
-    let keeper = ConnectionReader {
-        alloc,
+/// Has a host that listens make this many steps of a core that answers what it hears.
+fn echo<H: Host<u8>>(host: &mut H, alloc: Global, steps: u64) -> Option<LoopEnd> {
+    let queues = Queues {
         rt: host.rt(),
-        door,
-        post: host.post().ok()?.metered(alloc, 1).ok()?,
-        writer: writer.again().ok()?,
-        first: 1,
-        budget: 1_000,
-    };
-    beside::<Next, H>(host, Worker::Keeper(keeper)).ok()?;
-    let writes = Writer::new(host.rt(), writes);
-    beside::<Next, H>(host, Worker::Writer(writes)).ok()?;
-    Some(Queues {
-        rt: host.rt(),
-        writers: vec![in alloc; writer].ok()?,
+        replies: host.replies().ok()?,
         peers: Vec::new(alloc),
         readers: Vec::new(alloc),
         heard: LeaderContact::new(alloc).ok()?,
-    })
-}
-
-/// Whether these are the next 24 bytes of a connection.
-fn hears<L: Link>(mut link: L, wanted: &[u8]) -> Option<bool> {
-    let mut held = [0; 24];
-    let mut count = 0;
-    for _ in 0..24 {
-        if count < 24 {
-            count += link.read(&mut held[count..]).ok()?;
-        }
-    }
-    Some(held.as_slice() == wanted)
-}
-
-/// A client's connection, on which it said 24 bytes.
-pub(crate) fn ask<H: Host<u8>>(host: &mut H, address: &str) -> Option<<H::Door as Door>::Link> {
-    let mut client = host.dial(address).ok()?;
-    client.write_all(FRONT).ok()?;
-    client.write_all(b"sentence").ok()?;
-    Some(client)
-}
-
-/// A client's 24 bytes, which come as two events after the connect, and go back as they came.
-fn serve<H: Host<u8>>(host: &mut H, alloc: Global, address: &str) -> Option<(LoopEnd, bool)> {
-    let door = host.listen(address).ok()?;
-    let queues = begin(host, alloc, door)?;
-    let client = ask(host, address)?;
-    let mut outbox = Replies { queues };
+    };
+    let mut outbox = Outward { queues };
     let mut core = Echo {
-        left: 9,
+        left: steps,
         fault: StepFault::NoMemory,
         faults: 0,
     };
-    let end = core_loop(&mut core, host, &mut outbox, 3);
-    let is_heard = hears(client, b"\x01\0\0\0\0\0\0\0\x01\0\0\0\x03\0\0\0sentence");
-    Some((end, is_heard?))
+    Some(core_loop(&mut core, host, &mut outbox, steps))
+}
+
+/// A client that said this many bytes of `ASKED`.
+fn client(rt: HostRuntime, address: &str, count: usize) -> Option<TcpStream> {
+    let mut stream = TcpStream::connect(&rt, address).ok()?;
+    stream.write_all(&ASKED[..count.min(24)]).ok()?;
+    Some(stream)
+}
+
+/// Whether a client hears what it asked.
+fn hears(mut client: TcpStream) -> Option<bool> {
+    let mut heard = [0; 24];
+    client.read_exact(&mut heard).ok()?;
+    Some(heard == *ASKED)
+}
+
+/// Clients that go after each number of bytes, one that says a byte and stays, and one that is answered. Those that go before their first 16
+/// bytes bring no event, the nine others three each, and the last one two.
+fn serve<H: Host<u8>>(host: &mut H, rt: HostRuntime, address: &str) -> Option<(LoopEnd, bool)> {
+    host.listen(address).ok()?;
+    for count in 0..25 {
+        let _gone = client(rt, address, count)?;
+    }
+    let _slow = client(rt, address, 1)?;
+    let last = client(rt, address, 24)?;
+    let end = echo(host, rt.alloc(), 29)?;
+    Some((end, hears(last)?))
 }
 
 #[test]
-fn a_client_is_served_over_threads(rt: HostRuntime) -> Result<(), Fail> {
+fn clients_are_served_though_others_go(rt: HostRuntime) -> Result<(), Fail> {
     let address = free_address(rt)?;
     let mut host: TcpHost<_, u8> = TcpHost::new(rt, rt, rt.alloc())?;
-    let came = serve(&mut host, rt.alloc(), address.as_str());
+    let came = serve(&mut host, rt, address.as_str());
+    assert_eq!(rt; came, Some((LoopEnd::Spent(29), true)));
+    Ok(())
+}
+
+/// A client that says no more is answered what it asked before, and its connection ends.
+fn half_close<H: Host<u8>>(
+    host: &mut H,
+    rt: HostRuntime,
+    address: &str,
+) -> Option<(LoopEnd, bool)> {
+    host.listen(address).ok()?;
+    let client = client(rt, address, 24)?;
+    client.shutdown(Shutdown::Write).ok()?;
+    let end = echo(host, rt.alloc(), 3)?;
+    Some((end, hears(client)?))
+}
+
+#[test]
+fn a_client_that_says_no_more_is_answered(rt: HostRuntime) -> Result<(), Fail> {
+    let address = free_address(rt)?;
+    let mut host: TcpHost<_, u8> = TcpHost::new(rt, rt, rt.alloc())?;
+    let came = half_close(&mut host, rt, address.as_str());
+    assert_eq!(rt; came, Some((LoopEnd::Spent(3), true)));
+    Ok(())
+}
+
+/// A client that goes without having read its answer, which resets its connection, and one that is answered.
+fn reset<H: Host<u8>>(host: &mut H, rt: HostRuntime, address: &str) -> Option<(LoopEnd, bool)> {
+    host.listen(address).ok()?;
+    let gone = client(rt, address, 24)?;
+    echo(host, rt.alloc(), 2)?;
+    drop(gone);
+    let last = client(rt, address, 24)?;
+    let end = echo(host, rt.alloc(), 3)?;
+    Some((end, hears(last)?))
+}
+
+#[test]
+fn a_client_that_resets_its_connection_holds_up_no_other(rt: HostRuntime) -> Result<(), Fail> {
+    let address = free_address(rt)?;
+    let mut host: TcpHost<_, u8> = TcpHost::new(rt, rt, rt.alloc())?;
+    let came = reset(&mut host, rt, address.as_str());
     assert_eq!(rt; came, Some((LoopEnd::Spent(3), true)));
     Ok(())
 }

@@ -1,9 +1,9 @@
-//! Connections and listeners that note what is done to them, a byte for each deed.
+//! Connections and dialers that note what is done to them, a byte for each deed.
 
 ghost use Rattle.std.specs.Prelude.{◌≡◌, None};
 
 use dq_base::{Calls, Failed};
-use serve_traits::{Door, Link};
+use serve_traits::{PeerConnection, PeerDialer};
 use std::alloc::{AllocError, Global};
 use std::sync::Arc;
 use std::sync::atomic::{AtomicU64, Ordering};
@@ -13,9 +13,6 @@ const DIALLED: u8 = b'>';
 
 /// A write failed.
 const UNWRITTEN: u8 = b'!';
-
-/// A connection was shut.
-const SHUT: u8 = b'.';
 
 /// The last eight deeds, the last one in the lowest byte. One thread at a time adds to them.
 #[derive(Drop)]
@@ -54,7 +51,7 @@ impl Deeds {
     }
 }
 
-/// A connection that notes for each write one byte of it. Its end comes at once.
+/// A connection that notes for each write one byte of it.
 #[derive(Drop)]
 pub(crate) struct Tap {
     deeds: Deeds,
@@ -73,16 +70,10 @@ impl Tap {
     }
 }
 
-impl Link for Tap {
-    ghost left = { λ _. None };
-
+impl PeerConnection for Tap {
     ghost written = { λ _. None };
 
-    ghost faults = { λ link. link.calls.faults };
-
-    fn read(&mut self, _into: &mut [u8]) -> Result<usize, Failed> {
-        Err(self.calls.fail())
-    }
+    ghost faults = { λ tap. tap.calls.faults };
 
     fn write_all(&mut self, bytes: &[u8]) -> Result<(), Failed> {
         if self.calls.start().is_err() {
@@ -94,20 +85,12 @@ impl Link for Tap {
         }
         Ok(())
     }
-
-    fn twin(&mut self) -> Result<Tap, Failed> {
-        Err(self.calls.fail())
-    }
-
-    fn shut(&mut self) {
-        self.deeds.note(SHUT);
-    }
 }
 
-/// A listener that dials connections which note the byte at one place of each write. The first of them fails at some
+/// A dialer of connections that note the byte at one place of each write. The first of them fails at some
 /// writes.
 #[derive(Drop)]
-pub(crate) struct TapDoor {
+pub(crate) struct TapDialer {
     pub(crate) alloc: Global,
     pub(crate) deeds: Deeds,
     pub(crate) at: usize,
@@ -115,8 +98,8 @@ pub(crate) struct TapDoor {
     pub(crate) calls: Calls,
 }
 
-impl TapDoor {
-    fn link(&mut self) -> Option<Tap>
+impl TapDialer {
+    fn tap(&mut self) -> Option<Tap>
         ensures { self.new.calls ≡ self.old.calls }
     {
         let fails = match self.fails.take() {
@@ -129,19 +112,15 @@ impl TapDoor {
     }
 }
 
-impl Door for TapDoor {
-    type Link = Tap;
+impl PeerDialer for TapDialer {
+    type Connection = Tap;
 
-    ghost faults = { λ door. door.calls.faults };
-
-    fn accept(&mut self) -> Result<Tap, Failed> {
-        Err(self.calls.fail())
-    }
+    ghost faults = { λ dialer. dialer.calls.faults };
 
     fn dial(&mut self, _address: &str) -> Result<Tap, Failed> {
         self.calls.start()?;
-        match self.link() {
-            Some(link) => Ok(link),
+        match self.tap() {
+            Some(tap) => Ok(tap),
             None => Err(self.calls.fail()),
         }
     }

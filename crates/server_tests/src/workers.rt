@@ -8,13 +8,13 @@ use serve_sockets::{MemHost, TcpHost};
 use serve_threads::{
     Host, LeaderContact, LentQuery, Peer, PeerQueue, ReaderWorker, Ticker, Worker, beside,
 };
-use serve_traits::{Door, Event, Inbox, Link};
+use serve_traits::{Event, Inbox};
 use std::alloc::Global;
 use std::test::*;
 use wire_words::WireText;
 
 /// What a connection begins with here.
-const GREETING: &[u8; 16] = b"\x01\0\0\0\0\0\0\0\x02\0\0\0\x0b\0\0\0";
+const GREETING: &[u8; 16] = b"\x01\0\0\0\0\0\0\0\0\0\0\0\x0b\0\0\0";
 
 /// The bytes of node 1's TimeoutNow in term 3: a header of two words and type 6, the sender, the term.
 const MESSAGE: &[u8; 24] = b"\x02\0\0\0\x06\x02\0\0\x01\0\0\0\0\0\0\0\x03\0\0\0\0\0\0\0";
@@ -54,27 +54,29 @@ fn beats<H: Host<u8>>(host: &mut H, alloc: Global) -> Option<usize> {
     None
 }
 
-/// The first 40 bytes of a connection.
-fn heard_of<L: Link>(mut link: L) -> Option<[u8; 40]> {
-    let mut held = [0; 40];
-    let mut count = 0;
+/// The bytes of the next pieces that a host brings, up to 40.
+fn heard_of<H: Host<u8>>(host: &mut H, alloc: Global) -> Option<Vec<u8>> {
+    let mut heard = Vec::new(alloc);
     for _ in 0..40 {
-        if count < 40 {
-            count += link.read(&mut held[count..]).ok()?;
+        if heard.len() >= 40 {
+            break;
+        }
+        if let Event::Bytes(_, bytes) = host.take().ok()? {
+            heard.extend_from_slice(bytes.as_slice()).ok()?;
         }
     }
-    Some(held)
+    Some(heard)
 }
 
 /// Whether a peer's thread dials, greets, and sends a message.
 fn sends<H: Host<u8>>(host: &mut H, alloc: Global, address: String) -> Option<bool> {
     let rt = host.rt();
-    let mut door = host.listen(address.as_str()).ok()?;
+    host.listen(address.as_str()).ok()?;
     let queue = PeerQueue::new(alloc).ok()?;
     let peer = Peer {
         alloc,
         rt,
-        door: host.twin(&door).ok()?,
+        dialer: host.dialer().ok()?,
         address: WireText::new(address),
         greeting: Items::new(Vec::from_slice(alloc, GREETING).ok()?),
         queue: queue.again().ok()?,
@@ -87,21 +89,14 @@ fn sends<H: Host<u8>>(host: &mut H, alloc: Global, address: String) -> Option<bo
         what: MessageBody::TimeoutNow,
     };
     queue.put(&rt, message);
-    let held = heard_of(door.accept().ok()?)?;
-    Some(&held[..16] == GREETING.as_slice() && &held[16..] == MESSAGE.as_slice())
+    let heard = heard_of(host, alloc)?;
+    Some(heard.as_slice().starts_with(GREETING) && heard.as_slice().ends_with(MESSAGE))
 }
 
 #[test]
 fn workers_work_in_threads_of_their_own(rt: HostRuntime) -> Result<(), Fail> {
     let alloc = rt.alloc();
-    let none = Vec::new(alloc);
-    let mut quiet: MemHost<_, u8> = MemHost::new(
-        rt,
-        alloc,
-        Vec::new(alloc),
-        Vec::new(alloc),
-        none,
-    )?;
+    let mut quiet: MemHost<_, u8> = MemHost::new(rt, alloc, Vec::new(alloc))?;
     assert_eq!(rt; reads(&mut quiet, alloc), Some(true));
     assert!(rt; matches!(beats(&mut quiet, alloc), Some(10..=20)));
     let mut host: TcpHost<_, u8> = TcpHost::new(rt, rt, alloc)?;

@@ -3,11 +3,10 @@
 use crate::addresses::free_address;
 use crate::silent::Silent;
 use crate::words::named;
+use client::Dialer;
 use disk_model::MemDisk;
 use serve_node::{ServeEnd, serve};
-use serve_sockets::TcpHost;
-use serve_threads::Host;
-use serve_traits::{Door, Link};
+use serve_sockets::{TcpDialer, TcpHost};
 use session_gateway::Read;
 use sql_engine::CellEngine;
 use std::alloc::Global;
@@ -46,21 +45,21 @@ const TRIES: u32 = 200;
 const PAUSE: u64 = 100;
 
 /// The number of the next response; it is read to its end.
-fn response<L: Link>(alloc: Global, link: &mut L) -> Option<u8> {
-    let head = read(alloc, link, 8)?;
+fn response<D: Dialer>(alloc: Global, dialer: &mut D) -> Option<u8> {
+    let head = read(alloc, dialer, 8)?;
     let (Some(words), Some(kind)) = (head.first(), head.get(4)) else {
         return None;
     };
-    read(alloc, link, 8 * *words as usize)?;
+    read(alloc, dialer, 8 * *words as usize)?;
     Some(*kind)
 }
 
 /// The next bytes of a connection, this many.
-fn read<L: Link>(alloc: Global, link: &mut L, size: usize) -> Option<Vec<u8>> {
+fn read<D: Dialer>(alloc: Global, dialer: &mut D, size: usize) -> Option<Vec<u8>> {
     let mut bytes = Vec::new(alloc);
     let mut byte = [0; 1];
     for _ in 0..size {
-        if link.read(&mut byte).ok()? == 0 {
+        if dialer.read(&mut byte).ok()? == 0 {
             return None;
         }
         bytes.push(byte[0]).ok()?;
@@ -69,42 +68,46 @@ fn read<L: Link>(alloc: Global, link: &mut L, size: usize) -> Option<Vec<u8>> {
 }
 
 /// Whether the node at an address does a write.
-fn writes<H: Host<Read>>(host: &mut H, alloc: Global, address: &str) -> Option<bool> {
-    let mut link = host.dial(address).ok()?;
-    link.write_all(OPEN).ok()?;
-    if response(alloc, &mut link)? != DB {
+fn writes<D: Dialer>(dialer: &mut D, alloc: Global, address: &str) -> Option<bool> {
+    dialer.dial(address).ok()?;
+    dialer.write_all(OPEN).ok()?;
+    if response(alloc, dialer)? != DB {
         return Some(false);
     }
-    link.write_all(SET).ok()?;
-    Some(response(alloc, &mut link)? == RESULT)
+    dialer.write_all(SET).ok()?;
+    Some(response(alloc, dialer)? == RESULT)
 }
 
 /// Uses the events of the node at an address up, by one request after the other, until its connection ends.
-fn use_up<H: Host<Read>>(host: &mut H, alloc: Global, address: &str) -> Option<()> {
-    let mut link = host.dial(address).ok()?;
-    link.write_all(VERSION).ok()?;
+fn use_up<D: Dialer>(dialer: &mut D, alloc: Global, address: &str) -> Option<()> {
+    dialer.dial(address).ok()?;
+    dialer.write_all(VERSION).ok()?;
     for _ in 0..REQUESTS {
-        link.write_all(LEADER).ok()?;
-        response(alloc, &mut link)?;
+        dialer.write_all(LEADER).ok()?;
+        response(alloc, dialer)?;
     }
     Some(())
 }
 
 /// Has a client write at one of two nodes, as soon as one does it, and then uses both up. Says whether a write was answered.
-fn ask<H: Host<Read>>(host: &mut H, alloc: Global, addresses: &[&str]) -> bool {
-    let rt = host.rt();
+fn ask<R: Wait + Clock, D: Dialer>(
+    rt: &R,
+    alloc: Global,
+    dialer: &mut D,
+    addresses: &[&str],
+) -> bool {
     let mut is_done = false;
     for _ in 0..TRIES {
         for address in addresses {
-            is_done = is_done || writes(host, alloc, address) == Some(true);
+            is_done = is_done || writes(dialer, alloc, address) == Some(true);
         }
         if is_done {
             break;
         }
-        thread::sleep(&rt, Duration::from_millis(PAUSE));
+        thread::sleep(rt, Duration::from_millis(PAUSE));
     }
     for address in addresses {
-        use_up(host, alloc, address);
+        use_up(dialer, alloc, address);
     }
     is_done
 }
@@ -134,17 +137,6 @@ fn node<R: Threads + Wait + Clock + Copy + Drop + Send + 'static>(
     ))
 }
 
-/// Whether a client of two nodes hears a result.
-fn client<R: Threads + Wait + Clock + Copy + Drop + Send + 'static>(
-    rt: R,
-    sockets: HostRuntime,
-    alloc: Global,
-    addresses: [&str; 2],
-) -> Option<bool> {
-    let mut host: TcpHost<_, Read> = TcpHost::new(rt, sockets, alloc).ok()?;
-    Some(ask(&mut host, alloc, &addresses))
-}
-
 #[test]
 fn two_nodes_do_a_write(rt: HostRuntime) -> Result<(), Fail> {
     let alloc = rt.alloc();
@@ -161,9 +153,14 @@ fn two_nodes_do_a_write(rt: HostRuntime) -> Result<(), Fail> {
                 || node(rt, rt, alloc, ["2", two.as_str(), first_peer.as_str()]),
             )
         },
-        || client(rt, rt, alloc, [one.as_str(), two.as_str()]),
+        || ask(
+            &rt,
+            alloc,
+            &mut TcpDialer::new(rt),
+            &[one.as_str(), two.as_str()],
+        ),
     );
-    assert!(rt; is_done == Some(true));
+    assert!(rt; is_done);
     assert!(rt; ends == (Some(ServeEnd::Spent), Some(ServeEnd::Spent)));
     Ok(())
 }

@@ -1,0 +1,4 @@
+pub mod Streams
+pub mod Pieces
+pub mod Rooms
+pub mod Numbers

@@ -1,0 +1,19 @@
+//! The places of a server's connections: who may come, what is read of each and handed on, what waits to be written to it, and when it is
+//! closed. One thread drives all of them, over streams whose calls never wait.
+#![tactic(auto)]
+
+mod inflow;
+mod laws;
+mod limits;
+mod numbering;
+mod outflow;
+mod place;
+mod places;
+mod rooms;
+mod stream;
+
+pub use laws::each_number_lives_once;
+pub use limits::{MAX_COMMON_BYTES, MAX_CONNECTIONS, MAX_PLACE_BYTES, MAX_SOCKETS};
+pub use outflow::CutCause;
+pub use places::{Places, Readiness};
+pub use stream::{ReadOutcome, ReadyStream};

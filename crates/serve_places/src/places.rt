@@ -1,0 +1,335 @@
+//! All places of a server.
+
+ghost use Rattle.std.specs.Prelude.{◌≡◌, ◌≢◌, get_or, IfOk};
+ghost use Rattle.serve_places.specs.Numbers.{AreFresh, ChangesNumbersIfAny};
+
+use crate::limits::{MAX_READ_BYTES, MAX_SOCKETS};
+use crate::numbering::Numbering;
+use crate::outflow::CutCause;
+use crate::place::Place;
+use crate::rooms::Rooms;
+use crate::stream::ReadyStream;
+use serve_traits::Event;
+use std::alloc::{AllocError, Global};
+use std::collections::VecDeque;
+use wire_words::WireBytes;
+
+/// What the system says of a socket.
+#[derive(Clone, Copy, Debug, PartialEq, Eq)]
+pub struct Readiness {
+    /// Bytes are there to be read.
+    pub is_readable: bool,
+    /// No more bytes come than are there, or the socket has failed.
+    pub is_ended: bool,
+    /// It takes bytes.
+    pub is_writable: bool,
+}
+
+/// All sockets of a server, with the connections among them, and which of these have a turn.
+///
+/// A socket is a connection once its first 16 bytes are there and fewer than 72 others are: it gets the next number then, from 1 on. Of a
+/// connection one message is handed on a turn, and none while a reply to it waits to be written. What waits counts for its bytes and 256
+/// for each reply: 32 MiB for one connection at most, and 96 MiB for all, of which the first 1 MiB of each does not count. A connection
+/// without room is closed.
+#[derive(Drop)]
+pub struct Places<S: ReadyStream> {
+    alloc: Global,
+    places: Vec<Place<S>>,
+    numbers: Numbering,
+    rooms: Rooms,
+    ready: VecDeque<usize>,
+    last: usize,
+    now: u64,
+    buffer: Vec<u8>,
+}
+
+impl<S: ReadyStream> Places<S> {
+    /// All sockets are free.
+    pub fn new(alloc: Global) -> Result<Places<S>, AllocError>
+        ensures { IfOk result (λ places. AreFresh places.numbers) }
+    {
+        let mut places = Vec::with_capacity(alloc, MAX_SOCKETS)?;
+        for _ in 0..MAX_SOCKETS {
+            places.push(Place::new(alloc))?;
+        }
+        Ok(Places {
+            alloc,
+            places,
+            numbers: Numbering::new(alloc)?,
+            rooms: Rooms::new(alloc)?,
+            ready: VecDeque::with_capacity(alloc, MAX_SOCKETS)?,
+            last: 0,
+            now: 0,
+            buffer: vec![in alloc; 0u8; MAX_READ_BYTES]?,
+        })
+    }
+
+    /// A socket that is free.
+    pub fn free_socket(&self) -> Option<usize> {
+        for (at, place) in self.places.iter().enumerate() {
+            if !place.has_stream() && self.numbers.at(at) == 0 {
+                return Some(at);
+            }
+        }
+        None
+    }
+
+    /// A stream was accepted, for a socket that is free.
+    pub fn accept(&mut self, at: usize, stream: S)
+        ensures numbers { self.new.numbers ≡ self.old.numbers }
+    {
+        let now = self.now;
+        if let Some(place) = self.places.get_mut(at) {
+            place.begin(stream, now);
+        }
+    }
+
+    /// How many sockets have a turn. Once each of them had it, the system should be asked again.
+    pub fn ready_count(&self) -> usize {
+        self.ready.len()
+    }
+
+    /// What happens at the next socket that has a turn, if anything does.
+    pub fn next<T>(&mut self) -> Option<Event<T>>
+        ensures numbers { ChangesNumbersIfAny self.old.numbers self.new.numbers result }
+    {
+        let at = self.ready.pop_front()?;
+        if let Some(place) = self.places.get_mut(at) {
+            place.is_queued = false;
+        }
+        let event = self.turn(at);
+        self.queue(at);
+        event
+    }
+
+    /// What a socket brings when it has its turn.
+    fn turn<T>(&mut self, at: usize) -> Option<Event<T>>
+        ensures numbers { ChangesNumbersIfAny self.old.numbers self.new.numbers result }
+    {
+        let number = self.numbers.at(at);
+        let (alloc, now) = (self.alloc, self.now);
+        let place = self.places.get_mut(at)?;
+        self.last = at;
+        if number == 0 {
+            if !place.has_front() {
+                place.fill_front(alloc);
+            }
+            return self.meet(at);
+        }
+        if !place.has_stream() {
+            return self.hang_up(at, number);
+        }
+        if !place.may_hand_on() {
+            return None;
+        }
+        let piece = place.next_piece(alloc, &mut self.buffer, now)?;
+        Some(Event::Bytes(number, piece))
+    }
+
+    /// The socket is a connection from now on, if its first bytes are there and there are not too many others.
+    fn meet<T>(&mut self, at: usize) -> Option<Event<T>>
+        ensures numbers { ChangesNumbersIfAny self.old.numbers self.new.numbers result }
+    {
+        let now = self.now;
+        let place = self.places.get_mut(at)?;
+        if !place.has_front() {
+            return None;
+        }
+        let number = self.numbers.give(at)?;
+        place.meet(now);
+        Some(Event::Connect(number))
+    }
+
+    /// The connection of this number is over, and the sockets that wait for a place have a turn.
+    fn hang_up<T>(&mut self, at: usize, number: u64) -> Option<Event<T>>
+        requires there { number ≡ get_or self.old.numbers.places at 0 }
+        requires given { number ≢ 0 }
+        ensures numbers { ChangesNumbersIfAny self.old.numbers self.new.numbers result }
+    {
+        self.numbers.free(at);
+        self.queue_waiting();
+        Some(Event::Hangup(number))
+    }
+
+    /// Gives the sockets a turn that wait for a place.
+    fn queue_waiting(&mut self)
+        ensures numbers { self.new.numbers ≡ self.old.numbers }
+    {
+        for at in 0..self.places.len() {
+            if self.numbers.at(at) == 0 && self.has_front(at) {
+                self.push(at);
+            }
+        }
+    }
+
+    /// Whether a socket has said its first bytes.
+    fn has_front(&self, at: usize) -> bool {
+        match self.places.get(at) {
+            Some(place) => place.has_front(),
+            None => false,
+        }
+    }
+
+    /// How many connections there are.
+    pub fn connection_count(&self) -> usize {
+        self.numbers.count()
+    }
+
+    /// Has a socket wait for its turn, if it doesn't wait.
+    fn push(&mut self, at: usize)
+        ensures numbers { self.new.numbers ≡ self.old.numbers }
+    {
+        let Some(place) = self.places.get_mut(at) else {
+            return;
+        };
+        if !place.is_queued {
+            place.is_queued = true;
+            let _ = self.ready.push_back(at);
+        }
+    }
+
+    /// Whether something may come of a turn of a socket.
+    fn wants_turn(&self, at: usize) -> bool {
+        match self.places.get(at) {
+            Some(place) => place.wants_turn(self.numbers.at(at) != 0),
+            None => false,
+        }
+    }
+
+    /// Counts what waits at a socket, if there is room for it, and says whether there is.
+    fn count_room(&mut self, at: usize) -> bool
+        ensures numbers { self.new.numbers ≡ self.old.numbers }
+    {
+        match self.places.get(at) {
+            Some(place) => self.rooms.set(at, place.waiting()),
+            None => false,
+        }
+    }
+
+    /// Counts what waits at a socket, and gives it a turn if something may come of it.
+    fn queue(&mut self, at: usize)
+        ensures numbers { self.new.numbers ≡ self.old.numbers }
+    {
+        let _ = self.count_room(at);
+        if self.wants_turn(at) {
+            self.push(at);
+        }
+    }
+
+    /// The system says this of a socket.
+    pub fn note(&mut self, at: usize, readiness: Readiness)
+        ensures numbers { self.new.numbers ≡ self.old.numbers }
+    {
+        let (alloc, now) = (self.alloc, self.now);
+        if let Some(place) = self.places.get_mut(at) {
+            place.note(readiness.is_readable, readiness.is_ended);
+            if readiness.is_writable || readiness.is_ended {
+                place.resume(alloc, now);
+            }
+            if readiness.is_ended && self.numbers.at(at) == 0 && place.has_front() {
+                place.end(alloc);
+            }
+        }
+        self.queue(at);
+    }
+
+    /// The socket of a connection that takes replies.
+    fn socket_of(&self, number: u64) -> Option<usize> {
+        if number == 0 {
+            return None;
+        }
+        if self.numbers.at(self.last) == number {
+            return Some(self.last);
+        }
+        self.numbers.socket_of(number)
+    }
+
+    /// Writes a reply as far as the stream takes it, and keeps the rest; or closes the connection and says why. Nothing is done for a
+    /// connection that is gone, or to be closed.
+    pub fn reply(&mut self, number: u64, reply: WireBytes) -> Result<(), CutCause>
+        ensures numbers { self.new.numbers ≡ self.old.numbers }
+    {
+        let Some(at) = self.socket_of(number) else {
+            return Ok(());
+        };
+        let sent = self.send(at, reply);
+        if sent.is_err() {
+            self.end(at);
+        } else {
+            self.queue(at);
+        }
+        sent
+    }
+
+    /// Writes a reply to a socket, or keeps it if there is room.
+    fn send(&mut self, at: usize, reply: WireBytes) -> Result<(), CutCause>
+        ensures numbers { self.new.numbers ≡ self.old.numbers }
+    {
+        let now = self.now;
+        let Some(place) = self.places.get_mut(at) else {
+            return Ok(());
+        };
+        if !place.takes_replies() {
+            return Ok(());
+        }
+        place.send(reply, now)?;
+        if !self.count_room(at) {
+            return Err(CutCause::Node);
+        }
+        Ok(())
+    }
+
+    /// Closes a connection once what waits for it is written.
+    pub fn close(&mut self, number: u64)
+        ensures numbers { self.new.numbers ≡ self.old.numbers }
+    {
+        let alloc = self.alloc;
+        let Some(at) = self.socket_of(number) else {
+            return;
+        };
+        if let Some(place) = self.places.get_mut(at) {
+            place.close(alloc);
+        }
+        self.queue(at);
+    }
+
+    /// Closes a connection now: what waits for it is not written, and it is read no further.
+    pub fn cut(&mut self, number: u64)
+        ensures numbers { self.new.numbers ≡ self.old.numbers }
+    {
+        if let Some(at) = self.socket_of(number) {
+            self.end(at);
+        }
+    }
+
+    /// Ends the stream of a socket.
+    fn end(&mut self, at: usize)
+        ensures numbers { self.new.numbers ≡ self.old.numbers }
+    {
+        let alloc = self.alloc;
+        if let Some(place) = self.places.get_mut(at) {
+            place.end(alloc);
+        }
+        self.queue(at);
+    }
+
+    /// It is this moment, in milliseconds: sockets whose time is over are closed.
+    pub fn tick(&mut self, now: u64)
+        ensures numbers { self.new.numbers ≡ self.old.numbers }
+    {
+        self.now = now;
+        for at in 0..self.places.len() {
+            if self.is_late(at) {
+                self.end(at);
+            }
+        }
+    }
+
+    /// Whether the time of a socket is over.
+    fn is_late(&self, at: usize) -> bool {
+        match self.places.get(at) {
+            Some(place) => place.is_late(self.numbers.at(at) != 0, self.now),
+            None => false,
+        }
+    }
+}

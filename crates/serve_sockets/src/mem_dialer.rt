@@ -1,0 +1,34 @@
+//! A dialer of peers over memory.
+
+ghost use Rattle.std.specs.Prelude.{None};
+
+use dq_base::Failed;
+use serve_traits::{PeerConnection, PeerDialer};
+
+/// A dialer of peers that has no socket: each dial succeeds, and what is written gets lost.
+#[derive(Drop)]
+pub struct MemPeerDialer;
+
+/// A connection on which what is written gets lost.
+#[derive(Drop)]
+pub struct MemPeerConnection;
+
+impl PeerConnection for MemPeerConnection {
+    ghost written = { λ _. None };
+
+    ghost faults = { λ _. 0 };
+
+    fn write_all(&mut self, _bytes: &[u8]) -> Result<(), Failed> {
+        Ok(())
+    }
+}
+
+impl PeerDialer for MemPeerDialer {
+    type Connection = MemPeerConnection;
+
+    ghost faults = { λ _. 0 };
+
+    fn dial(&mut self, _address: &str) -> Result<MemPeerConnection, Failed> {
+        Ok(MemPeerConnection)
+    }
+}
