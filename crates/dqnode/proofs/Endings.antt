@@ -91,6 +91,7 @@ module _ (kind : EngineKind) where
   outcome_ends outcome.ReadFault journal left left' a b e = breaks Anything tt left left' a b e
   outcome_ends outcome.WriteFault journal left left' a b e = breaks (MayFollow left') (λ end. refl) left left' a b e
   outcome_ends outcome.NoMemory journal left left' a b e = breaks (MayFollow left') (λ end. refl) left left' a b e
+  outcome_ends outcome.Internal journal left left' a b e = breaks (MayFollow left') (λ end. refl) left left' a b e
 
 -- by the status
 pub status_ends : (kind : EngineKind) (why : Outcome) (journal : List Item) (left left' a b : Option (List ℕ)) → OutcomeEnds kind journal why left left' a b → ScriptEnds kind journal (status_for why) left left' a b
@@ -100,6 +101,7 @@ status_ends kind outcome.Large journal left left' a b e = e
 status_ends kind outcome.ReadFault journal left left' a b e = e
 status_ends kind outcome.WriteFault journal left left' a b e = e
 status_ends kind outcome.NoMemory journal left left' a b e = e
+status_ends kind outcome.Internal journal left left' a b e = e
 
 -- ---- however it ended, it is safe
 
@@ -126,6 +128,7 @@ module _ (kind : EngineKind) (left left' a b : Option (List ℕ)) where
   ends_safely outcome.ReadFault journal e = breaks_safely journal Anything (λ more may. tt) e
   ends_safely outcome.WriteFault journal e = record { is = inr e }
   ends_safely outcome.NoMemory journal e = record { is = inr e }
+  ends_safely outcome.Internal journal e = record { is = inr e }
 
 -- ---- where nothing was read of a script, it breaks off at its beginning
 

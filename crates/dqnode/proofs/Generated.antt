@@ -64,7 +64,10 @@ made_code number writes journal a b code h = elim h.known [
     | inl e ↦ inr (inl e)
     | inr g ↦ elim g [
       | inl e ↦ inr (inr (inr (inl e)))
-      | inr k ↦ elim k [ inl e ↦ inr (inr (inr (inr (inl e)))) | inr e ↦ inr (inr (inr (inr (inr e)))) ]
+      | inr k ↦ elim k [
+        | inl e ↦ inr (inr (inr (inr (inl e))))
+        | inr m ↦ elim m [ inl e ↦ inr (inr (inr (inr (inr (inl e))))) | inr e ↦ inr (inr (inr (inr (inr (inr e))))) ]
+      ]
     ]
   ]
 ]

@@ -11,7 +11,7 @@ use Rattle.script_runner.specs.declared.run.Outcome.{Outcome}
 use Rattle.script_runner.specs.declared.run.Outcome.TheVariants as outcome
 use Rattle.script_runner.specs.Run.{Run, run, printed}
 use Rattle.dqnode.specs.Program.{SafeTurns, Gives}
-use Rattle.dqnode.specs.Status.{status_code, status_for, OutcomeEnds}
+use Rattle.dqnode.specs.Status.{status_code, status_for, IsBrokenOff, OutcomeEnds}
 use Rattle.dqnode.specs.Generating.{is_whole, shown, shown_from, shown_lines, ShownSoFar, PrintsMade, TextEnds, RunsMade, ShowsFront, RunEnds}
 
 -- ---- what was printed in memory
@@ -38,6 +38,7 @@ text_ends number writes outcome.Large journal rest text e = prints_made number w
 text_ends number writes outcome.ReadFault journal rest text e = tt
 text_ends number writes outcome.WriteFault journal rest text e = tt
 text_ends number writes outcome.NoMemory journal rest text e = tt
+text_ends number writes outcome.Internal journal rest text e = tt
 
 -- ---- what was written
 
@@ -50,9 +51,10 @@ runs_made number writes fault journal text a b p told = record {
   safe = p.safe;
 }
 
-not_broken : (code : ℕ) → code ≢ 4 → code ≢ 7 → (code ≡ 4) ⊎ (code ≡ 7) → ⊥
-not_broken code four seven (inl e) = four e
-not_broken code four seven (inr e) = seven e
+not_broken : (code : ℕ) → code ≢ 4 → code ≢ 7 → code ≢ 15 → IsBrokenOff code → ⊥
+not_broken code four seven fifteen (inl (inl e)) = four e
+not_broken code four seven fifteen (inl (inr e)) = seven e
+not_broken code four seven fifteen (inr e) = fifteen e
 
 pub run_shown : (number writes : ℕ) (why : Outcome) (journal : List Item) (text : List ℕ) (a b : Option (List ℕ)) → is_whole why ≡ true → TextEnds number writes journal text why → Appends a b (shown_lines text)
     → RunEnds number writes journal a b (status_code (status_for why))
@@ -61,25 +63,26 @@ run_shown number writes outcome.Done journal text a b whole t told = record {
   done = λ e. runs_made number writes None journal text a b t told;
   script = λ e. absurd cc;
   large = λ e. absurd cc;
-  front = λ broken. absurd (not_broken 0 (λ e. cc) (λ e. cc) broken);
+  front = λ broken. absurd (not_broken 0 (λ e. cc) (λ e. cc) (λ e. cc) broken);
 }
 run_shown number writes (outcome.Script line) journal text a b whole t told = record {
   known = inr (inl refl);
   done = λ e. absurd cc;
   script = λ e. (line, runs_made number writes (Some (Line line)) journal text a b t told);
   large = λ e. absurd cc;
-  front = λ broken. absurd (not_broken 2 (λ e. cc) (λ e. cc) broken);
+  front = λ broken. absurd (not_broken 2 (λ e. cc) (λ e. cc) (λ e. cc) broken);
 }
 run_shown number writes outcome.Large journal text a b whole t told = record {
-  known = inr (inr (inr (inr refl)));
+  known = inr (inr (inr (inr (inl refl))));
   done = λ e. absurd cc;
   script = λ e. absurd cc;
   large = λ e. runs_made number writes (Some Large) journal text a b t told;
-  front = λ broken. absurd (not_broken 9 (λ e. cc) (λ e. cc) broken);
+  front = λ broken. absurd (not_broken 9 (λ e. cc) (λ e. cc) (λ e. cc) broken);
 }
 run_shown number writes outcome.ReadFault journal text a b whole t told = absurd cc
 run_shown number writes outcome.WriteFault journal text a b whole t told = absurd cc
 run_shown number writes outcome.NoMemory journal text a b whole t told = absurd cc
+run_shown number writes outcome.Internal journal text a b whole t told = absurd cc
 
 shows_front : (number writes : ℕ) (why : Outcome) (journal : List Item) (text : List ℕ) (a b : Option (List ℕ)) → is_whole why ≡ true → TextEnds number writes journal text why → AppendsFront a b (shown_lines text) → ShowsFront number writes a b
 shows_front number writes outcome.Done journal text a b whole t front = (t.outcomes, subst (λ (x : List ℕ). AppendsFront a b (shown_lines x)) t.text_is front)
@@ -88,31 +91,37 @@ shows_front number writes outcome.Large journal text a b whole t front = (t.outc
 shows_front number writes outcome.ReadFault journal text a b whole t front = absurd cc
 shows_front number writes outcome.WriteFault journal text a b whole t front = absurd cc
 shows_front number writes outcome.NoMemory journal text a b whole t front = absurd cc
+shows_front number writes outcome.Internal journal text a b whole t front = absurd cc
 
-known_broken : (code : ℕ) → (code ≡ 4) ⊎ (code ≡ 7) → (code ≡ 0) ⊎ (code ≡ 2) ⊎ (code ≡ 4) ⊎ (code ≡ 7) ⊎ (code ≡ 9)
-known_broken code (inl e) = inr (inr (inl e))
-known_broken code (inr e) = inr (inr (inr (inl e)))
+known_broken : (code : ℕ) → IsBrokenOff code → (code ≡ 0) ⊎ (code ≡ 2) ⊎ (code ≡ 4) ⊎ (code ≡ 7) ⊎ (code ≡ 9) ⊎ (code ≡ 15)
+known_broken code (inl (inl e)) = inr (inr (inl e))
+known_broken code (inl (inr e)) = inr (inr (inr (inl e)))
+known_broken code (inr e) = inr (inr (inr (inr (inr e))))
 
-no_other : (code other : ℕ) → other ≢ 4 → other ≢ 7 → (code ≡ 4) ⊎ (code ≡ 7) → code ≡ other → ⊥
-no_other code other four seven (inl e) f = four (sym f ∙ e)
-no_other code other four seven (inr e) f = seven (sym f ∙ e)
+no_other : (code other : ℕ) → other ≢ 4 → other ≢ 7 → other ≢ 15 → IsBrokenOff code → code ≡ other → ⊥
+no_other code other four seven fifteen (inl (inl e)) f = four (sym f ∙ e)
+no_other code other four seven fifteen (inl (inr e)) f = seven (sym f ∙ e)
+no_other code other four seven fifteen (inr e) f = fifteen (sym f ∙ e)
 
-run_broken : (number writes : ℕ) (journal : List Item) (a b : Option (List ℕ)) (code : ℕ) → (code ≡ 4) ⊎ (code ≡ 7) → ShowsFront number writes a b → RunEnds number writes journal a b code
+run_broken : (number writes : ℕ) (journal : List Item) (a b : Option (List ℕ)) (code : ℕ) → IsBrokenOff code → ShowsFront number writes a b → RunEnds number writes journal a b code
 run_broken number writes journal a b code broken front = record {
   known = known_broken code broken;
-  done = λ e. absurd (no_other code 0 (λ f. cc) (λ f. cc) broken e);
-  script = λ e. absurd (no_other code 2 (λ f. cc) (λ f. cc) broken e);
-  large = λ e. absurd (no_other code 9 (λ f. cc) (λ f. cc) broken e);
+  done = λ e. absurd (no_other code 0 (λ f. cc) (λ f. cc) (λ f. cc) broken e);
+  script = λ e. absurd (no_other code 2 (λ f. cc) (λ f. cc) (λ f. cc) broken e);
+  large = λ e. absurd (no_other code 9 (λ f. cc) (λ f. cc) (λ f. cc) broken e);
   front = λ f. front;
 }
 
-pub run_cut : (number writes : ℕ) (why : Outcome) (journal : List Item) (text : List ℕ) (a b : Option (List ℕ)) (code : ℕ) → (code ≡ 4) ⊎ (code ≡ 7) → is_whole why ≡ true → TextEnds number writes journal text why
+pub run_cut : (number writes : ℕ) (why : Outcome) (journal : List Item) (text : List ℕ) (a b : Option (List ℕ)) (code : ℕ) → IsBrokenOff code → is_whole why ≡ true → TextEnds number writes journal text why
     → AppendsFront a b (shown_lines text) → RunEnds number writes journal a b code
 run_cut number writes why journal text a b code broken whole t front = run_broken number writes journal a b code broken (shows_front number writes why journal text a b whole t front)
 
--- if nothing was written, as memory ran out
+-- if nothing was written, as memory ran out or the program met a bug
 pub unrun : (number writes : ℕ) (journal : List Item) (written : Option (List ℕ)) → RunEnds number writes journal written written 7
-unrun number writes journal written = run_broken number writes journal written written 7 (inr refl) ([], AppendsFront-nothing written _)
+unrun number writes journal written = run_broken number writes journal written written 7 (inl (inr refl)) ([], AppendsFront-nothing written _)
+
+pub unrun_by_bug : (number writes : ℕ) (journal : List Item) (written : Option (List ℕ)) → RunEnds number writes journal written written 15
+unrun_by_bug number writes journal written = run_broken number writes journal written written 15 (inr refl) ([], AppendsFront-nothing written _)
 
 -- ---- the lines that are shown, byte by byte
 

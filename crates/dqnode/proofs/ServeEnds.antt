@@ -41,6 +41,7 @@ spent_status status.WriteFault e = absurd cc
 spent_status status.DiskFault e = absurd cc
 spent_status status.HostFault e = absurd cc
 spent_status status.NoMemory e = absurd cc
+spent_status status.Internal e = absurd cc
 spent_status status.Files e = absurd cc
 spent_status status.Large e = absurd cc
 spent_status status.Refused e = absurd cc
@@ -64,20 +65,24 @@ end_code ends.Files = inr (inr (inr (inl refl)))
 end_code ends.DiskFault = inl refl
 end_code ends.HostFault = inr (inl refl)
 end_code ends.NoMemory = inr (inr (inl refl))
-end_code ends.Spent = inr (inr (inr (inr refl)))
+end_code ends.Spent = inr (inr (inr (inr (inl refl))))
+end_code ends.Internal = inr (inr (inr (inr (inr refl))))
 
 pub serve_code : (end : ServeEnd) (s : Status) → s ≡ serve_status end → IsServeCode (status_code s)
 serve_code end s is = subst (λ (x : Status). IsServeCode (status_code x)) (sym is) (end_code end)
 
-pub well_code : (end : ServeEnd) (s : Status) → s ≡ serve_status end → (end ≡ ends.Spent) ⊎ (end ≡ ends.NoMemory) → (status_code s ≡ 10) ⊎ (status_code s ≡ 7)
+pub well_code : (end : ServeEnd) (s : Status) → s ≡ serve_status end → (end ≡ ends.Spent) ⊎ (end ≡ ends.NoMemory) ⊎ (end ≡ ends.Internal)
+    → (status_code s ≡ 10) ⊎ (status_code s ≡ 7) ⊎ (status_code s ≡ 15)
 well_code end s is (inl e) = inl (ap status_code (is ∙ ap serve_status e))
-well_code end s is (inr e) = inr (ap status_code (is ∙ ap serve_status e))
+well_code end s is (inr (inl e)) = inr (inl (ap status_code (is ∙ ap serve_status e)))
+well_code end s is (inr (inr e)) = inr (inr (ap status_code (is ∙ ap serve_status e)))
 
 pub end_disk : (end : ServeEnd) (s : Status) → s ≡ serve_status end → s ≡ status.DiskFault → end ≡ ends.DiskFault
 end_disk ends.Files s is e = let bad : status.Files ≡ status.DiskFault = sym is ∙ e in absurd cc
 end_disk ends.DiskFault s is e = refl
 end_disk ends.HostFault s is e = let bad : status.HostFault ≡ status.DiskFault = sym is ∙ e in absurd cc
 end_disk ends.NoMemory s is e = let bad : status.NoMemory ≡ status.DiskFault = sym is ∙ e in absurd cc
+end_disk ends.Internal s is e = let bad : status.Internal ≡ status.DiskFault = sym is ∙ e in absurd cc
 end_disk ends.Spent s is e = let bad : status.Spent ≡ status.DiskFault = sym is ∙ e in absurd cc
 
 pub end_host : (end : ServeEnd) (s : Status) → s ≡ serve_status end → s ≡ status.HostFault → end ≡ ends.HostFault
@@ -85,6 +90,7 @@ end_host ends.Files s is e = let bad : status.Files ≡ status.HostFault = sym i
 end_host ends.DiskFault s is e = let bad : status.DiskFault ≡ status.HostFault = sym is ∙ e in absurd cc
 end_host ends.HostFault s is e = refl
 end_host ends.NoMemory s is e = let bad : status.NoMemory ≡ status.HostFault = sym is ∙ e in absurd cc
+end_host ends.Internal s is e = let bad : status.Internal ≡ status.HostFault = sym is ∙ e in absurd cc
 end_host ends.Spent s is e = let bad : status.Spent ≡ status.HostFault = sym is ∙ e in absurd cc
 
 pub end_spent : (end : ServeEnd) (s : Status) → s ≡ serve_status end → s ≡ status.Spent → end ≡ ends.Spent
@@ -92,6 +98,7 @@ end_spent ends.Files s is e = let bad : status.Files ≡ status.Spent = sym is �
 end_spent ends.DiskFault s is e = let bad : status.DiskFault ≡ status.Spent = sym is ∙ e in absurd cc
 end_spent ends.HostFault s is e = let bad : status.HostFault ≡ status.Spent = sym is ∙ e in absurd cc
 end_spent ends.NoMemory s is e = let bad : status.NoMemory ≡ status.Spent = sym is ∙ e in absurd cc
+end_spent ends.Internal s is e = let bad : status.Internal ≡ status.Spent = sym is ∙ e in absurd cc
 end_spent ends.Spent s is e = refl
 
 -- ---- only a served node ends with 10
@@ -102,7 +109,8 @@ script_not_ten code (inr (inl a)) e = let bad : 2 ≡ 10 = sym a ∙ e in cc
 script_not_ten code (inr (inr (inl a))) e = let bad : 3 ≡ 10 = sym a ∙ e in cc
 script_not_ten code (inr (inr (inr (inl a)))) e = let bad : 4 ≡ 10 = sym a ∙ e in cc
 script_not_ten code (inr (inr (inr (inr (inl a))))) e = let bad : 7 ≡ 10 = sym a ∙ e in cc
-script_not_ten code (inr (inr (inr (inr (inr a))))) e = let bad : 9 ≡ 10 = sym a ∙ e in cc
+script_not_ten code (inr (inr (inr (inr (inr (inl a)))))) e = let bad : 9 ≡ 10 = sym a ∙ e in cc
+script_not_ten code (inr (inr (inr (inr (inr (inr a)))))) e = let bad : 15 ≡ 10 = sym a ∙ e in cc
 
 pub statement_not_ten : (code : ℕ) → IsStatementCode code → code ≡ 10 → ⊥
 statement_not_ten code (inl a) e = let bad : 0 ≡ 10 = sym a ∙ e in cc
@@ -131,7 +139,8 @@ script_not_six code (inr (inl a)) e = let bad : 2 ≡ 6 = sym a ∙ e in cc
 script_not_six code (inr (inr (inl a))) e = let bad : 3 ≡ 6 = sym a ∙ e in cc
 script_not_six code (inr (inr (inr (inl a)))) e = let bad : 4 ≡ 6 = sym a ∙ e in cc
 script_not_six code (inr (inr (inr (inr (inl a))))) e = let bad : 7 ≡ 6 = sym a ∙ e in cc
-script_not_six code (inr (inr (inr (inr (inr a))))) e = let bad : 9 ≡ 6 = sym a ∙ e in cc
+script_not_six code (inr (inr (inr (inr (inr (inl a)))))) e = let bad : 9 ≡ 6 = sym a ∙ e in cc
+script_not_six code (inr (inr (inr (inr (inr (inr a)))))) e = let bad : 15 ≡ 6 = sym a ∙ e in cc
 
 pub statement_not_six : (code : ℕ) → IsStatementCode code → code ≡ 6 → ⊥
 statement_not_six code (inl a) e = let bad : 0 ≡ 6 = sym a ∙ e in cc
@@ -160,7 +169,8 @@ script_not_five code (inr (inl a)) e = let bad : 2 ≡ 5 = sym a ∙ e in cc
 script_not_five code (inr (inr (inl a))) e = let bad : 3 ≡ 5 = sym a ∙ e in cc
 script_not_five code (inr (inr (inr (inl a)))) e = let bad : 4 ≡ 5 = sym a ∙ e in cc
 script_not_five code (inr (inr (inr (inr (inl a))))) e = let bad : 7 ≡ 5 = sym a ∙ e in cc
-script_not_five code (inr (inr (inr (inr (inr a))))) e = let bad : 9 ≡ 5 = sym a ∙ e in cc
+script_not_five code (inr (inr (inr (inr (inr (inl a)))))) e = let bad : 9 ≡ 5 = sym a ∙ e in cc
+script_not_five code (inr (inr (inr (inr (inr (inr a)))))) e = let bad : 15 ≡ 5 = sym a ∙ e in cc
 
 pub statement_not_five : (code : ℕ) → IsStatementCode code → code ≡ 5 → ⊥
 statement_not_five code (inl a) e = let bad : 0 ≡ 5 = sym a ∙ e in cc
@@ -183,6 +193,7 @@ disk_status status.ReadFault e = absurd cc
 disk_status status.WriteFault e = absurd cc
 disk_status status.HostFault e = absurd cc
 disk_status status.NoMemory e = absurd cc
+disk_status status.Internal e = absurd cc
 disk_status status.Files e = absurd cc
 disk_status status.Large e = absurd cc
 disk_status status.Spent e = absurd cc
@@ -200,6 +211,7 @@ host_status status.WriteFault e = absurd cc
 host_status status.DiskFault e = absurd cc
 host_status status.HostFault e = refl
 host_status status.NoMemory e = absurd cc
+host_status status.Internal e = absurd cc
 host_status status.Files e = absurd cc
 host_status status.Large e = absurd cc
 host_status status.Refused e = absurd cc
@@ -228,7 +240,8 @@ serve_not_three code (inl a) e = let bad : 5 ≡ 3 = sym a ∙ e in cc
 serve_not_three code (inr (inl a)) e = let bad : 6 ≡ 3 = sym a ∙ e in cc
 serve_not_three code (inr (inr (inl a))) e = let bad : 7 ≡ 3 = sym a ∙ e in cc
 serve_not_three code (inr (inr (inr (inl a)))) e = let bad : 8 ≡ 3 = sym a ∙ e in cc
-serve_not_three code (inr (inr (inr (inr a)))) e = let bad : 10 ≡ 3 = sym a ∙ e in cc
+serve_not_three code (inr (inr (inr (inr (inl a))))) e = let bad : 10 ≡ 3 = sym a ∙ e in cc
+serve_not_three code (inr (inr (inr (inr (inr a))))) e = let bad : 15 ≡ 3 = sym a ∙ e in cc
 
 pub words_not_three : (s : Status) → (s ≡ status.Words) ⊎ (s ≡ status.WriteFault) → status_code s ≡ 3 → ⊥
 words_not_three s (inl a) e = let bad : 1 ≡ 3 = sym (ap status_code a) ∙ e in cc
@@ -239,12 +252,13 @@ generated_not_three code (inl a) e = let bad : 0 ≡ 3 = sym a ∙ e in cc
 generated_not_three code (inr (inl a)) e = let bad : 4 ≡ 3 = sym a ∙ e in cc
 generated_not_three code (inr (inr a)) e = let bad : 7 ≡ 3 = sym a ∙ e in cc
 
-pub made_not_three : (code : ℕ) → (code ≡ 0) ⊎ (code ≡ 2) ⊎ (code ≡ 4) ⊎ (code ≡ 7) ⊎ (code ≡ 9) → code ≡ 3 → ⊥
+pub made_not_three : (code : ℕ) → (code ≡ 0) ⊎ (code ≡ 2) ⊎ (code ≡ 4) ⊎ (code ≡ 7) ⊎ (code ≡ 9) ⊎ (code ≡ 15) → code ≡ 3 → ⊥
 made_not_three code (inl a) e = let bad : 0 ≡ 3 = sym a ∙ e in cc
 made_not_three code (inr (inl a)) e = let bad : 2 ≡ 3 = sym a ∙ e in cc
 made_not_three code (inr (inr (inl a))) e = let bad : 4 ≡ 3 = sym a ∙ e in cc
 made_not_three code (inr (inr (inr (inl a)))) e = let bad : 7 ≡ 3 = sym a ∙ e in cc
-made_not_three code (inr (inr (inr (inr a)))) e = let bad : 9 ≡ 3 = sym a ∙ e in cc
+made_not_three code (inr (inr (inr (inr (inl a))))) e = let bad : 9 ≡ 3 = sym a ∙ e in cc
+made_not_three code (inr (inr (inr (inr (inr a))))) e = let bad : 15 ≡ 3 = sym a ∙ e in cc
 
 pub read_status : (s : Status) → status_code s ≡ 3 → s ≡ status.ReadFault
 read_status status.Done e = absurd cc
@@ -255,6 +269,7 @@ read_status status.WriteFault e = absurd cc
 read_status status.DiskFault e = absurd cc
 read_status status.HostFault e = absurd cc
 read_status status.NoMemory e = absurd cc
+read_status status.Internal e = absurd cc
 read_status status.Files e = absurd cc
 read_status status.Large e = absurd cc
 read_status status.Spent e = absurd cc
@@ -270,7 +285,8 @@ script_not_eight code (inr (inl a)) e = let bad : 2 ≡ 8 = sym a ∙ e in cc
 script_not_eight code (inr (inr (inl a))) e = let bad : 3 ≡ 8 = sym a ∙ e in cc
 script_not_eight code (inr (inr (inr (inl a)))) e = let bad : 4 ≡ 8 = sym a ∙ e in cc
 script_not_eight code (inr (inr (inr (inr (inl a))))) e = let bad : 7 ≡ 8 = sym a ∙ e in cc
-script_not_eight code (inr (inr (inr (inr (inr a))))) e = let bad : 9 ≡ 8 = sym a ∙ e in cc
+script_not_eight code (inr (inr (inr (inr (inr (inl a)))))) e = let bad : 9 ≡ 8 = sym a ∙ e in cc
+script_not_eight code (inr (inr (inr (inr (inr (inr a)))))) e = let bad : 15 ≡ 8 = sym a ∙ e in cc
 
 pub statement_not_eight : (code : ℕ) → IsStatementCode code → code ≡ 8 → ⊥
 statement_not_eight code (inl a) e = let bad : 0 ≡ 8 = sym a ∙ e in cc
@@ -283,6 +299,32 @@ statement_not_eight code (inr (inr (inr (inr (inr a))))) e = let bad : 13 ≡ 8 
 pub words_not_eight : (s : Status) → (s ≡ status.Words) ⊎ (s ≡ status.WriteFault) → status_code s ≡ 8 → ⊥
 words_not_eight s (inl a) e = let bad : 1 ≡ 8 = sym (ap status_code a) ∙ e in cc
 words_not_eight s (inr a) e = let bad : 4 ≡ 8 = sym (ap status_code a) ∙ e in cc
+
+-- ---- a statement, a check, a script that is only made and refused arguments don't end with 15
+
+pub statement_not_fifteen : (code : ℕ) → IsStatementCode code → code ≡ 15 → ⊥
+statement_not_fifteen code (inl a) e = let bad : 0 ≡ 15 = sym a ∙ e in cc
+statement_not_fifteen code (inr (inl a)) e = let bad : 4 ≡ 15 = sym a ∙ e in cc
+statement_not_fifteen code (inr (inr (inl a))) e = let bad : 7 ≡ 15 = sym a ∙ e in cc
+statement_not_fifteen code (inr (inr (inr (inl a)))) e = let bad : 11 ≡ 15 = sym a ∙ e in cc
+statement_not_fifteen code (inr (inr (inr (inr (inl a))))) e = let bad : 12 ≡ 15 = sym a ∙ e in cc
+statement_not_fifteen code (inr (inr (inr (inr (inr a))))) e = let bad : 13 ≡ 15 = sym a ∙ e in cc
+
+pub check_not_fifteen : (code : ℕ) → IsCheckCode code → code ≡ 15 → ⊥
+check_not_fifteen code (inl a) e = let bad : 0 ≡ 15 = sym a ∙ e in cc
+check_not_fifteen code (inr (inl a)) e = let bad : 4 ≡ 15 = sym a ∙ e in cc
+check_not_fifteen code (inr (inr (inl a))) e = let bad : 5 ≡ 15 = sym a ∙ e in cc
+check_not_fifteen code (inr (inr (inr (inl a)))) e = let bad : 7 ≡ 15 = sym a ∙ e in cc
+check_not_fifteen code (inr (inr (inr (inr a)))) e = let bad : 8 ≡ 15 = sym a ∙ e in cc
+
+pub generated_not_fifteen : (code : ℕ) → (code ≡ 0) ⊎ (code ≡ 4) ⊎ (code ≡ 7) → code ≡ 15 → ⊥
+generated_not_fifteen code (inl a) e = let bad : 0 ≡ 15 = sym a ∙ e in cc
+generated_not_fifteen code (inr (inl a)) e = let bad : 4 ≡ 15 = sym a ∙ e in cc
+generated_not_fifteen code (inr (inr a)) e = let bad : 7 ≡ 15 = sym a ∙ e in cc
+
+pub words_not_fifteen : (s : Status) → (s ≡ status.Words) ⊎ (s ≡ status.WriteFault) → status_code s ≡ 15 → ⊥
+words_not_fifteen s (inl a) e = let bad : 1 ≡ 15 = sym (ap status_code a) ∙ e in cc
+words_not_fifteen s (inr a) e = let bad : 4 ≡ 15 = sym (ap status_code a) ∙ e in cc
 
 -- what holds of a disk, a network and a status, holds of the same by other names
 pub moved : {D N : Type 0} (disk disk_then : D) (network network_then : N) (s t : Status) (code : ℕ) → disk ≡ disk_then → network ≡ network_then → s ≡ t → code ≡ status_code s

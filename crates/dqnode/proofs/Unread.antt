@@ -78,7 +78,7 @@ module _ (asked : Option Invocation) (code : ℕ) (out_of_memory : code ≡ 7) w
     codes = λ is. inr (inr (inl refl));
     serves = λ served is. unserved views.tells files views.disk_faults views.done served host disk (views.taken host);
     spent = λ served is e. absurd cc;
-    well = λ is goes. inr refl;
+    well = λ is goes. inr (inl refl);
   })
 
   pub unread_untouched : {N D H : Type 0} (left : Option (List ℕ)) (faults : ℕ) (journal journal' : List Item) (dialer : N) (disk : D) (host : H)
@@ -99,6 +99,7 @@ module _ (asked : Option Invocation) (code : ℕ) (out_of_memory : code ≡ 7) w
     of_statement = λ e. absurd (of_no_statement e);
     of_files = λ e. absurd cc;
     of_spent = λ e. absurd cc;
+    of_internal = λ e. absurd cc;
     read_fault = λ e. absurd cc;
     write_fault = λ e. absurd cc;
     disk_fault = λ e. absurd cc;

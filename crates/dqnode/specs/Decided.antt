@@ -64,6 +64,6 @@ BrokenDecideBy follows =
     BrokeWell one → WentWell also → (rest more : List ℕ) → follows left' rest → MayFollow from' more → one.read ++ rest ≡ also.read ++ more →
     WroteFront written written' shown shown'
 
--- by a fault of the input; by a fault of the output, or because memory ran out
+-- by a fault of the input; by a fault of the output, because memory ran out, or because of a bug of the program
 abbrev pub BrokenScriptsDecide : Type 0
 BrokenScriptsDecide = BrokenDecideBy (λ left. Anything) × BrokenDecideBy MayFollow

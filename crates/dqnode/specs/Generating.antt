@@ -10,6 +10,7 @@ use Rattle.script_cluster.specs.Run.{Fault, Line, Large}
 use Rattle.script_runner.specs.declared.run.Outcome.{Outcome as Ended}
 use Rattle.script_runner.specs.declared.run.Outcome.TheVariants as ended
 use Rattle.script_runner.specs.Run.{run, printed}
+use Rattle.dqnode.specs.Status.{IsBrokenOff}
 use Rattle.dqnode.specs.Program.{SafeTurns}
 
 -- The whole script was written, or a front of it if the output failed or memory ran out.
@@ -77,6 +78,7 @@ TextEnds number writes journal text ended.Large = PrintsMade number writes (Some
 TextEnds number writes journal text ended.ReadFault = Unit {0}
 TextEnds number writes journal text ended.WriteFault = Unit {0}
 TextEnds number writes journal text ended.NoMemory = Unit {0}
+TextEnds number writes journal text ended.Internal = Unit {0}
 
 -- the run ended or to a fault of the script, so that all that it prints is there
 abbrev pub is_whole : Ended → Bool
@@ -86,14 +88,15 @@ is_whole ended.Large = true
 is_whole ended.ReadFault = false
 is_whole ended.WriteFault = false
 is_whole ended.NoMemory = false
+is_whole ended.Internal = false
 
 -- a front of these lines of a run was written
 abbrev pub ShowsFront : ℕ → ℕ → Option (List ℕ) → Option (List ℕ) → Type 0
 ShowsFront number writes written written' = (outcomes : List Outcome) × AppendsFront written written' (shown_lines (printed (run (script_text number writes) outcomes)))
 
 pub record RunEnds (number writes : ℕ) (journal : List Item) (written written' : Option (List ℕ)) (code : ℕ) : Type 0 where
-  pub known : (code ≡ 0) ⊎ (code ≡ 2) ⊎ (code ≡ 4) ⊎ (code ≡ 7) ⊎ (code ≡ 9)
+  pub known : (code ≡ 0) ⊎ (code ≡ 2) ⊎ (code ≡ 4) ⊎ (code ≡ 7) ⊎ (code ≡ 9) ⊎ (code ≡ 15)
   pub done : code ≡ 0 → RunsMade number writes None journal written written'
   pub script : code ≡ 2 → (line : ℕ) × RunsMade number writes (Some (Line line)) journal written written'
   pub large : code ≡ 9 → RunsMade number writes (Some Large) journal written written'
-  pub front : (code ≡ 4) ⊎ (code ≡ 7) → ShowsFront number writes written written'
+  pub front : IsBrokenOff code → ShowsFront number writes written written'

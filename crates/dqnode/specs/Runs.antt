@@ -19,7 +19,7 @@ use Rattle.serve_threads.specs.declared.host_counts.HostCounts.{HostCounts}
 use Rattle.serve_node.specs.Rules.{GoesWell}
 use Rattle.dqnode.specs.Asks.{ForStatement, ForGenerated, ForRun, ForServed, IsScript, IsRun, IsStatement, IsServed, IsCheck, IsNothing, RunsWith}
 use Rattle.dqnode.specs.Program.{words_error, Gives, Completes, BreaksOff, RunsSafely}
-use Rattle.dqnode.specs.Status.{IsStatus, IsBroken, IsServeCode}
+use Rattle.dqnode.specs.Status.{IsStatus, IsBroken, IsBrokenOff, IsServeCode}
 use Rattle.dqnode.specs.Statements.{StatementEnds, IsAnswered, IsOfStatement, HasLinked}
 use Rattle.dqnode.specs.Checks.{CheckEnds}
 use Rattle.dqnode.specs.Generating.{GenerateEnds, RunEnds}
@@ -38,8 +38,8 @@ pub record ScriptRun (asked : Option Invocation) (journal : List Item) (left lef
   pub safe : IsScript asked → RunsWith asked (λ kind. RunsSafely kind journal left left' written written')
   -- 3: a front was written of what the script gives, whatever bytes follow those read
   pub cut : code ≡ 3 → RunsWith asked (λ kind. BreaksOff kind Anything left left' written written')
-  -- 4 and 7: this holds too; but if the input is at its end nothing follows
-  pub broken : IsScript asked → IsBroken code → RunsWith asked (λ kind. BreaksOff kind (MayFollow left') left left' written written')
+  -- 4, 7 and 15: this holds too; but if the input is at its end nothing follows
+  pub broken : IsScript asked → IsBrokenOff code → RunsWith asked (λ kind. BreaksOff kind (MayFollow left') left left' written written')
 
 -- Arguments that ask for nothing are refused, with 1 and an error line, unless it can't be written or there is not enough memory to read them; then
 -- a front of that line was written.
@@ -67,8 +67,8 @@ pub record CheckRun {K : Type 0} (asked : Option Invocation) (files files' : Dis
   pub unprinted : IsCheck asked → (code ≡ 5) ⊎ (code ≡ 7) → output' ≡ output
 
 -- The script of a number and a count of writes was made: with 0 it was written whole and nothing else; with 4 and 7, and there is no other
--- status, a front of it. Or it was run: with 0 it was written how its nodes are at its end, with 2 and 9 its fault too, and with 4 and 7 a
--- front of it.
+-- status, a front of it. Or it was run: with 0 it was written how its nodes are at its end, with 2 and 9 its fault too, and with 4, 7 and 15
+-- a front of it.
 pub record GenerateRun (asked : Option Invocation) (journal : List Item) (written written' : Option (List ℕ)) (code : ℕ) : Type 0 where
   pub made : (number writes : ℕ) → ForGenerated number writes asked → GenerateEnds number writes written written' code
   pub run : (number writes : ℕ) → ForRun number writes asked → RunEnds number writes journal written written' code
@@ -92,9 +92,10 @@ pub record ServeRun {D H : Type 0} (files : D → Disk Text → Type 0) (views :
       ⊎ NotServed disk disk' host host' code
   -- 10: as many events were taken as are asked for
   pub spent : (served : Serve) → ForServed served asked → code ≡ 10 → (views.taken host').count ≡ (views.taken host).count + served.events
-  -- over the files of a node, if neither the disk nor the host failed, all events were taken, or memory ran out
+  -- over the files of a node, if neither the disk nor the host failed, all events were taken, or memory ran out, or a step failed because of a
+  -- bug of the program
   pub well : IsServed asked → GoesWell (files disk) (views.disk_faults disk) (views.disk_faults disk') (views.host_faults host) (views.host_faults host') →
-      (code ≡ 10) ⊎ (code ≡ 7)
+      (code ≡ 10) ⊎ (code ≡ 7) ⊎ (code ≡ 15)
 
 -- What is not asked for is left alone: the input and its count of faults where it is no script, the dialer where it is no statement, the disk
 -- if neither files are looked at nor a node is served, the host where no node is. If no script is run the journal is as it was, or it has
@@ -122,6 +123,8 @@ pub record StatusTells (asked : Option Invocation) (old now : FaultCounts) (code
   pub of_statement : IsOfStatement code → IsStatement asked
   pub of_files : code ≡ 8 → IsCheck asked ⊎ IsServed asked
   pub of_spent : code ≡ 10 → IsServed asked
+  -- a bug of the program shows only if nodes run: in a script, read or made, or in a served node
+  pub of_internal : code ≡ 15 → IsScript asked ⊎ IsRun asked ⊎ IsServed asked
   pub read_fault : code ≡ 3 → IsScript asked × Rose old.input now.input
   pub write_fault : code ≡ 4 → Rose old.output now.output
   pub disk_fault : code ≡ 5 → (IsCheck asked ⊎ IsServed asked) × Rose old.disk now.disk

@@ -23,6 +23,7 @@ serve_status ends.Files = status.Files
 serve_status ends.DiskFault = status.DiskFault
 serve_status ends.HostFault = status.HostFault
 serve_status ends.NoMemory = status.NoMemory
+serve_status ends.Internal = status.Internal
 serve_status ends.Spent = status.Spent
 
 -- By an engine of the kind that the arguments name, which knew no image, the node was served over this disk, with the events of this host,

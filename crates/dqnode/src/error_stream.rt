@@ -69,3 +69,10 @@ pub fn tell_host<R: Wait + Copy + Drop>(rt: &HostRuntime, host: &TcpHost<R, Read
 pub fn tell_memory(rt: &HostRuntime) {
     let _ = eprintln!(rt; "status 7: out of memory");
 }
+
+/// Says that a node failed because of a bug of the program, and asks for a report.
+pub fn tell_bug(rt: &HostRuntime) {
+    let _ = eprintln!(rt;
+        "status 15: internal fault: this is a bug of dqnode; please report it, with the lines before this one and what led to it"
+    );
+}

@@ -104,7 +104,7 @@ fn is_whole(outcome: Outcome) -> bool
 {
     match outcome {
         Outcome::Done | Outcome::Script(_) | Outcome::Large => true,
-        Outcome::ReadFault | Outcome::WriteFault | Outcome::NoMemory => false,
+        Outcome::ReadFault | Outcome::WriteFault | Outcome::NoMemory | Outcome::Internal => false,
     }
 }
 
@@ -137,7 +137,7 @@ fn run_text(
 
 /// Runs the script of a number and a count of writes, with an engine of cells at each node, and writes how its nodes are at its end,
 /// or its fault.
-#[tactic(auto, using(crate::proofs::Made::run_cut, crate::proofs::Made::unrun))]
+#[tactic(auto, using(crate::proofs::Made::run_cut, crate::proofs::Made::unrun, crate::proofs::Made::unrun_by_bug))]
 pub(crate) fn run_made<K: Sink>(
     alloc: Global,
     number: u32,
@@ -153,6 +153,9 @@ pub(crate) fn run_made<K: Sink>(
     let Ok(outcome) = run_text(alloc, number, count, &mut text, journal) else {
         return Status::NoMemory;
     };
+    if outcome == Outcome::Internal {
+        return Status::Internal;
+    }
     // A text in memory fails only if memory runs out, and the script's bytes never do.
     if !is_whole(outcome) {
         return Status::NoMemory;

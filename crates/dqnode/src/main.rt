@@ -20,7 +20,7 @@ mod words;
 use arguments::{Invocation, Serve, read_words};
 use disk_model::DiskFault;
 use dq_base::{ReadSource, WriteSink};
-use error_stream::{ErrorStream, tell_disk, tell_host, tell_memory, tell_owner};
+use error_stream::{ErrorStream, tell_bug, tell_disk, tell_host, tell_memory, tell_owner};
 use folder_disk::DirDisk;
 use founding::{FolderOwner, owner_of};
 pub use network::Network;
@@ -126,6 +126,9 @@ fn main(rt: HostRuntime) -> ExitCode {
     );
     if served.is_some() {
         tell_end(&rt, code, &disk, &network.host);
+    }
+    if code == Status::Internal.code() {
+        tell_bug(&rt);
     }
     if code == Status::Words.code() {
         report_refusal(&rt, all.as_slice());

@@ -16,7 +16,7 @@ ghost use Rattle.arguments.specs.Asking.{IsAskable};
 ghost use Rattle.serve_node.specs.Rules.{GoesWell};
 ghost use Rattle.dqnode.specs.Asks.{asks_for, ForStatement, ForGenerated, ForRun, ForServed, IsScript, IsRun, IsStatement, IsServed, IsCheck, IsNothing, RunsWith};
 ghost use Rattle.dqnode.specs.Program.{words_error, Gives, Completes, BreaksOff, RunsSafely, RunsAreSafe};
-ghost use Rattle.dqnode.specs.Status.{IsStatus, IsBroken, IsServeCode};
+ghost use Rattle.dqnode.specs.Status.{IsStatus, IsBroken, IsBrokenOff, IsServeCode};
 ghost use Rattle.dqnode.specs.Statements.{StatementEnds, IsAnswered, IsOfStatement, HasLinked};
 ghost use Rattle.dqnode.specs.Checks.{CheckEnds};
 ghost use Rattle.dqnode.specs.Decided.{BrokenScriptsDecide, ScriptsDecide};
@@ -93,7 +93,7 @@ fn run<S: Source, K: Sink, D: Disk, N: Dialer, H: Host<Read>, W: Notes>(
     ensures write_fault { result ≡ 4 → Rose (K.faults output.old) (K.faults output.new) }
     ensures cut { result ≡ 3 → RunsWith asked (λ kind. BreaksOff kind Anything (S.left input.old) (S.left input.new)
         (K.written output.old) (K.written output.new)) }
-    ensures broken { IsScript asked → IsBroken result → RunsWith asked (λ kind. BreaksOff kind (MayFollow (S.left input.new))
+    ensures broken { IsScript asked → IsBrokenOff result → RunsWith asked (λ kind. BreaksOff kind (MayFollow (S.left input.new))
         (S.left input.old) (S.left input.new) (K.written output.old) (K.written output.new)) }
     ensures words_broken { IsNothing asked → IsBroken result → AppendsFront (K.written output.old) (K.written output.new) words_error }
     ensures statement { (statement : Statement) → ForStatement statement asked → StatementEnds statement (N.net network.old.dialer) (N.net network.new.dialer)
@@ -112,11 +112,12 @@ fn run<S: Source, K: Sink, D: Disk, N: Dialer, H: Host<Read>, W: Notes>(
     ensures serve_codes { IsServed asked → IsServeCode result }
     ensures host_fault { result ≡ 6 → IsServed asked × Rose (H.faults network.old.host) (H.faults network.new.host) }
     ensures of_spent { result ≡ 10 → IsServed asked }
+    ensures of_internal { result ≡ 15 → IsScript asked ⊎ IsRun asked ⊎ IsServed asked }
     ensures serves { (served : Serve) → ForServed served asked → WasServed D.tells D.states D.faults H.done served network.old.host disk.old disk.new
         (record { left = H.left network.old.host; count = H.taken network.old.host }) (record { left = H.left network.new.host; count = H.taken network.new.host }) result }
     ensures spent { (served : Serve) → ForServed served asked → result ≡ 10 → H.taken network.new.host ≡ H.taken network.old.host + served.events }
     ensures serves_well { IsServed asked → GoesWell (D.states disk.old) (D.faults disk.old) (D.faults disk.new) (H.faults network.old.host) (H.faults network.new.host) →
-        (result ≡ 10) ⊎ (result ≡ 7) }
+        (result ≡ 10) ⊎ (result ≡ 7) ⊎ (result ≡ 15) }
     ensures host { ¬ (IsServed asked) → network.new.host ≡ network.old.host }
     ensures generated { (number writes : ℕ) → ForGenerated number writes asked → GenerateEnds number writes (K.written output.old) (K.written output.new) result }
     ensures made { (number writes : ℕ) → ForRun number writes asked → RunEnds number writes journal.new (K.written output.old) (K.written output.new) result }
@@ -168,7 +169,7 @@ fn run<S: Source, K: Sink, D: Disk, N: Dialer, H: Host<Read>, W: Notes>(
 ///   cells at each node, and it is written how its nodes are at its end.
 ///
 /// Other words give status 1 and the line `error words`. 4 is a fault of the output, an error line that could not be written included; 7
-/// means out of memory.
+/// means out of memory; 15 means that a node failed because of a bug of the program.
 ///
 /// A script: a line that isn't in the grammar, or that names what isn't there, the first fault of the script, gives status 2, after the
 /// text of the lines before it, and `error line` with its number. A line after the millionth, an event after the twenty thousandth, or
@@ -177,7 +178,7 @@ fn run<S: Source, K: Sink, D: Disk, N: Dialer, H: Host<Read>, W: Notes>(
 /// and what was loaded after a stop or a failed call, in their order; what it held before is dropped, and after other words it is as it
 /// was. What was read, and what came of the events at the nodes, decide all else. What came of them is what whole nodes do, so every
 /// run is safe, at each moment and at a later one, with stops and failing calls of disks at any place. Unless the input is at its end,
-/// every script that begins with the bytes read has the fault that is named; and after a fault of the outside or out of memory a front was
+/// every script that begins with the bytes read has the fault that is named; and after a fault of the outside, out of memory or a bug a front was
 /// written of what each of them gives, so nothing of a line that was read in part.
 ///
 /// A statement: 0 with the number of changed rows or the rows, 11 with the server's refusal, 12 where no leader was found in three
@@ -188,8 +189,8 @@ fn run<S: Source, K: Sink, D: Disk, N: Dialer, H: Host<Read>, W: Notes>(
 /// `no metadata`, or `bad snapshot I`; 5 is a fault of the disk. No file is changed.
 ///
 /// A node that is served: it is started over the disk and makes a step for each event that the host brings. 10 comes after as many
-/// events as the arguments say, 6 where the host failed, 5 where the disk did, 7 where memory ran out, and 8 where the files aren't those of
-/// a node.
+/// events as the arguments say, 6 if the host failed, 5 if the disk did, 7 if memory ran out, 15 if a step failed because of a bug, and 8
+/// if the files aren't those of a node.
 ///
 /// After words that ask for no script the input is as it was; the same holds for the dialer where no statement is asked for, the disk where neither a
 /// check nor a node is, and the host where no node is.
@@ -234,7 +235,7 @@ pub fn dqnode<S: Source, K: Sink, D: Disk, N: Dialer, H: Host<Read>, W: Notes>(
     // fault is the same, where in both no call of a disk stopped or failed, no engine wanted memory, and no checksum matched by chance in what a
     // start found.
     ensures determined { ScriptsDecide }
-    // And one that broke off, by a fault of the outside or because memory ran out, wrote a front of what another one
+    // And one that broke off, by a fault of the outside, because memory ran out or because of a bug, wrote a front of what another one
     // wrote.
     ensures determined_front { BrokenScriptsDecide }
     // A run has one list of commands: at every moment machines that have applied as many of them hold the same files and

@@ -24,6 +24,7 @@ pub(crate) fn status_for(outcome: Outcome) -> Status
         Outcome::ReadFault => Status::ReadFault,
         Outcome::WriteFault => Status::WriteFault,
         Outcome::NoMemory => Status::NoMemory,
+        Outcome::Internal => Status::Internal,
     }
 }
 

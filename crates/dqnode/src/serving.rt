@@ -38,6 +38,7 @@ fn status_of(end: ServeEnd) -> Status
         ServeEnd::DiskFault => Status::DiskFault,
         ServeEnd::HostFault => Status::HostFault,
         ServeEnd::NoMemory => Status::NoMemory,
+        ServeEnd::Internal => Status::Internal,
         ServeEnd::Spent => Status::Spent,
     }
 }
@@ -59,7 +60,7 @@ pub(crate) fn serve_node<D: Disk, H: Host<Read>, W: Notes>(
     ensures spent { result ≡ Status.Spent → H.taken host.new ≡ H.taken host.old + words.events }
     ensures count { D.faults disk.old ≤ D.faults disk.new }
     ensures ends_well { GoesWell (D.states disk.old) (D.faults disk.old) (D.faults disk.new) (H.faults host.old) (H.faults host.new) →
-        (status_code result ≡ 10) ⊎ (status_code result ≡ 7) }
+        (status_code result ≡ 10) ⊎ (status_code result ≡ 7) ⊎ (status_code result ≡ 15) }
 {
     let mut engine = engine_of(alloc, words.engine);
     status_of(serve(alloc, &words, host, disk, &mut engine, notes))

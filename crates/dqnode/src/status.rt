@@ -34,6 +34,8 @@ pub enum Status {
     NoLeader,
     /// The statement may have been run or not.
     Unknown,
+    /// A node failed for a cause that is a bug of the program.
+    Internal,
 }
 
 impl Status {
@@ -58,6 +60,7 @@ impl Status {
             Status::Refused => 11,
             Status::NoLeader => 12,
             Status::Unknown => 13,
+            Status::Internal => 15,
         }
     }
 }

@@ -18,11 +18,13 @@ use Rattle.script_grammar.specs.declared.events.Event.{Event}
 use Rattle.script_grammar.specs.declared.events.Event.TheVariants as event
 use Rattle.script_grammar.specs.declared.grammar.FaultTarget.TheVariants.{Nothing}
 use Rattle.script_cluster.specs.declared.cluster_line.ClusterLine.TheVariants as says
+use Rattle.script_cluster.specs.declared.place.PlaceFault.{PlaceFault}
+use Rattle.script_cluster.specs.declared.place.PlaceFault.TheVariants as place
 use Rattle.script_cluster.specs.World.{Letter, with_link, without, without_node, closings, node_of, connects, on_link, hangs_up, is_node, arriving, arrived_at, delivered, delivers, arrives, crashes, fallen, exists, takes, happens, settles, settled_so, first_waiting, all_start}
 use Rattle.script_cluster.specs.World.{Place, World, Halt, NotThere, TooMany, Went, quiet, halted, then_on, onward, said_before, asked, asked_so, unless_many, at_node, starts, empty_place, counted, counted_so}
 use Rattle.script_cluster.specs.Knowing.{Knowing, AllKnow, KnowsOver, CanHold, messages_of, messages_in, outcomes_of, outcomes_in, outcomes_over}
 use Rattle.script_cluster.specs.Seen.{answers_in}
-use Rattle.script_cluster.specs.Places.{Comes, TellsEnding, place_after, place_after_crash}
+use Rattle.script_cluster.specs.Places.{event_fault, Comes, TellsEnding, place_after, place_after_crash}
 use Rattle.script_cluster.specs.Holding.{Held, beside, outside_of, world_of, places_after, Asks, Overruns, Leads, HaltsAt, Halts, DoesBy, Does, TellsAll}
 
 -- ---- nothing, and one after another
@@ -87,6 +89,7 @@ in_result knows go way old mid new before now (Ok x) same does keeps = by_way_of
 in_result knows go way old mid new before now (Err faults.NotThere) same does keeps = by_way_of knows go way old mid new before now (Some NotThere) same does keeps
 in_result knows go way old mid new before now (Err faults.TooMany) same does keeps = by_way_of knows go way old mid new before now (Some TooMany) same does keeps
 in_result knows go way old mid new before now (Err faults.NoMemory) same does keeps = tt
+in_result knows go way old mid new before now (Err faults.Internal) same does keeps = tt
 
 halts_behind : (why : Halt) (journal : List Item) (said more : List ClusterLine) (turns : List Turn) (over : Option Turn) (went : Went) → HaltsAt why journal more turns over went → HaltsAt why journal (said ++ more) turns over (said_before said went)
 halts_behind why journal said more turns over went at =
@@ -218,6 +221,13 @@ asked_does knows n doing aim voters nodes now_nodes places q old new came (Err f
     let all = tells (get_or places (n - 1) empty_place).failed comes.ending comes.tells in
     asked_halts knows n doing aim voters nodes now_nodes places (set places (n - 1) q) old new (answers_in came.answers) comes.ending before now (all.0 voters places) all.1 all.2 comes.on.over
 asked_does knows n doing aim voters nodes now_nodes places q old new came (Err faults.NoMemory) before now comes tells = tt
+asked_does knows n doing aim voters nodes now_nodes places q old new came (Err faults.Internal) before now comes tells = tt
+
+-- a fault of a place promises nothing
+pub place_failed : {P : Type 0} (knows : Knowing P) (T : Type 0) (go : World → Went) (fault : PlaceFault) (old new : Held P) (before now : List ClusterLine)
+    → Does {T = T} knows go (Err (event_fault fault)) old new before now
+place_failed knows T go place.NoMemory old new before now = tt
+place_failed knows T go place.Internal old new before now = tt
 
 -- ---- where a node runs, and if none does
 

@@ -272,6 +272,7 @@ settled_fault : {P : Type 0} (knows : Knowing P) (T : Type 0) (count arrived pla
 settled_fault knows T count arrived place first h new faults.NotThere begun said now below so_far is halts = settled_halts knows count arrived place first h new NotThere begun said now below so_far is halts
 settled_fault knows T count arrived place first h new faults.TooMany begun said now below so_far is halts = settled_halts knows count arrived place first h new TooMany begun said now below so_far is halts
 settled_fault knows T count arrived place first h new faults.NoMemory begun said now below so_far is halts = tt
+settled_fault knows T count arrived place first h new faults.Internal begun said now below so_far is halts = tt
 
 pub settled_not : {P : Type 0} (knows : Knowing P) (T : Type 0) (count arrived place : ℕ) (first h new : Held P) (mail : List Letter) (waits : Option ℕ) (result : Result T EventFault) (fault : EventFault) (begun said now : List ClusterLine) → arrived < count
     → Settled knows count (count - arrived) first begun h said → mail ≡ h.mail → waits ≡ first_waiting h.mail → waits ≡ Some place → Does knows (counted (delivers place Nothing)) result (record h { mail = mail }) new said now → result ≡ Err fault
@@ -318,6 +319,7 @@ started_fault : {P : Type 0} (knows : Knowing P) (T : Type 0) (count index : ℕ
 started_fault knows T count index first h new faults.NotThere begun said now below so_far halts = started_halts knows count index first h new NotThere begun said now below so_far halts
 started_fault knows T count index first h new faults.TooMany begun said now below so_far halts = started_halts knows count index first h new TooMany begun said now below so_far halts
 started_fault knows T count index first h new faults.NoMemory begun said now below so_far halts = tt
+started_fault knows T count index first h new faults.Internal begun said now below so_far halts = tt
 
 pub started_not : {P : Type 0} (knows : Knowing P) (T : Type 0) (count index : ℕ) (first h new : Held P) (result : Result T EventFault) (fault : EventFault) (begun said now : List ClusterLine) → index < count → Started knows count (count - index) (index + 1) first begun h said
     → Does knows (starts (index + 1) Nothing) result h new said now → result ≡ Err fault → Does {T = T} knows (all_start count 1) (Err fault) first new begun now

@@ -129,6 +129,7 @@ TellsAll (Ok x) node aim answers failed ending old new before now = Tells true n
 TellsAll (Err faults.NotThere) node aim answers failed ending old new before now = ⊥
 TellsAll (Err faults.TooMany) node aim answers failed ending old new before now = Tells false node aim answers failed ending old new before now
 TellsAll (Err faults.NoMemory) node aim answers failed ending old new before now = Unit {0}
+TellsAll (Err faults.Internal) node aim answers failed ending old new before now = Unit {0}
 
 -- ---- what a call leads to
 
@@ -172,9 +173,10 @@ abbrev pub DoesBy : {P : Type 0} → Knowing P → (World → Went) → Option H
 DoesBy knows go None old new before now = Leads knows go old new before now
 DoesBy knows go (Some why) old new before now = Halts knows go why old new before now
 
--- the same by its answer; after out of memory nothing is reported
+-- the same by its answer; after out of memory or a bug nothing is reported
 abbrev pub Does : {P T : Type 0} → Knowing P → (World → Went) → Result T EventFault → Held P → Held P → List ClusterLine → List ClusterLine → Type 0
 Does knows go (Ok x) old new before now = DoesBy knows go None old new before now
 Does knows go (Err faults.NotThere) old new before now = DoesBy knows go (Some NotThere) old new before now
 Does knows go (Err faults.TooMany) old new before now = DoesBy knows go (Some TooMany) old new before now
 Does knows go (Err faults.NoMemory) old new before now = Unit {0}
+Does knows go (Err faults.Internal) old new before now = Unit {0}

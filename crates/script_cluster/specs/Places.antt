@@ -4,6 +4,10 @@ use Rattle.file_digest.specs.Digest.{digest}
 use Rattle.script_cluster.specs.declared.place.EventResult.{EventResult}
 use Rattle.script_cluster.specs.declared.place.EventEnd.{EventEnd}
 use Rattle.script_cluster.specs.declared.place.EventEnd.TheVariants as ended
+use Rattle.script_grammar.specs.declared.faults.EventFault.{EventFault}
+use Rattle.script_grammar.specs.declared.faults.EventFault.TheVariants as faults
+use Rattle.script_cluster.specs.declared.place.PlaceFault.{PlaceFault}
+use Rattle.script_cluster.specs.declared.place.PlaceFault.TheVariants as place
 use Rattle.script_cluster.specs.declared.place.NodeEvent.{NodeEvent}
 use Rattle.script_cluster.specs.declared.place.NodeEvent.TheVariants as event
 use Rattle.script_cluster.specs.declared.place.NodeLine.{NodeLine}
@@ -12,6 +16,11 @@ use Rattle.script_cluster.specs.Kinds.{role_of}
 use Rattle.script_cluster.specs.Outcomes.{Outcome, Standing, Outs, Ending, Steps, Starts, Stops, Fails, Unreadable, Doing, Timeout, Beat, Connect, Bytes, Hangup, Receive}
 use Rattle.script_cluster.specs.Seen.{answers_in}
 use Rattle.script_cluster.specs.World.{Place, standing_so}
+
+-- the fault that ends a script for one of a place
+abbrev pub event_fault : PlaceFault → EventFault
+event_fault place.NoMemory = faults.NoMemory
+event_fault place.Internal = faults.Internal
 
 abbrev pub doing_of : NodeEvent → Doing
 doing_of event.Timeout = Timeout

@@ -10,7 +10,7 @@ ghost use Rattle.script_cluster.specs.Holding.{Does};
 
 use crate::cluster_line::{ClusterLine, NODE_DOWN};
 use crate::network::Network;
-use crate::place::{EventResult, NodeEvent, NodePlace};
+use crate::place::{EventResult, NodeEvent, NodePlace, PlaceFault};
 use crate::voters::VoterCount;
 use dq_base::Bytes;
 use script_grammar::{Event, EventFault, FaultTarget};
@@ -46,7 +46,7 @@ fn step_at<P: NodePlace>(
     index: usize,
     event: NodeEvent,
     aim: FaultTarget,
-) -> Result<EventResult, AllocError>
+) -> Result<EventResult, PlaceFault>
     requires within { index < length places.old.items }
     requires up { is_some (get_or (map P.shows places.old.items) index empty_place).standing ≡ true }
     ensures { IfOk result (λ came. ComesAt P.shows
@@ -63,7 +63,7 @@ fn start_at<P: NodePlace>(
     node: u64,
     voters: VoterCount,
     aim: FaultTarget,
-) -> Result<EventResult, AllocError>
+) -> Result<EventResult, PlaceFault>
     requires within { index < length places.old.items }
     requires down { is_some (get_or (map P.shows places.old.items) index empty_place).standing ≡ false }
     ensures comes { IfOk result (λ came. ComesAt P.shows

@@ -19,6 +19,6 @@ pub use cluster::Cluster;
 pub use cluster_line::{ClusterLine, DownCause, MessageKind};
 pub use journal::{ClusterJournal, JournalItem};
 pub use laws::{scripts_play, scripts_run};
-pub use place::{EventEnd, EventResult, NodeEvent, NodeLine, NodePlace, Outs};
+pub use place::{EventEnd, EventResult, NodeEvent, NodeLine, NodePlace, Outs, PlaceFault};
 pub use printing::line_for;
 pub use voters::VoterCount;

@@ -6,7 +6,7 @@ use dq_base::Bytes;
 use engine_recording::Journal;
 use raft_core::RaftRole;
 use raft_messages::RaftMessage;
-use script_grammar::FaultTarget;
+use script_grammar::{EventFault, FaultTarget};
 use std::alloc::{AllocError, Global};
 use store_format::Kept;
 use wire_words::WireBytes;
@@ -76,6 +76,40 @@ pub struct NodeLine {
     pub digest: [u8; 32],
 }
 
+/// Why an event at a node has no result.
+#[derive(Clone, Copy, Debug)]
+pub enum PlaceFault {
+    /// There is not enough memory.
+    NoMemory,
+    /// The node failed for a cause that is a bug of the program.
+    Internal,
+}
+
+impl From<AllocError> for PlaceFault {
+    ghost use Rattle.std.specs.Prelude.{◌≡◌};
+    ghost use Rattle.script_cluster.specs.declared.place.PlaceFault.TheVariants.{NoMemory};
+
+    ghost from_gives = { λ _ fault. fault ≡ NoMemory };
+
+    fn from(_error: AllocError) -> PlaceFault {
+        PlaceFault::NoMemory
+    }
+}
+
+impl From<PlaceFault> for EventFault {
+    ghost use Rattle.std.specs.Prelude.{◌≡◌};
+    ghost use Rattle.script_cluster.specs.Places.{event_fault};
+
+    ghost from_gives = { λ fault event. event ≡ event_fault fault };
+
+    fn from(fault: PlaceFault) -> EventFault {
+        match fault {
+            PlaceFault::NoMemory => EventFault::NoMemory,
+            PlaceFault::Internal => EventFault::Internal,
+        }
+    }
+}
+
 /// The place of a node: its disk, and the node that runs over it with its engine, if one does.
 pub trait NodePlace: Drop {
     ghost use Rattle.std.specs.Prelude.{◌≡◌, ℕ, false, true, is_some, None, List, IfOk, OnOk};
@@ -106,7 +140,7 @@ pub trait NodePlace: Drop {
 
     /// An event happens at the node that runs here, while a line aims at a call of its disk, counted from here on. After an event
     /// that didn't end well no node runs here, and a disk that stopped has taken the outcome of the line's pick.
-    fn step(&mut self, event: NodeEvent, aim: FaultTarget) -> Result<EventResult, AllocError>
+    fn step(&mut self, event: NodeEvent, aim: FaultTarget) -> Result<EventResult, PlaceFault>
         requires { is_some (shows self.old).standing ≡ true }
         ensures comes { IfOk result (λ came. Comes (shows self.old) (shows self.new) came
             (λ outcome. LeadsOn knows self.old self.new (λ node. Does node (doing_of event) aim outcome))) }
@@ -119,7 +153,7 @@ pub trait NodePlace: Drop {
         node: u64,
         voters: VoterCount,
         aim: FaultTarget,
-    ) -> Result<EventResult, AllocError>
+    ) -> Result<EventResult, PlaceFault>
         requires { is_some (shows self.old).standing ≡ false }
         ensures comes { IfOk result (λ came. Comes (shows self.old) (shows self.new) came (StartsOn knows self.old self.new node voters aim)) }
         ensures start { IfOk result (λ came. IsStart came.ended) };

@@ -11,6 +11,8 @@ pub enum EventFault {
     TooMany,
     /// There is not enough memory.
     NoMemory,
+    /// A node failed for a cause that is a bug of the program.
+    Internal,
 }
 
 impl From<AllocError> for EventFault {

@@ -95,6 +95,8 @@ module _ {P : Type 0} (knows : Knowing P) (first now written printed_now : Optio
   stopped_feed outcome.ReadFault later cursor left bytes new t b = absurd b
   stopped_feed outcome.WriteFault later cursor left bytes new t b = short_feed knows first now written printed_now at number r (MayFollow left) later cursor left bytes b t
   stopped_feed outcome.NoMemory later cursor left bytes new t b = short_feed knows first now written printed_now at number r (MayFollow left) later cursor left bytes b t
+  stopped_feed outcome.Internal later cursor left bytes new t b =
+      short_feed knows first now written printed_now at number r (MayFollow left) later cursor left bytes b t
 
   pub stopped_last : (why : Outcome) (later : Option (List ℕ)) (cursor : Cursor) (left : Option (List ℕ)) (bytes : List ℕ) (new : Holds P) → TakesLine now (to_come cursor left) bytes [] → IsAtEnd (to_come cursor left) → 0 < length bytes
       → Breaks knows why number (λ (s : Stage). step s number bytes) at new printed_now later → Stopped knows why (journal_of new) first left written later
@@ -104,6 +106,8 @@ module _ {P : Type 0} (knows : Knowing P) (first now written printed_now : Optio
   stopped_last outcome.ReadFault later cursor left bytes new t end some b = absurd b
   stopped_last outcome.WriteFault later cursor left bytes new t end some b = short_last knows first now written printed_now at number r later cursor left bytes b t end some
   stopped_last outcome.NoMemory later cursor left bytes new t end some b = short_last knows first now written printed_now at number r later cursor left bytes b t end some
+  stopped_last outcome.Internal later cursor left bytes new t end some b =
+      short_last knows first now written printed_now at number r later cursor left bytes b t end some
 
 module _ {P : Type 0} (knows : Knowing P) where
   -- a script that was read to its end, with all shown
@@ -176,6 +180,7 @@ module _ {P : Type 0} (knows : Knowing P) (journal : List Item) (left left' a b 
   ended_ok outcome.ReadFault s told = prints_front Anything s told
   ended_ok outcome.WriteFault s told = prints_front (MayFollow left') s told
   ended_ok outcome.NoMemory s told = prints_front (MayFollow left') s told
+  ended_ok outcome.Internal s told = prints_front (MayFollow left') s told
 
   pub ended_part_of : (why : Outcome) → Stopped knows why journal left left' a b → HasLine why → AppendsFront b c (fault_line why) → PrintsFront knows (MayFollow left') left left' a c
   ended_part_of outcome.Done s has front = absurd has
@@ -184,6 +189,7 @@ module _ {P : Type 0} (knows : Knowing P) (journal : List Item) (left left' a b 
   ended_part_of outcome.ReadFault s has front = absurd has
   ended_part_of outcome.WriteFault s has front = absurd has
   ended_part_of outcome.NoMemory s has front = absurd has
+  ended_part_of outcome.Internal s has front = absurd has
 
 -- a script that was not begun
 pub not_begun : {P : Type 0} (knows : Knowing P) (left left' a : Option (List ℕ)) → StopsShort knows (MayFollow left') left left' a a → PrintsFront knows (MayFollow left') left left' a a

@@ -83,6 +83,7 @@ module _ {P : Type 0} (knows : Knowing P) where
   nodes_do number line (Err faults.NotThere) old new told e d = nodes_end number (Line number) line old new told e d
   nodes_do number line (Err faults.TooMany) old new told e d = nodes_end number Large line old new told e d
   nodes_do number line (Err faults.NoMemory) old new told e d = tt
+  nodes_do number line (Err faults.Internal) old new told e d = tt
 
   -- by a list of what is said that was empty before
   pub nodes_done : {T : Type 0} (number : ℕ) (line : ScriptLine) (result : Result T EventFault) (old new : Stands P) (before told : List NodeSaid) → before ≡ [] → machines_in line ≡ None
@@ -146,6 +147,7 @@ module _ {P : Type 0} (knows : Knowing P) (line : ℕ) (usage : Usage) (fleet : 
       ends_here knows (λ (s : Stage). line_step s line (says.Event event aim)) (Line line) usage more fleet next now none (ap (after_event usage fleet line) (absent refl))
   event_failed event aim faults.TooMany more next now none absent few = absurd (few refl)
   event_failed event aim faults.NoMemory more next now none absent few = tt
+  event_failed event aim faults.Internal more next now none absent few = tt
 
   -- an empty line, and a mode line, which comes once
   pub blank_here : (l : ScriptLine) (now : List Said) → l ≡ says.Blank → now ≡ [] → Goes knows (λ (s : Stage). line_step s line l) (Machines usage fleet) (Machines usage fleet) now
@@ -278,6 +280,7 @@ module _ {P : Type 0} (knows : Knowing P) where
     uses = d.uses;
   }
   does_as number go way (Err faults.NoMemory) old new now same d = tt
+  does_as number go way (Err faults.Internal) old new now same d = tt
 
   pub line_does : {T : Type 0} (number : ℕ) (bytes : List ℕ) (line : ScriptLine) (result : Result T EventFault) (old new : Holds P) (now : List Said) → number ≤ line_count_limit → Some line ≡ line_of bytes
       → DoesLine knows number (λ (s : Stage). line_step s number line) result old new now → DoesLine knows number (λ (s : Stage). step s number bytes) result old new now

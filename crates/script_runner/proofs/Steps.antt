@@ -119,6 +119,7 @@ event_does knows number e aim h new (Ok x) before now d = event_goes knows numbe
 event_does knows number e aim h new (Err faults.NotThere) before now d = event_ends knows number NotThere e aim h new before now d
 event_does knows number e aim h new (Err faults.TooMany) before now d = event_ends knows number TooMany e aim h new before now d
 event_does knows number e aim h new (Err faults.NoMemory) before now d = tt
+event_does knows number e aim h new (Err faults.Internal) before now d = tt
 
 -- ---- the mode line
 
@@ -158,6 +159,7 @@ nodes_do knows number voters spare nodes new (Ok x) before now news d = nodes_go
 nodes_do knows number voters spare nodes new (Err faults.NotThere) before now news d = nodes_end knows number NotThere voters spare nodes new before now news d
 nodes_do knows number voters spare nodes new (Err faults.TooMany) before now news d = nodes_end knows number TooMany voters spare nodes new before now news d
 nodes_do knows number voters spare nodes new (Err faults.NoMemory) before now news d = tt
+nodes_do knows number voters spare nodes new (Err faults.Internal) before now news d = tt
 
 pub nodes_open : {P T : Type 0} (knows : Knowing P) (number voters spare : ℕ) (shows : P → Place) (places : List P) (h new : Held P) (result : Result T EventFault) (before now : List ClusterLine)
     → h ≡ empty_held voters spare places → h.places ≡ map shows places → AllKnow knows voters places []

@@ -112,6 +112,7 @@ Stopped knows outcome.Large journal left left' written written' = Settles knows 
 Stopped knows outcome.ReadFault journal left left' written written' = StopsShort knows Anything left left' written written'
 Stopped knows outcome.WriteFault journal left left' written written' = StopsShort knows (MayFollow left') left left' written written'
 Stopped knows outcome.NoMemory journal left left' written written' = StopsShort knows (MayFollow left') left left' written written'
+Stopped knows outcome.Internal journal left left' written written' = StopsShort knows (MayFollow left') left left' written written'
 
 -- Whatever may follow the bytes read, and whatever comes of later events: the run ends so, notes this and has these turns, by which places
 -- were led to; and its text was printed.
@@ -151,6 +152,7 @@ Ended knows outcome.Large journal left left' written written' = Prints knows (So
 Ended knows outcome.ReadFault journal left left' written written' = PrintsFront knows Anything left left' written written'
 Ended knows outcome.WriteFault journal left left' written written' = PrintsFront knows (MayFollow left') left left' written written'
 Ended knows outcome.NoMemory journal left left' written written' = PrintsFront knows (MayFollow left') left left' written written'
+Ended knows outcome.Internal journal left left' written written' = PrintsFront knows (MayFollow left') left left' written written'
 
 -- ---- one line
 
@@ -184,6 +186,7 @@ Breaks knows outcome.Large number go old new written written' = RanOut knows go 
 Breaks knows outcome.ReadFault number go old new written written' = ⊥
 Breaks knows outcome.WriteFault number go old new written written' = RanShort knows go old written written'
 Breaks knows outcome.NoMemory number go old new written written' = RanShort knows go old written written'
+Breaks knows outcome.Internal number go old new written written' = RanShort knows go old written written'
 
 -- ---- outcomes of faults
 
@@ -203,6 +206,7 @@ fault_line outcome.Large = fault_text (Some Large)
 fault_line outcome.ReadFault = []
 fault_line outcome.WriteFault = []
 fault_line outcome.NoMemory = []
+fault_line outcome.Internal = []
 
 -- a script that ended so has a line of its fault
 abbrev pub HasLine : Outcome → Type 0
@@ -212,3 +216,4 @@ HasLine outcome.Large = Unit {0}
 HasLine outcome.ReadFault = ⊥
 HasLine outcome.WriteFault = ⊥
 HasLine outcome.NoMemory = ⊥
+HasLine outcome.Internal = ⊥

@@ -95,3 +95,4 @@ DoesLine knows number go (Ok x) old new now = Goes knows go old new now
 DoesLine knows number go (Err faults.NotThere) old new now = Ends knows go (Line number) old new now
 DoesLine knows number go (Err faults.TooMany) old new now = Ends knows go Large old new now
 DoesLine knows number go (Err faults.NoMemory) old new now = Unit {0}
+DoesLine knows number go (Err faults.Internal) old new now = Unit {0}

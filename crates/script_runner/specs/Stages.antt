@@ -94,3 +94,4 @@ DoesLine knows number go (Ok x) old new before now = Goes knows go old new befor
 DoesLine knows number go (Err faults.NotThere) old new before now = Ends knows go (Line number) old new before now
 DoesLine knows number go (Err faults.TooMany) old new before now = Ends knows go Large old new before now
 DoesLine knows number go (Err faults.NoMemory) old new before now = Unit {0}
+DoesLine knows number go (Err faults.Internal) old new before now = Unit {0}

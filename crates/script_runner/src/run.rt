@@ -34,6 +34,8 @@ pub enum Outcome {
     WriteFault,
     /// There is not enough memory.
     NoMemory,
+    /// A node failed for a cause that is a bug of the program.
+    Internal,
 }
 
 impl From<LineFault> for Outcome {
@@ -104,6 +106,7 @@ fn run_line<P: NodePlace, K: Sink>(
             Err(Outcome::Large)
         }
         Err(EventFault::NoMemory) => Err(Outcome::NoMemory),
+        Err(EventFault::Internal) => Err(Outcome::Internal),
     }
 }
 
@@ -249,7 +252,11 @@ fn print_fault<K: Sink>(alloc: Global, outcome: Outcome, sink: &mut K) -> Result
             sink.write_all("error large\n".as_bytes())?;
             Ok(())
         }
-        Outcome::Done | Outcome::ReadFault | Outcome::WriteFault | Outcome::NoMemory => Ok(()),
+        Outcome::Done
+        | Outcome::ReadFault
+        | Outcome::WriteFault
+        | Outcome::NoMemory
+        | Outcome::Internal => Ok(()),
     }
 }
 
@@ -265,7 +272,7 @@ fn print_fault<K: Sink>(alloc: Global, outcome: Outcome, sink: &mut K) -> Result
 /// - `Large`: the line after the millionth, an event after the twenty thousandth, or an event whose messages have too many bytes is
 ///   the first fault; the text of the run was printed, with `error large` at the end.
 /// - `ReadFault`, `WriteFault`: the source, the sink failed, and its count of faults rose; a front of the run's text was printed. So it
-///   is after `NoMemory`, which has no count as its cause.
+///   is after `NoMemory` and `Internal`, which have no count as their cause.
 ///
 /// What was read, and what came of the events at nodes, decides this: unless the source is at its end, the fault and the text are those
 /// of every script that begins with the bytes read. So nothing was printed of a line that was read in part.

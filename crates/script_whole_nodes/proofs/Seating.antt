@@ -2,7 +2,6 @@
 use Rattle.std.proofs.Common.{◌≡◌, ℕ, Bool, true, false, List, [], Option, Some, None, Result, Ok, Err, refl, ap, sym, subst, ◌∙◌}
 use Rattle.std.specs.Prelude.{is_some, IfOk}
 use Rattle.std.specs.Option.{option_map}
-use Rattle.std.specs.declared.alloc.AllocError.{AllocError}
 use Rattle.std.proofs.lemmas.Bool.{false≢true, true≢false}
 use Rattle.file_digest.specs.Digest.{digest}
 use Rattle.database_state.specs.Databases.{contents_of}
@@ -22,6 +21,7 @@ use Rattle.node_core.specs.declared.outs.StepOutputs.{StepOutputs as CoreOuts}
 use Rattle.node_core.specs.Values.{raft_of, applied_of, databases_of, has_links}
 use Rattle.node_core.specs.Whole.{Agrees, IsSound}
 use Rattle.script_cluster.specs.declared.place.EventResult.{EventResult}
+use Rattle.script_cluster.specs.declared.place.PlaceFault.{PlaceFault}
 use Rattle.script_cluster.specs.declared.place.EventEnd.{EventEnd}
 use Rattle.script_cluster.specs.declared.place.EventEnd.TheVariants as ended
 use Rattle.script_cluster.specs.declared.place.Outs.{Outs}
@@ -86,7 +86,7 @@ not_down node up down = false≢true (sym up ∙ down)
 
 -- ---- how an event ended
 
-pub is_step : (outs : Outs) (r : Result EventResult AllocError) → IfOk r (λ (came : EventResult). came.ended ≡ ended.Stepped outs) → IfOk r (λ (came : EventResult). IsStep came.ended)
+pub is_step : (outs : Outs) (r : Result EventResult PlaceFault) → IfOk r (λ (came : EventResult). came.ended ≡ ended.Stepped outs) → IfOk r (λ (came : EventResult). IsStep came.ended)
 is_step outs (Err e) told = tt
 is_step outs (Ok came) told = subst IsStep (sym told) tt
 
@@ -105,18 +105,18 @@ fall_starts keeps old new (ended.Stopped told) fall = tt
 fall_starts keeps old new (ended.Failed told) fall = tt
 fall_starts keeps old new ended.Unreadable fall = absurd fall
 
-pub is_step_fallen : (keeps : ℕ) (old new : Contents) (e : EventEnd) (r : Result EventResult AllocError) → FallsTo keeps old new e → IfOk r (λ (came : EventResult). came.ended ≡ e) → IfOk r (λ (came : EventResult). IsStep came.ended)
+pub is_step_fallen : (keeps : ℕ) (old new : Contents) (e : EventEnd) (r : Result EventResult PlaceFault) → FallsTo keeps old new e → IfOk r (λ (came : EventResult). came.ended ≡ e) → IfOk r (λ (came : EventResult). IsStep came.ended)
 is_step_fallen keeps old new e (Err x) fall told = tt
 is_step_fallen keeps old new e (Ok came) fall told = subst IsStep (sym told) (fall_steps keeps old new e fall)
 
-pub is_start_fallen : (keeps : ℕ) (old new : Contents) (e : EventEnd) (r : Result EventResult AllocError) → FallsTo keeps old new e → IfOk r (λ (came : EventResult). came.ended ≡ e) → IfOk r (λ (came : EventResult). IsStart came.ended)
+pub is_start_fallen : (keeps : ℕ) (old new : Contents) (e : EventEnd) (r : Result EventResult PlaceFault) → FallsTo keeps old new e → IfOk r (λ (came : EventResult). came.ended ≡ e) → IfOk r (λ (came : EventResult). IsStart came.ended)
 is_start_fallen keeps old new e (Err x) fall told = tt
 is_start_fallen keeps old new e (Ok came) fall told = subst IsStart (sym told) (fall_starts keeps old new e fall)
 
-pub is_start_well : (loaded : Option Kept) (r : Result EventResult AllocError) → IfOk r (λ (came : EventResult). came.ended ≡ ended.Started loaded) → IfOk r (λ (came : EventResult). IsStart came.ended)
+pub is_start_well : (loaded : Option Kept) (r : Result EventResult PlaceFault) → IfOk r (λ (came : EventResult). came.ended ≡ ended.Started loaded) → IfOk r (λ (came : EventResult). IsStart came.ended)
 is_start_well loaded (Err e) told = tt
 is_start_well loaded (Ok came) told = subst IsStart (sym told) tt
 
-pub is_start_unread : (r : Result EventResult AllocError) → IfOk r (λ (came : EventResult). came.ended ≡ ended.Unreadable) → IfOk r (λ (came : EventResult). IsStart came.ended)
+pub is_start_unread : (r : Result EventResult PlaceFault) → IfOk r (λ (came : EventResult). came.ended ≡ ended.Unreadable) → IfOk r (λ (came : EventResult). IsStart came.ended)
 is_start_unread (Err e) told = tt
 is_start_unread (Ok came) told = subst IsStart (sym told) tt

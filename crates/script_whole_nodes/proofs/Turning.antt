@@ -36,6 +36,7 @@ use Rattle.node_core.specs.Whole.{IsSound}
 use Rattle.node_spec.specs.Steps.{CompletesStart}
 use Rattle.script_grammar.specs.declared.grammar.FaultTarget.{FaultTarget}
 use Rattle.script_cluster.specs.declared.place.EventResult.{EventResult}
+use Rattle.script_cluster.specs.declared.place.PlaceFault.{PlaceFault}
 use Rattle.script_cluster.specs.declared.place.EventEnd.{EventEnd}
 use Rattle.script_cluster.specs.declared.place.EventEnd.TheVariants as ended
 use Rattle.script_cluster.specs.declared.place.NodeEvent.{NodeEvent}
@@ -185,7 +186,7 @@ exact_at kind engine mid was now event said answers same quiet are whole exact =
     (subst (λ (t : Option Told). Answered (Some (told_by engine.noted engine.cut)) t (StepsExactly (any_meaning kind) kind event (core_of was.running) (core_of now.running) said)) (told_these mid answers are whole)
     (subst (λ (k : EngineKind). Answered (Some (told_by engine.noted engine.cut)) (Some (told_by mid.noted mid.cut)) (StepsExactly (any_meaning k) k event (core_of was.running) (core_of now.running) said)) same exact))
 
-pub step_leads : (old mid new : NodeSlot) (event : NodeEvent) (aim : FaultTarget) (said : CoreOuts) (outs : CodeOuts) (r : Result EventResult AllocError) → any_kind old.engine.engine ≡ old.kind → IsQuiet old.engine old.node
+pub step_leads : (old mid new : NodeSlot) (event : NodeEvent) (aim : FaultTarget) (said : CoreOuts) (outs : CodeOuts) (r : Result EventResult PlaceFault) → any_kind old.engine.engine ≡ old.kind → IsQuiet old.engine old.node
     → HasActed old mid (core_event event) said → Sits mid → outs_of outs ≡ core_outs said → IfOk r (λ (came : EventResult). came.ended ≡ ended.Stepped outs)
     → IfOk r (λ (came : EventResult). (came.answers ≡ mid.engine.noted) × (mid.engine.cut ≡ false)) → OnOk r (new.node ≡ mid.node) → new.has_failed ≡ mid.has_failed → new.disk ≡ mid.disk
     → IfOk r (λ (came : EventResult). Comes (place_of old) (place_of new) came (λ (outcome : Outcome). LeadsOn (Knows old.kind) old new (λ node. Does node (doing_of event) aim outcome)))
@@ -232,7 +233,7 @@ fall_ends failed keeps old new (ended.Stopped told_keeps) fall = record { ending
 fall_ends failed keeps old new (ended.Failed told_keeps) fall = record { ending = Fails told_keeps; tells = refl; falls = tt; starts_none = refl; after = λ place. refl; found = fall.1 }
 fall_ends failed keeps old new ended.Unreadable fall = absurd fall
 
-pub stop_leads : (old mid fallen new : NodeSlot) (event : NodeEvent) (aim : FaultTarget) (keeps : ℕ) (e : EventEnd) (r : Result EventResult AllocError) → any_kind old.engine.engine ≡ old.kind → HasStopped old mid (core_event event)
+pub stop_leads : (old mid fallen new : NodeSlot) (event : NodeEvent) (aim : FaultTarget) (keeps : ℕ) (e : EventEnd) (r : Result EventResult PlaceFault) → any_kind old.engine.engine ≡ old.kind → HasStopped old mid (core_event event)
     → FallsTo keeps mid.disk.contents fallen.disk.contents e → HasFallen fallen.node fallen.has_failed → IfOk r (λ (came : EventResult). came.ended ≡ e) → OnOk r (new.node ≡ fallen.node)
     → new.has_failed ≡ fallen.has_failed → new.disk ≡ fallen.disk
     → IfOk r (λ (came : EventResult). Comes (place_of old) (place_of new) came (λ (outcome : Outcome). LeadsOn (Knows old.kind) old new (λ node. Does node (doing_of event) aim outcome)))
@@ -256,7 +257,7 @@ stop_leads old mid fallen new event aim keeps e (Ok came) of_kind stopped fall d
 
 -- ---- starts
 
-pub start_leads : (old mid new : NodeSlot) (number voters : ℕ) (aim : FaultTarget) (loaded : Option Kept) (r : Result EventResult AllocError) → old.node ≡ None → StartsBy number voters old mid (ends.Runs loaded)
+pub start_leads : (old mid new : NodeSlot) (number voters : ℕ) (aim : FaultTarget) (loaded : Option Kept) (r : Result EventResult PlaceFault) → old.node ≡ None → StartsBy number voters old mid (ends.Runs loaded)
     → IfOk r (λ (came : EventResult). came.ended ≡ ended.Started loaded) → IfOk r (λ (came : EventResult). (came.answers ≡ mid.engine.noted) × (mid.engine.cut ≡ false)) → OnOk r (new.node ≡ mid.node) → new.has_failed ≡ mid.has_failed → new.disk ≡ mid.disk
     → IfOk r (λ (came : EventResult). Comes (place_of old) (place_of new) came (StartsOn (Knows old.kind) old new number voters aim))
 start_leads old mid new number voters aim loaded (Err e) down runs told_is answers same still disk = tt
@@ -272,7 +273,7 @@ start_leads old mid new number voters aim loaded (Ok came) down runs told_is ans
   );
 }
 
-pub none_leads : (old mid fallen new : NodeSlot) (number voters : ℕ) (aim : FaultTarget) (keeps : ℕ) (e : EventEnd) (r : Result EventResult AllocError) → old.node ≡ None → NoneStarted (λ why. why ≡ start.DiskFault) old mid
+pub none_leads : (old mid fallen new : NodeSlot) (number voters : ℕ) (aim : FaultTarget) (keeps : ℕ) (e : EventEnd) (r : Result EventResult PlaceFault) → old.node ≡ None → NoneStarted (λ why. why ≡ start.DiskFault) old mid
     → FallsTo keeps mid.disk.contents fallen.disk.contents e → HasFallen fallen.node fallen.has_failed → IfOk r (λ (came : EventResult). came.ended ≡ e) → OnOk r (new.node ≡ fallen.node)
     → new.has_failed ≡ fallen.has_failed → new.disk ≡ fallen.disk
     → IfOk r (λ (came : EventResult). Comes (place_of old) (place_of new) came (StartsOn (Knows old.kind) old new number voters aim))
@@ -292,7 +293,7 @@ none_leads old mid fallen new number voters aim keeps e (Ok came) down none fall
       );
     }
 
-pub unread_leads : (old mid new : NodeSlot) (number voters : ℕ) (aim : FaultTarget) (r : Result EventResult AllocError) → old.node ≡ None → NoneStarted LoadsNothing old mid
+pub unread_leads : (old mid new : NodeSlot) (number voters : ℕ) (aim : FaultTarget) (r : Result EventResult PlaceFault) → old.node ≡ None → NoneStarted LoadsNothing old mid
     → IfOk r (λ (came : EventResult). came.ended ≡ ended.Unreadable) → OnOk r (new.node ≡ mid.node) → new.has_failed ≡ mid.has_failed → new.disk ≡ mid.disk
     → IfOk r (λ (came : EventResult). Comes (place_of old) (place_of new) came (StartsOn (Knows old.kind) old new number voters aim))
 unread_leads old mid new number voters aim (Err x) down none told_is same still disk = tt
@@ -403,14 +404,14 @@ none_started IsCause old new why mid none failed same over cause = record {
 
 -- ---- at a place whose engine is of a kind
 
-pub kept_step : (kind : EngineKind) (inside now new : NodeSlot) (event : NodeEvent) (aim : FaultTarget) (r : Result EventResult AllocError) → inside ≡ now → inside.kind ≡ kind
+pub kept_step : (kind : EngineKind) (inside now new : NodeSlot) (event : NodeEvent) (aim : FaultTarget) (r : Result EventResult PlaceFault) → inside ≡ now → inside.kind ≡ kind
     → IfOk r (λ (came : EventResult). Comes (place_of inside) (place_of new) came (λ (outcome : Outcome). LeadsOn (Knows inside.kind) inside new (λ node. Does node (doing_of event) aim outcome)))
     → IfOk r (λ (came : EventResult). Comes (place_of now) (place_of new) came (λ (outcome : Outcome). LeadsOn (Knows kind) now new (λ node. Does node (doing_of event) aim outcome)))
 kept_step kind inside now new event aim r same is comes =
     subst (λ (s : NodeSlot). IfOk r (λ (came : EventResult). Comes (place_of s) (place_of new) came (λ (outcome : Outcome). LeadsOn (Knows kind) s new (λ node. Does node (doing_of event) aim outcome)))) same
     (subst (λ (k : EngineKind). IfOk r (λ (came : EventResult). Comes (place_of inside) (place_of new) came (λ (outcome : Outcome). LeadsOn (Knows k) inside new (λ node. Does node (doing_of event) aim outcome)))) is comes)
 
-pub kept_start : (kind : EngineKind) (inside now new : NodeSlot) (number voters : ℕ) (aim : FaultTarget) (r : Result EventResult AllocError) → inside ≡ now → inside.kind ≡ kind
+pub kept_start : (kind : EngineKind) (inside now new : NodeSlot) (number voters : ℕ) (aim : FaultTarget) (r : Result EventResult PlaceFault) → inside ≡ now → inside.kind ≡ kind
     → IfOk r (λ (came : EventResult). Comes (place_of inside) (place_of new) came (StartsOn (Knows inside.kind) inside new number voters aim))
     → IfOk r (λ (came : EventResult). Comes (place_of now) (place_of new) came (StartsOn (Knows kind) now new number voters aim))
 kept_start kind inside now new number voters aim r same is comes =

@@ -32,6 +32,8 @@ pub(crate) enum Fell {
     DiskFault(u64),
     /// There is not enough memory.
     NoMemory,
+    /// It failed for a cause that is a bug of the program.
+    Internal,
 }
 
 /// How a start ended.
@@ -100,8 +102,8 @@ fn step_in(
         }
         Err(NodeFault::DiskFault) => Err(Fell::DiskFault(node.keeps())),
         Err(NodeFault::NoMemory) => Err(Fell::NoMemory),
-        // That a change of servers isn't fit never comes, as a node looks at it before it proposes it; nothing says so yet.
-        Err(NodeFault::Unfit) => Err(Fell::NoMemory),
+        // That a change of servers isn't fit is a bug of the sessions, which let it pass; nothing says yet that it never comes.
+        Err(NodeFault::Unfit) => Err(Fell::Internal),
         Err(NodeFault::Down) => unreachable!(),
     }
 }

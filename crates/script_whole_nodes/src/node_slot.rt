@@ -15,7 +15,7 @@ use disk_model::MemDisk;
 use engine_recording::{Journal, RecordingEngine};
 use file_digest::digest;
 use node_core::{Node, StepOutputs as CoreOuts};
-use script_cluster::{EventEnd, EventResult, NodeEvent, NodeLine, Outs, VoterCount};
+use script_cluster::{EventEnd, EventResult, NodeEvent, NodeLine, Outs, PlaceFault, VoterCount};
 use script_grammar::FaultTarget;
 use sql_engine::{CellEngine, EngineKind};
 use sqlite_engine::{AnyEngine, SqliteEngine};
@@ -112,7 +112,7 @@ fn answers_of(alloc: Global, engine: &mut RecordingEngine<AnyEngine>) -> Result<
 #[tactic(auto, using(crate::proofs::Seating::seated_again, crate::proofs::Seating::none_seated))]
 /// What came of an event that ended so: the answers that the engine has kept belong to it. `Err` means out of memory, also of
 /// the engine's; no node runs then.
-fn came(seat: &mut NodeSlot, ended: EventEnd) -> Result<EventResult, AllocError>
+fn came(seat: &mut NodeSlot, ended: EventEnd) -> Result<EventResult, PlaceFault>
     requires sits { Sits seat.old }
     requires kind { any_kind seat.old.engine.engine ≡ seat.old.kind }
     ensures ended { IfOk result (λ came. came.ended ≡ ended) }
@@ -127,7 +127,7 @@ fn came(seat: &mut NodeSlot, ended: EventEnd) -> Result<EventResult, AllocError>
         Ok(answers) => Ok(EventResult { answers, ended }),
         Err(AllocError) => {
             seat.node = None;
-            Err(AllocError)
+            Err(PlaceFault::NoMemory)
         }
     }
 }
@@ -169,7 +169,7 @@ pub(crate) fn step(
     seat: &mut NodeSlot,
     event: NodeEvent,
     aim: FaultTarget,
-) -> Result<EventResult, AllocError>
+) -> Result<EventResult, PlaceFault>
     requires seated { IsSeated seat.old }
     requires up { is_some seat.old.node ≡ true }
     ensures comes { IfOk result (λ came. Comes (place_of seat.old) (place_of seat.new) came
@@ -184,7 +184,8 @@ pub(crate) fn step(
             let ended = fall(seat, keeps)?;
             came(seat, ended)
         }
-        Err(Fell::NoMemory) => Err(AllocError),
+        Err(Fell::NoMemory) => Err(PlaceFault::NoMemory),
+        Err(Fell::Internal) => Err(PlaceFault::Internal),
     }
 }
 
@@ -195,7 +196,7 @@ pub(crate) fn start(
     node: u64,
     voters: VoterCount,
     aim: FaultTarget,
-) -> Result<EventResult, AllocError>
+) -> Result<EventResult, PlaceFault>
     requires seated { IsSeated seat.old }
     requires down { seat.old.node ≡ None }
     ensures comes { IfOk result (λ came. Comes (place_of seat.old) (place_of seat.new) came

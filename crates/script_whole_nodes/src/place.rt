@@ -1,7 +1,7 @@
 //! The place of a whole node.
 
 use crate::node_slot::{NodeSlot, crash, empty_seat, line_for, start, step};
-use script_cluster::{EventResult, NodeEvent, NodeLine, NodePlace, VoterCount};
+use script_cluster::{EventResult, NodeEvent, NodeLine, NodePlace, PlaceFault, VoterCount};
 use script_grammar::FaultTarget;
 use sql_engine::EngineKind;
 use std::alloc::{AllocError, Global};
@@ -120,7 +120,7 @@ impl<C: EngineChoice> NodePlace for WholePlace<C> {
     }
 
     #[tactic(auto, using(crate::proofs::Seating::up_by))]
-    fn step(&mut self, event: NodeEvent, aim: FaultTarget) -> Result<EventResult, AllocError> {
+    fn step(&mut self, event: NodeEvent, aim: FaultTarget) -> Result<EventResult, PlaceFault> {
         step(&mut self.seat, event, aim)
     }
 
@@ -130,7 +130,7 @@ impl<C: EngineChoice> NodePlace for WholePlace<C> {
         node: u64,
         voters: VoterCount,
         aim: FaultTarget,
-    ) -> Result<EventResult, AllocError> {
+    ) -> Result<EventResult, PlaceFault> {
         start(&mut self.seat, node, voters, aim)
     }
 

@@ -48,21 +48,21 @@ loop_no_files loops.Closed end e files = let bad : ends.HostFault ≡ ends.Files
 loop_no_files loops.DiskFault end e files = let bad : ends.DiskFault ≡ ends.Files = sym e ∙ files in cc
 loop_no_files (loops.Spent count) end e files = let bad : ends.Spent ≡ ends.Files = sym e ∙ files in cc
 loop_no_files loops.NoMemory end e files = let bad : ends.NoMemory ≡ ends.Files = sym e ∙ files in cc
-loop_no_files loops.Unfit end e files = let bad : ends.NoMemory ≡ ends.Files = sym e ∙ files in cc
+loop_no_files loops.Unfit end e files = let bad : ends.Internal ≡ ends.Files = sym e ∙ files in cc
 
 pub loop_disk : (l : LoopEnd) (end : ServeEnd) → end ≡ end_of_loop l → end ≡ ends.DiskFault → l ≡ loops.DiskFault
 loop_disk loops.Closed end e disk = let bad : ends.HostFault ≡ ends.DiskFault = sym e ∙ disk in absurd cc
 loop_disk loops.DiskFault end e disk = refl
 loop_disk (loops.Spent count) end e disk = let bad : ends.Spent ≡ ends.DiskFault = sym e ∙ disk in absurd cc
 loop_disk loops.NoMemory end e disk = let bad : ends.NoMemory ≡ ends.DiskFault = sym e ∙ disk in absurd cc
-loop_disk loops.Unfit end e disk = let bad : ends.NoMemory ≡ ends.DiskFault = sym e ∙ disk in absurd cc
+loop_disk loops.Unfit end e disk = let bad : ends.Internal ≡ ends.DiskFault = sym e ∙ disk in absurd cc
 
 pub loop_host : (l : LoopEnd) (end : ServeEnd) → end ≡ end_of_loop l → end ≡ ends.HostFault → l ≡ loops.Closed
 loop_host loops.Closed end e host = refl
 loop_host loops.DiskFault end e host = let bad : ends.DiskFault ≡ ends.HostFault = sym e ∙ host in absurd cc
 loop_host (loops.Spent count) end e host = let bad : ends.Spent ≡ ends.HostFault = sym e ∙ host in absurd cc
 loop_host loops.NoMemory end e host = let bad : ends.NoMemory ≡ ends.HostFault = sym e ∙ host in absurd cc
-loop_host loops.Unfit end e host = let bad : ends.NoMemory ≡ ends.HostFault = sym e ∙ host in absurd cc
+loop_host loops.Unfit end e host = let bad : ends.Internal ≡ ends.HostFault = sym e ∙ host in absurd cc
 
 -- as many events as the budget says
 pub loop_spent : {D E : Type 0} (tells : Bool) (states : D → Disk Text → Type 0) (faults : D → ℕ) (meaning : EngineKind → Meaning) (kind : E → EngineKind) (told : E → Option Told) (refused : E → ℕ)
@@ -76,7 +76,7 @@ loop_spent tells states faults meaning kind told refused node disk disk_after en
 loop_spent tells states faults meaning kind told refused node disk disk_after engine engine_after before after budget loops.NoMemory end h e spent =
     let bad : ends.NoMemory ≡ ends.Spent = sym e ∙ spent in absurd cc
 loop_spent tells states faults meaning kind told refused node disk disk_after engine engine_after before after budget loops.Unfit end h e spent =
-    let bad : ends.NoMemory ≡ ends.Spent = sym e ∙ spent in absurd cc
+    let bad : ends.Internal ≡ ends.Spent = sym e ∙ spent in absurd cc
 loop_spent tells states faults meaning kind told refused node disk disk_after engine engine_after before after budget (loops.Spent count) end h e spent =
     let taken : after.count ≡ before.count + length h.loops.events = h.loops.ends.0.count in
     let all : length h.loops.events ≡ budget = h.loops.ends.3 in

@@ -106,11 +106,13 @@ no_fault d e (start.Damaged (load.Gap first last)) has leaves files = let bad : 
 no_fault d e (start.Damaged load.DiskFault) has leaves files = leaves
 no_fault d e (start.Damaged load.NoMemory) has leaves files = leaves
 
-by_end : (end : ServeEnd) → end ≢ ends.Files → end ≢ ends.DiskFault → end ≢ ends.HostFault → (end ≡ ends.Spent) ⊎ (end ≡ ends.NoMemory)
+by_end : (end : ServeEnd) → end ≢ ends.Files → end ≢ ends.DiskFault → end ≢ ends.HostFault
+    → (end ≡ ends.Spent) ⊎ (end ≡ ends.NoMemory) ⊎ (end ≡ ends.Internal)
 by_end ends.Files files disk host = absurd (files refl)
 by_end ends.DiskFault files disk host = absurd (disk refl)
 by_end ends.HostFault files disk host = absurd (host refl)
-by_end ends.NoMemory files disk host = inr refl
+by_end ends.NoMemory files disk host = inr (inl refl)
+by_end ends.Internal files disk host = inr (inr refl)
 by_end ends.Spent files disk host = inl refl
 
 answers_well : {D E H : Type 0} (workers : ℕ) (done : H → HostCounts) (states after : Disk Text → Type 0) (runs : Node → LoopEnd → Type 0) (host : H) (old new : Surroundings D E) (end : ServeEnd)
@@ -122,7 +124,7 @@ answers_well workers done states after runs host old new end (Err fault) starts 
 
 pub serves_well : {D E H : Type 0} (words : Serve) (done : H → HostCounts) (states : D → Disk Text → Type 0) (runs : D → Node → LoopEnd → Type 0) (host : H) (old new : Surroundings D E) (end : ServeEnd)
     (disk disk_after host_was host_after : ℕ) → Started words done states runs host old new end → (end ≡ ends.DiskFault → Rose disk disk_after) → (end ≡ ends.HostFault → Rose host_was host_after) →
-    GoesWell (states old.disk) disk disk_after host_was host_after → (end ≡ ends.Spent) ⊎ (end ≡ ends.NoMemory)
+    GoesWell (states old.disk) disk disk_after host_was host_after → (end ≡ ends.Spent) ⊎ (end ≡ ends.NoMemory) ⊎ (end ≡ ends.Internal)
 serves_well words done states runs host old new end disk disk_after host_was host_after s by_disk by_host w =
     by_end end (answers_well (workers_of words) done (states old.disk) (states s.disk) (runs s.disk) host (record old { disk = s.disk }) new end s.answer s.starts s.follows w.first w.was w.seen w.has_node)
     (λ e. w.disk_held (by_disk e)) (λ e. w.host_held (by_host e))

@@ -26,4 +26,4 @@ end_of_loop loops.Closed = ends.HostFault
 end_of_loop loops.DiskFault = ends.DiskFault
 end_of_loop (loops.Spent count) = ends.Spent
 end_of_loop loops.NoMemory = ends.NoMemory
-end_of_loop loops.Unfit = ends.NoMemory
+end_of_loop loops.Unfit = ends.Internal

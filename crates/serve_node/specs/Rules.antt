@@ -45,7 +45,7 @@ EndsFor loops.Closed end = (end ≡ ends.HostFault) ⊎ (end ≡ ends.NoMemory)
 EndsFor loops.DiskFault end = end ≡ ends.DiskFault
 EndsFor (loops.Spent count) end = end ≡ ends.Spent
 EndsFor loops.NoMemory end = end ≡ ends.NoMemory
-EndsFor loops.Unfit end = end ≡ ends.NoMemory
+EndsFor loops.Unfit end = end ≡ ends.Internal
 
 -- The node that the arguments name was started over a disk that may have been this one, with what its files represented. It made a step by the rules
 -- for each event that was taken, in order, and at the end the disk keeps what it has kept, or what the acts of a failed step left. Where

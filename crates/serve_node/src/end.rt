@@ -14,8 +14,10 @@ pub enum ServeEnd {
     DiskFault,
     /// The host failed, and has counted it: it could not listen, or have a worker, or no event came any more.
     HostFault,
-    /// There was not enough memory to continue; or a change of servers must not be proposed, which isn't shown never to come.
+    /// There was not enough memory to continue.
     NoMemory,
+    /// A step failed for a cause that is a bug of the program (`Unfit` of `node_core`), which isn't shown never to come.
+    Internal,
     /// As many events were taken as were asked for.
     Spent,
 }
@@ -51,6 +53,6 @@ pub(crate) fn end_of_loop(end: LoopEnd) -> ServeEnd
         LoopEnd::DiskFault => ServeEnd::DiskFault,
         LoopEnd::Spent(_) => ServeEnd::Spent,
         LoopEnd::NoMemory => ServeEnd::NoMemory,
-        LoopEnd::Unfit => ServeEnd::NoMemory,
+        LoopEnd::Unfit => ServeEnd::Internal,
     }
 }

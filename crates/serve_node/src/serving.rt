@@ -213,9 +213,10 @@ pub fn serve<H: Host<Read>, D: Disk, E: Engine + Send + Drop + 'static, W: Notes
     // As many events were taken as the arguments say.
     ensures spent { result ≡ ends.Spent → H.taken host.new ≡ H.taken host.old + words.now.events }
     ensures count { D.faults disk.old ≤ D.faults disk.new }
-    // Over the files of a node, if neither the disk nor the host failed, all events were taken, or memory ran out.
+    // Over the files of a node, if neither the disk nor the host failed, all events were taken, or memory ran out, or a
+    // step failed because of a bug of the program.
     ensures ends_well { GoesWell (D.states disk.old) (D.faults disk.old) (D.faults disk.new) (H.faults host.old) (H.faults host.new) →
-        (result ≡ ends.Spent) ⊎ (result ≡ ends.NoMemory) }
+        (result ≡ ends.Spent) ⊎ (result ≡ ends.NoMemory) ⊎ (result ≡ ends.Internal) }
 {
     match voters(alloc, words) {
         Ok(servers) => serve_with(alloc, words, servers, host, disk, engine, notes),

@@ -43,6 +43,7 @@ Status:
   11  a server refused the statement
   12  no leader was found
   13  nobody knows whether the statement was run
+  15  internal fault, a bug of the program: please report it
 ";
 
 pub(crate) const SERVE_USAGE: &str = "\
@@ -70,6 +71,7 @@ Status:
    7  out of memory
    8  the files of the folder are not those of a node
   10  the node has taken as many events as it may
+  15  internal fault, a bug of the program: please report it
 ";
 
 pub(crate) const CHECK_USAGE: &str = "\
@@ -163,6 +165,7 @@ Status:
    4  the output failed
    7  out of memory
    9  the script is too large: `error large` is printed
+  15  internal fault, a bug of the program: please report it
 ";
 
 pub(crate) const GENERATE_USAGE: &str = "\

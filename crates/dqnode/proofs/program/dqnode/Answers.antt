@@ -69,6 +69,7 @@ returns-in-Ok-clause-status g c = status_shown _ _ c.in-Ok.ensures.asked _ _ _ (
   of_statement = c.run.ensures.of_statement;
   of_files = c.run.ensures.of_check;
   of_spent = c.run.ensures.of_spent;
+  of_internal = c.run.ensures.of_internal;
   read_fault = c.run.ensures.read_fault;
   write_fault = c.run.ensures.write_fault;
   disk_fault = c.run.ensures.disk_fault;

@@ -9,7 +9,7 @@ use Rattle.dqnode.specs.Generating.{RunEnds}
 use Rattle.dqnode.specs.Serving.{WasServed}
 use Rattle.dqnode.proofs.Asked.{statement_code}
 use Rattle.dqnode.proofs.Generated.{generated_code, made_code, made_by}
-use Rattle.dqnode.proofs.ServeEnds.{statement_not_three, check_not_three, serve_not_three, words_not_three, generated_not_three, made_not_three, read_status, script_not_eight, statement_not_eight, words_not_eight, script_not_ten, statement_not_ten, check_not_ten, words_not_ten, script_not_six, statement_not_six, check_not_six, words_not_six, script_not_five, statement_not_five, words_not_five, host_status, disk_status, moved, served_for}
+use Rattle.dqnode.proofs.ServeEnds.{statement_not_three, check_not_three, serve_not_three, words_not_three, generated_not_three, made_not_three, read_status, script_not_eight, statement_not_eight, words_not_eight, script_not_ten, statement_not_ten, check_not_ten, words_not_ten, script_not_six, statement_not_six, check_not_six, words_not_six, script_not_five, statement_not_five, words_not_five, statement_not_fifteen, check_not_fifteen, generated_not_fifteen, words_not_fifteen, host_status, disk_status, moved, served_for}
 use Rattle.dqnode.proofs.program.run.Goals.{in-Some-Script, in-Some-Statement, in-Some-Check, in-Some-Generate-default-default-false, in-Some-Generate-default-default-true, in-Some-Serve, in-None}
 use Rattle.dqnode.proofs.program.run.Goals as goal
 
@@ -63,6 +63,25 @@ returns-clause-of_spent g c = λ e.
       | in-None w ↦ absurd (words_not_ten _ w.refuse_words-status.ensures.others (ap status_code (sym w.status-is) ∙ at))
     ]
 
+pub returns-clause-of_internal : goal.returns-clause-of_internal
+returns-clause-of_internal g c = λ e.
+    let at : status_code c.match-asked.status ≡ 15 = sym c.code.ensures ∙ e in
+    elim c.match-asked.branch [
+      | in-Some-Script w ↦ inl (w.in-Some-Script.engine, w.in-Some-Script.is ∙ ap Some w.in-Some-Script.field-0-is)
+      | in-Some-Statement w ↦ absurd (statement_not_fifteen _
+          (subst (λ (s : Status). IsStatementCode (status_code s)) (sym w.status-is) (statement_code _ _ _ _ _ _ w.ask-status.ensures.ended)) at)
+      | in-Some-Check w ↦ absurd (check_not_fifteen _ (subst (λ (s : Status). IsCheckCode (status_code s)) (sym w.status-is) w.tell-status.ensures.codes) at)
+      | in-Some-Generate-default-default-false w ↦ absurd (generated_not_fifteen _ w.make_script-status.ensures.ended.known
+          (ap status_code (sym w.status-is) ∙ at))
+      | in-Some-Generate-default-default-true w ↦
+          let test = w.in-Some-Generate-default-default-true.field-0-2-test in
+          let runs = w.in-Some-Generate-default-default-true.field-0-2-is in
+          let asked = w.in-Some-Generate-default-default-true.is ∙ ap Some w.in-Some-Generate-default-default-true.field-0-is in
+          inr (inl (w.in-Some-Generate-default-default-true.number, w.in-Some-Generate-default-default-true.count, cc))
+      | in-Some-Serve w ↦ inr (inr (w.in-Some-Serve.words, w.in-Some-Serve.is ∙ ap Some w.in-Some-Serve.field-0-is))
+      | in-None w ↦ absurd (words_not_fifteen _ w.refuse_words-status.ensures.others (ap status_code (sym w.status-is) ∙ at))
+    ]
+
 pub returns-clause-serves : goal.returns-clause-serves
 returns-clause-serves g c = λ served asked. elim c.match-asked.branch [
   | in-Some-Script w ↦ let bad : Some (asks.Script w.in-Some-Script.engine) ≡ Some (asks.Serve served) = sym (w.in-Some-Script.is ∙ ap Some w.in-Some-Script.field-0-is) ∙ asked in absurd cc
@@ -89,7 +108,7 @@ returns-clause-serves_well g c = λ is. elim c.match-asked.branch [
   | in-Some-Generate-default-default-true w ↦ let bad : Some (asks.Generate _ _ _) ≡ Some (asks.Serve is.0) = sym (w.in-Some-Generate-default-default-true.is ∙ ap Some w.in-Some-Generate-default-default-true.field-0-is) ∙ is.1 in absurd cc
   | in-Some-Serve w ↦ moved _ _ _ _ _ _ _ w.disk-is w.network-is w.status-is c.code.ensures
       (λ disk network code. GoesWell (g.D.Disk.states c.args.disk.now) (g.D.Disk.faults c.args.disk.now) (g.D.Disk.faults disk)
-      (g.H.Inbox.faults c.args.network.now.host) (g.H.Inbox.faults network.host) → (code ≡ 10) ⊎ (code ≡ 7))
+      (g.H.Inbox.faults c.args.network.now.host) (g.H.Inbox.faults network.host) → (code ≡ 10) ⊎ (code ≡ 7) ⊎ (code ≡ 15))
       w.serve_node-status.ensures.ends_well
   | in-None w ↦ let bad : None ≡ Some (asks.Serve is.0) = sym w.in-None.is ∙ is.1 in absurd cc
 ]

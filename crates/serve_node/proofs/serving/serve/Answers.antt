@@ -18,4 +18,4 @@ pub returns-in-Ok-clause-ends_well : goal.returns-in-Ok-clause-ends_well
 returns-in-Ok-clause-ends_well g c = λ well. serves_well _ _ _ _ _ _ _ _ _ _ _ _ c.serve_with.ensures.served c.serve_with.ensures.disk_fault c.serve_with.ensures.host_fault well
 
 pub returns-in-Err-clause-ends_well : goal.returns-in-Err-clause-ends_well
-returns-in-Err-clause-ends_well g c = λ well. inr refl
+returns-in-Err-clause-ends_well g c = λ well. inr (inl refl)

@@ -1,6 +1,7 @@
+use Rattle.std.proofs.lemmas.Result.{err_from_is_err_and}
 use Rattle.script_cluster.specs.Clusters.{held}
 use Rattle.script_cluster.proofs.Placing.{at_rest}
-use Rattle.script_cluster.proofs.Doing.{starts_up}
+use Rattle.script_cluster.proofs.Doing.{place_failed, starts_up}
 use Rattle.script_cluster.proofs.Happening.{starts_asks}
 use Rattle.script_cluster.proofs.cluster.Cluster.start.Goals as goal
 
@@ -15,3 +16,8 @@ returns-clause-does g c =
     c.tell.new.self.places.items c.args.self.now.outside c.tell.new.self.outside c.in_ok-came.came c.tell.result c.args.said.now.items c.tell.new.said.items c.index_of.result c.requires.0
     (at_rest g.P.NodePlace.shows _ c.args.self.now.places.items c.args.node _ _ c.is_up_at.ensures.up c.as_slice.ensures.value c.if-is_up_at.false)
     c.index_of.ensures c.in_ok-came.ensures.comes c.tell.ensures.told (λ i. (c.tell.ensures.places i).items) c.tell.ensures.voters
+
+pub returns-in_err-came-clause-does : goal.returns-in_err-came-clause-does
+returns-in_err-came-clause-does g c =
+    let p = err_from_is_err_and c.from_residual.result c.from_residual.ensures.1 in
+    rw (p.1, p.2) (place_failed g.P.NodePlace.knows (Unit {0}) _ c.in_err-came.field-0.0 _ _ _ _)
