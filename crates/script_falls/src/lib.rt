@@ -4,6 +4,8 @@
 
 ghost use Rattle.script_falls.specs.Falls.{UnfallenAreFair, UnfallenScriptsAreSafe};
 
+pub mod refusals;
+
 use script_whole_nodes::whole_scripts_are_safe;
 
 /// A script is safe up to the first turn in which a call of a disk stopped or failed, or a start found files that do not
