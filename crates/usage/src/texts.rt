@@ -189,4 +189,5 @@ Status:
    4  the output failed
    7  out of memory
    9  the script is too large, with --run
+  15  internal fault, a bug of the program, with --run: please report it
 ";
