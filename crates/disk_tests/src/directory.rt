@@ -110,7 +110,7 @@ fn a_folder_is_one_disk_at_a_time(rt: HostRuntime) -> Result<(), Fail> {
 
 const LINKED: &str = "dir_disk_linked";
 
-/// A symbolic link is listed, and no call reads, writes, truncates or syncs the file that it leads to.
+/// A symlink is listed, and no call reads, writes, truncates or syncs the file that it leads to.
 #[test]
 fn a_link_is_not_a_file(rt: HostRuntime) -> Result<(), Fail> {
     let _ = fs::remove_dir_all(&rt, LINKED);

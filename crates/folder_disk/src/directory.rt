@@ -37,7 +37,7 @@ pub struct CallFault {
 /// It says nothing of what is on it: that real files follow what the trait says is trusted, and with it that an `Ok` of
 /// a sync after one that failed makes all sure, which some systems break. A name that has a `/`, or is `.` or `..`, is
 /// none of the folder: each call with it answers `Failed` and does nothing. So does each read, write, truncation and sync of a
-/// name at which a symbolic link is, or another thing that isn't a file. A new file is read and written by its owner alone.
+/// name at which a symlink is, or another thing that isn't a file. A new file is read and written by its owner alone.
 ///
 /// The first call opens the folder and locks it, by a lock on the folder itself that ends with the disk: no file is made
 /// for it. While another disk has the folder that call answers `Failed` and does nothing, and so does each call until the
@@ -78,7 +78,7 @@ fn check_flat(name: &str) -> io::Result<()> {
     Ok(())
 }
 
-/// Refuses a path at which something is that isn't a file, as a symbolic link.
+/// Refuses a path at which something is that isn't a file, as a symlink.
 fn check_file<R: Files + AllocGlobal>(rt: &R, path: &str) -> io::Result<()> {
     let found = match fs::symlink_metadata(rt, path) {
         Ok(found) => found,
@@ -384,8 +384,8 @@ impl<R: Files<File = File> + AllocGlobal + Clone + Drop> Disk for DirDisk<R> {
 
     ghost made = { λ disk. disk.made };
 
-    /// The files and symbolic links of the folder whose names are names of a `Name`; folders and names that aren't UTF-8 aren't listed.
-    /// A link is listed so that a read of it fails, and the file isn't taken for one that isn't there.
+    /// The files and symlinks of the folder whose names are names of a `Name`; folders and names that aren't UTF-8 aren't listed.
+    /// A symlink is listed so that a read of it fails, and the file isn't taken for one that isn't there.
     #[tactic(auto, using(crate::proofs::Telling::looks_untold))]
     fn list(&mut self) -> Result<Items<Name>, DiskFault> {
         self.count();
