@@ -3,7 +3,8 @@
 ghost use Rattle.std.specs.Prelude.{◌≡◌, ◌≤◌, [], true, None, length};
 ghost use Rattle.serve_places.specs.Pieces.{FillsWith, HandsFrontIfAny, TakesPiece};
 
-use crate::inflow::{FRONT_SIZE, Inflow};
+use crate::gate::{Gate, Speaker, has_front};
+use crate::inflow::Inflow;
 use crate::limits::{
     MAX_CLIENT_SILENCE_MS, MAX_FRONT_MS, MAX_FRONT_READ_BYTES, MAX_PEER_SILENCE_MS, MAX_STUCK_MS,
 };
@@ -25,7 +26,7 @@ pub(crate) struct Place<S: ReadyStream> {
     is_readable: bool,
     is_ended: bool,
     is_closing: bool,
-    is_peer: bool,
+    speaker: Speaker,
     heard_at: u64,
     moved_at: u64,
 }
@@ -41,7 +42,7 @@ impl<S: ReadyStream> Place<S> {
             is_readable: false,
             is_ended: false,
             is_closing: false,
-            is_peer: false,
+            speaker: Speaker::Unknown,
             heard_at: 0,
             moved_at: 0,
         }
@@ -53,7 +54,7 @@ impl<S: ReadyStream> Place<S> {
         self.is_readable = false;
         self.is_ended = false;
         self.is_closing = false;
-        self.is_peer = false;
+        self.speaker = Speaker::Unknown;
         self.heard_at = now;
         self.moved_at = now;
     }
@@ -86,11 +87,11 @@ impl<S: ReadyStream> Place<S> {
         self.outflow.held()
     }
 
-    /// Whether it has said its first bytes, and so waits to be a connection.
+    /// Whether it has said who speaks, and so waits to be a connection.
     pub(crate) fn has_front(&self) -> bool
         ensures { result ≡ true → 16 ≤ length self.now.inflow.bytes }
     {
-        self.inflow.len() >= FRONT_SIZE
+        has_front(self.inflow.rest())
     }
 
     /// Whether something may come of a turn of it, as a connection or as none.
@@ -121,7 +122,7 @@ impl<S: ReadyStream> Place<S> {
         if !self.outflow.is_empty() {
             return now.saturating_sub(self.moved_at) > MAX_STUCK_MS;
         }
-        let most = if self.is_peer {
+        let most = if matches!(self.speaker, Speaker::Peer(_)) {
             MAX_PEER_SILENCE_MS
         } else {
             MAX_CLIENT_SILENCE_MS
@@ -164,12 +165,28 @@ impl<S: ReadyStream> Place<S> {
         self.fill(alloc, &mut buffer);
     }
 
-    /// It is a connection from now on.
-    pub(crate) fn meet(&mut self, now: u64)
+    /// Who speaks, as far as its first bytes say.
+    pub(crate) fn speaker_by(&self, gate: &Gate) -> Speaker {
+        gate.speaker(self.inflow.rest())
+    }
+
+    /// It is a connection of this speaker from now on.
+    pub(crate) fn meet(&mut self, speaker: Speaker, now: u64)
         requires { 16 ≤ length self.old.inflow.bytes }
     {
-        self.is_peer = self.inflow.begin();
+        self.inflow.begin();
+        self.speaker = speaker;
         self.heard_at = now;
+    }
+
+    /// Whether it is a connection of this speaker that is not closed.
+    pub(crate) fn is_of(&self, speaker: Speaker) -> bool {
+        self.stream.is_some() && self.speaker == speaker
+    }
+
+    /// Whether the next message is a CONNECT of one who spoke as a client before. A CONNECT comes first or not at all.
+    fn is_late_greeting(&self) -> bool {
+        self.speaker == Speaker::Client && self.inflow.is_connect_next()
     }
 
     /// The next bytes of its messages, of one message at most. It reads if it has no bytes yet. None if no bytes came, or the stream
@@ -199,11 +216,15 @@ impl<S: ReadyStream> Place<S> {
         }
     }
 
-    /// Takes the next piece of what is held. The stream is ended if memory runs out.
+    /// Takes the next piece of what is held. The stream is ended if memory runs out, or if a client says CONNECT.
     fn take_piece(&mut self, alloc: Global) -> Option<Bytes>
         ensures { TakesPiece self.old.stream self.new.stream self.old.inflow self.new.inflow result }
     {
         if !self.inflow.has_piece() {
+            return None;
+        }
+        if self.is_late_greeting() {
+            self.end(alloc);
             return None;
         }
         match self.inflow.take_piece(alloc) {

@@ -1,0 +1,15 @@
+-- HMAC-SHA-256 as a function on lists of bytes.
+use Rattle.std.specs.Prelude.{ℕ, List, ◌++◌, ◌-◌, length, map, replicate, bit_xor, cond, ltb}
+use Rattle.sha2.specs.Sha256.{sha256}
+
+-- a key as one block of 64 bytes: zeros follow it; a longer one is its digest
+abbrev pub key_block : List ℕ → List ℕ
+key_block key = cond (ltb 64 (length key)) (sha256 key ++ replicate 32 0) (key ++ replicate (64 - length key) 0)
+
+-- a block with a byte mixed into each of its bytes
+abbrev pub padded : ℕ → List ℕ → List ℕ
+padded pad block = map (λ byte. bit_xor byte pad) block
+
+-- the digest of the outer block and of the digest of the inner block and the message
+abbrev pub hmac : List ℕ → List ℕ → List ℕ
+hmac key message = sha256 (padded 92 (key_block key) ++ sha256 (padded 54 (key_block key) ++ message))
