@@ -1,38 +1,48 @@
 //! HMAC (RFC 2104) over SHA-256.
 
-ghost use Rattle.std.specs.Prelude.{◌≡◌, ◌++◌, length};
+ghost use Rattle.std.specs.Prelude.{◌≡◌, ◌++◌, map, bit_xor, IfOk};
 ghost use Rattle.sha2.specs.Sha256.{sha256};
-ghost use Rattle.peer_secret.specs.Hmac.{hmac, key_block, padded};
+ghost use Rattle.peer_secret.specs.Hmac.{hmac, key_block, padded, short_key};
 
 use sha2::{Digest, Sha256};
+use std::alloc::{AllocError, Global};
 
 /// How many bytes a block of SHA-256 has.
 const BLOCK_SIZE: usize = 64;
 
-/// What is mixed into each byte of the key for the inner and for the outer digest.
+/// What is mixed into each byte of the key for the inner digest, and for the outer one.
 const INNER_PAD: u8 = 0x36;
 
 const OUTER_PAD: u8 = 0x5c;
 
-/// A key as one block: zeros follow it; a longer one than a block is its digest.
-fn key_block(key: &[u8]) -> [u8; 64]
-    ensures { result ≡ key_block key.now }
+/// A key, or its digest if it is longer than a block.
+fn short_key(alloc: Global, key: &[u8]) -> Result<Vec<u8>, AllocError>
+    ensures { IfOk result (λ short. short.items ≡ short_key key.now) }
 {
-    let mut block = [0u8; BLOCK_SIZE];
     if key.len() > BLOCK_SIZE {
-        let digest = Sha256::digest(key);
-        block[..32].copy_from_slice(&digest);
-    } else {
-        block[..key.len()].copy_from_slice(key);
+        return Vec::from_slice(alloc, &Sha256::digest(key));
     }
-    block
+    Vec::from_slice(alloc, key)
+}
+
+/// A key as one block, with zeros after it.
+fn key_block(alloc: Global, key: &[u8]) -> Result<Vec<u8>, AllocError>
+    ensures { IfOk result (λ block. block.items ≡ key_block key.now) }
+{
+    let mut block = short_key(alloc, key)?;
+    block.resize(BLOCK_SIZE, 0)?;
+    Ok(block)
 }
 
 /// A block with a byte mixed into each of its bytes.
-fn padded(block: [u8; 64], pad: u8) -> [u8; 64]
-    ensures { result ≡ padded pad block }
+fn padded(alloc: Global, block: &[u8], pad: u8) -> Result<Vec<u8>, AllocError>
+    ensures { IfOk result (λ padded. padded.items ≡ map (λ byte. bit_xor byte pad) block.now) }
 {
-    block.map(|byte| byte ^ pad)
+    let mut padded = Vec::with_capacity(alloc, block.len())?;
+    for byte in block {
+        padded.push(*byte ^ pad)?;
+    }
+    Ok(padded)
 }
 
 /// The digest of two pieces taken as one message.
@@ -46,10 +56,12 @@ fn digest_of_both(first: &[u8], second: &[u8]) -> [u8; 32]
 }
 
 /// The HMAC-SHA-256 of a message.
-pub fn hmac_sha256(key: &[u8], message: &[u8]) -> [u8; 32]
-    ensures { result ≡ hmac key.now message.now }
+pub fn hmac_sha256(alloc: Global, key: &[u8], message: &[u8]) -> Result<[u8; 32], AllocError>
+    ensures { IfOk result (λ code. code ≡ hmac key.now message.now) }
 {
-    let block = key_block(key);
-    let inner = digest_of_both(&padded(block, INNER_PAD), message);
-    digest_of_both(&padded(block, OUTER_PAD), &inner)
+    let block = key_block(alloc, key)?;
+    let inner = padded(alloc, block.as_slice(), INNER_PAD)?;
+    let outer = padded(alloc, block.as_slice(), OUTER_PAD)?;
+    let digest = digest_of_both(inner.as_slice(), message);
+    Ok(digest_of_both(outer.as_slice(), &digest))
 }

@@ -3,9 +3,11 @@
 #![tactic(auto)]
 
 mod hmac;
+mod laws;
 mod passes;
 mod same;
 
 pub use hmac::hmac_sha256;
+pub use laws::the_same_text;
 pub use passes::pass_text;
 pub use same::is_same;

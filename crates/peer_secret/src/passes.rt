@@ -40,7 +40,8 @@ pub fn pass_text(
     ensures { IfOk result (λ text. text ≡ pass_bytes secret.now cluster.now address.now sender receiver) }
 {
     let bytes = coded_bytes(alloc, cluster, address, sender, receiver)?;
-    let code = hex::encode(alloc, hmac_sha256(secret, bytes.as_slice()))?;
+    let code = hmac_sha256(alloc, secret, bytes.as_slice())?;
+    let code = hex::encode(alloc, code)?;
     let text = format!(in alloc; "{address} {sender} {receiver} {code}")?;
     Ok(WireText::new(text))
 }

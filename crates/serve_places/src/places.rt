@@ -153,7 +153,7 @@ impl<S: ReadyStream> Places<S> {
         Some(Event::Bytes(number, piece))
     }
 
-    /// Who speaks on a socket that may be a connection. If it may not, it is closed. A peer's older connection is closed.
+    /// Who speaks on a socket. If it is refused as a connection, it is closed. A peer's older connection is closed.
     fn welcome(&mut self, at: usize) -> Option<Speaker>
         ensures numbers { self.new.numbers ≡ self.old.numbers }
     {

@@ -169,7 +169,7 @@ const ROWS: &[(&[Deed], &[u8])] = &[
     ),
 ];
 
-/// The same, of replies that take all room of one connection, and of the node. They are apart, since making a reply costs time by the byte.
+/// Other rows, whose replies take all room of one connection, and of the node. They are apart, since making a reply costs time by the byte.
 const FULL_ROWS: &[(&[Deed], &[u8])] = &[
     (
         &[
