@@ -1,5 +1,5 @@
 -- The values of words.
-use Rattle.std.specs.Prelude.{◌^◌, ℕ, Bool, not, ◌&&◌, cond, length, nat_le, codes, Option, Some, None}
+use Rattle.std.specs.Prelude.{◌^◌, ℕ, Bool, false, not, ◌&&◌, cond, length, nat_le, codes, Option, Some, None}
 use Rattle.std.specs.Str.{bytes_eq}
 use Rattle.clap.specs.Walk.{Text}
 use Rattle.dq_base.specs.Names.{has_nul}
@@ -11,6 +11,11 @@ use Rattle.sql_engine.specs.declared.kind.EngineKind.TheVariants.{Sqlite, Cells}
 abbrev pub engine_named : Option Text → Option EngineKind
 engine_named None = Some Sqlite
 engine_named (Some name) = cond (bytes_eq name (codes "sqlite")) (Some Sqlite) (cond (bytes_eq name (codes "cells")) (Some Cells) None)
+
+-- an option without a value is there
+abbrev pub is_set : Option Text → Bool
+is_set None = false
+is_set (Some word) = bytes_eq word (codes "true")
 
 -- an address is a text of 1 to 255 bytes
 abbrev pub is_address : Text → Bool
