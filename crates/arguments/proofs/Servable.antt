@@ -12,7 +12,7 @@ use Rattle.std.specs.declared.alloc.AllocError.{AllocError}
 use Rattle.arguments.specs.declared.invocation.Peer.{Peer}
 use Rattle.arguments.specs.declared.invocation.Serve.{Serve}
 use Rattle.arguments.specs.declared.serving.ServeOptions.{ServeOptions}
-use Rattle.arguments.specs.Values.{engine_named, is_set, is_address, is_within, within, number_in}
+use Rattle.arguments.specs.Values.{engine_named, is_set, is_at_host, is_at_brackets, is_address, is_within, within, number_in}
 use Rattle.arguments.specs.Serving.{is_mark, peer_with, peer_of, has_id, is_new, new_peer, peers_behind, with_peer, peers_of, events_of, words_of, options_with, options_in, serve_with_peers, serve_with, serve_found, IsNodeId, IsAddress, IsPeer, AreDistinct, IsServable}
 
 -- ---- numbers and addresses
@@ -31,9 +31,9 @@ number_fits low high (Some word) = within_fits low high (number_below (2 ^ 32) w
 
 address_fits : (text : Text) → is_address text ≡ true → IsAddress text
 address_fits text e =
-    let rest = (and_parts (nat_le 1 (length text)) (nat_le (length text) 255 && not (has_nul text)) e).1 in
-    let parts = and_parts (nat_le (length text) 255) (not (has_nul text)) rest in
-    record { short = leb-true (length text) 255 parts.0; plain = not-true (has_nul text) parts.1 }
+    let parts = and_parts (nat_le (length text) 255) (not (has_nul text) && (is_at_host text || is_at_brackets text)) e in
+    let more = and_parts (not (has_nul text)) (is_at_host text || is_at_brackets text) parts.1 in
+    record { short = leb-true (length text) 255 parts.0; plain = not-true (has_nul text) more.0 }
 
 peer_fits : (o : Option ℕ) (address : Text) → IfSome o (λ n. (1 ≤ n) × (n ≤ 9)) → IfSome (peer_with o address) IsPeer
 peer_fits None address h = tt

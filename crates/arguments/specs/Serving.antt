@@ -66,7 +66,8 @@ options_with engine events new = None
 
 -- what the options say
 abbrev pub options_in : List Row → Option ServeOptions
-options_in rows = options_with (engine_named (first_of (codes "engine") rows)) (events_of (first_of (codes "events") rows)) (is_set (first_of (codes "new") rows))
+options_in rows =
+    options_with (engine_named (first_of (codes "engine") rows)) (events_of (first_of (codes "events") rows)) (is_set (first_of (codes "new") rows))
 
 abbrev pub serve_with_peers : ℕ → Text → ServeOptions → Option (List Peer) → Option Serve
 serve_with_peers id listen options None = None
@@ -78,7 +79,8 @@ serve_with (Some id) (Some listen) words (Some options) = cond (is_address liste
 serve_with id listen words options = None
 
 abbrev pub serve_in : List Row → Option Serve
-serve_in rows = serve_with (number_in 1 9 (first_of (codes "ID") rows)) (first_of (codes "LISTEN") rows) (words_of (all_of (codes "PEER") rows)) (options_in rows)
+serve_in rows =
+    serve_with (number_in 1 9 (first_of (codes "ID") rows)) (first_of (codes "LISTEN") rows) (words_of (all_of (codes "PEER") rows)) (options_in rows)
 
 -- the file of the cluster's secret, if a command found it
 abbrev pub secret_found : Option (List Row) → Option Text

@@ -241,7 +241,7 @@ fn read_by(alloc: Global, line: Line, words: &[String]) -> Result<Option<Invocat
 ///
 /// The first word is `script`, `exec`, `query`, `check`, `gen` or `serve`. After `script` an engine may be named once, as `--engine E` or
 /// `--engine=E`, where E is `sqlite`, which is taken if none is named, or `cells`. After `exec` and `query` come the name of a
-/// database, a text of SQL and 1 to 9 addresses of 1 to 255 bytes. After `check` comes nothing. After `gen`
+/// database, a text of SQL and 1 to 9 addresses, each a host and a port. After `check` comes nothing. After `gen`
 /// stand a number of 0 to 2,147,483,647 and one of 1 to 2,000, in decimal without sign or leading zeros, and `--run` where the script is
 /// to be run. What follows `serve` is told at `read_serve`. No text may hold a NUL. The word `--` ends the options, and before it a
 /// longer word that begins with `-` is an option; there is no help.

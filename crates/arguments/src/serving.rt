@@ -181,7 +181,7 @@ fn serve_in(alloc: Global, matches: &ArgMatches<'_>) -> Result<Option<Serve>, Al
 
 /// Reads the arguments after `serve`: the node that they name, or nothing if they name none.
 ///
-/// The id is a number of 1 to 9. An address has 1 to 255 bytes and no NUL; a peer is named as `N=ADDRESS`, with an N of 1 to 9. No two of
+/// The id is a number of 1 to 9. An address is a host and a port; a peer is named as `N=ADDRESS`, with an N of 1 to 9. No two of
 /// the node and its peers have one number, and there are at most six peers. `--engine E` is as after `script`, and `--events K` with
 /// a number of 1 to 4,294,967,295, the greatest where it isn't there. `--new` makes a new node. `--secret FILE` names a file of the cluster's secret,
 /// at which `read_secret` looks.
