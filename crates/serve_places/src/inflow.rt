@@ -152,6 +152,19 @@ impl Inflow {
         self.left = 16 + 8 * words;
     }
 
+    /// Whether bytes of the message whose front was taken are to come.
+    pub(crate) fn is_under_way(&self) -> bool {
+        self.left > 0
+    }
+
+    /// How many bytes the next message has, if its header is next.
+    pub(crate) fn next_message(&self) -> Option<u64> {
+        if self.left > 0 || !self.has_piece() {
+            return None;
+        }
+        Some(self.next_size())
+    }
+
     /// Whether the next message is a CONNECT, as far as its header is there.
     pub(crate) fn is_connect_next(&self) -> bool {
         let rest = self.rest();

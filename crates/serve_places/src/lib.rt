@@ -15,7 +15,10 @@ mod rooms;
 mod stream;
 
 pub use laws::each_number_lives_once;
-pub use limits::{MAX_CLIENTS, MAX_COMMON_BYTES, MAX_CONNECTIONS, MAX_PLACE_BYTES, MAX_SOCKETS};
+pub use limits::{
+    MAX_CLIENTS, MAX_COMMON_BYTES, MAX_CONNECTIONS, MAX_PLACE_BYTES, MAX_SOCKETS,
+    MAX_UNDER_WAY_BYTES,
+};
 pub use outflow::CutCause;
 pub use places::{Places, Readiness};
 pub use refused::Refused;

@@ -30,6 +30,13 @@ pub(crate) const REPLY_OVERHEAD: u64 = 256;
 /// How many bytes the version and a CONNECT have at most. A node's own have 352 at most: an address of 255, two ids, and 64 digits.
 pub(crate) const MAX_GREETING_BYTES: u64 = 512;
 
+/// How many bytes a peer's message has at least to count as a large one: 1 MiB.
+pub(crate) const LARGE_BYTES: u64 = 1_048_576;
+
+/// How many bytes the large messages of all peers have together that are under way: 288 MiB, which is the greatest message that a peer may
+/// send, of 256 MiB, and some others.
+pub const MAX_UNDER_WAY_BYTES: u64 = 301_989_888;
+
 /// How long a socket has to say who speaks, in milliseconds: its first 16 bytes, and of a peer the whole CONNECT.
 pub(crate) const MAX_FRONT_MS: u64 = 5_000;
 

@@ -6,7 +6,8 @@ ghost use Rattle.serve_places.specs.Pieces.{FillsWith, HandsFrontIfAny, TakesPie
 use crate::gate::{Gate, Speaker, has_front};
 use crate::inflow::Inflow;
 use crate::limits::{
-    MAX_CLIENT_SILENCE_MS, MAX_FRONT_MS, MAX_FRONT_READ_BYTES, MAX_PEER_SILENCE_MS, MAX_STUCK_MS,
+    LARGE_BYTES, MAX_CLIENT_SILENCE_MS, MAX_FRONT_MS, MAX_FRONT_READ_BYTES, MAX_PEER_SILENCE_MS,
+    MAX_STUCK_MS,
 };
 use crate::outflow::{CutCause, Flushed, Outflow};
 use crate::stream::{ReadOutcome, ReadyStream};
@@ -27,6 +28,7 @@ pub(crate) struct Place<S: ReadyStream> {
     is_ended: bool,
     is_closing: bool,
     speaker: Speaker,
+    message: u64,
     heard_at: u64,
     moved_at: u64,
 }
@@ -43,6 +45,7 @@ impl<S: ReadyStream> Place<S> {
             is_ended: false,
             is_closing: false,
             speaker: Speaker::Unknown,
+            message: 0,
             heard_at: 0,
             moved_at: 0,
         }
@@ -55,6 +58,7 @@ impl<S: ReadyStream> Place<S> {
         self.is_ended = false;
         self.is_closing = false;
         self.speaker = Speaker::Unknown;
+        self.message = 0;
         self.heard_at = now;
         self.moved_at = now;
     }
@@ -122,7 +126,7 @@ impl<S: ReadyStream> Place<S> {
         if !self.outflow.is_empty() {
             return now.saturating_sub(self.moved_at) > MAX_STUCK_MS;
         }
-        let most = if matches!(self.speaker, Speaker::Peer(_)) {
+        let most = if self.is_peer() {
             MAX_PEER_SILENCE_MS
         } else {
             MAX_CLIENT_SILENCE_MS
@@ -184,20 +188,55 @@ impl<S: ReadyStream> Place<S> {
         self.stream.is_some() && self.speaker == speaker
     }
 
+    /// Whether a peer speaks.
+    pub(crate) fn is_peer(&self) -> bool {
+        matches!(self.speaker, Speaker::Peer(_))
+    }
+
+    /// How many bytes the message has that is under way, if it is a large one of a peer.
+    pub(crate) fn large_bytes(&self) -> u64 {
+        if self.stream.is_some() && self.is_peer() && self.inflow.is_under_way() {
+            return self.message;
+        }
+        0
+    }
+
     /// Whether the next message is a CONNECT of one who spoke as a client before. A CONNECT comes first or not at all.
     fn is_late_greeting(&self) -> bool {
         self.speaker == Speaker::Client && self.inflow.is_connect_next()
     }
 
-    /// The next bytes of its messages, of one message at most. It reads if it has no bytes yet. None if no bytes came, or the stream
-    /// has ended.
+    /// Whether the next message is a peer's, and a large one of more bytes than these.
+    fn is_too_large(&self, room: u64) -> bool {
+        let size = self.inflow.next_message().unwrap_or(0);
+        self.is_peer() && size >= LARGE_BYTES && size > room
+    }
+
+    /// The front of the next message is taken: notes how large it is, if it is a large one.
+    fn note_message(&mut self)
+        ensures stream { self.new.stream ≡ self.old.stream }
+        ensures inflow { self.new.inflow ≡ self.old.inflow }
+    {
+        if let Some(size) = self.inflow.next_message() {
+            self.message = if size >= LARGE_BYTES { size } else { 0 };
+        }
+    }
+
+    /// The next bytes of its messages, of one message at most, and of a peer's large message only if it fits in the room. It reads if it has
+    /// no bytes yet. None if no bytes came, or the stream has ended.
     #[tactic(auto, using(crate::proofs::Reading::hands))]
-    pub(crate) fn next_piece(&mut self, alloc: Global, buffer: &mut [u8], now: u64) -> Option<Bytes>
+    pub(crate) fn next_piece(
+        &mut self,
+        alloc: Global,
+        buffer: &mut [u8],
+        room: u64,
+        now: u64,
+    ) -> Option<Bytes>
         ensures front { HandsFrontIfAny S.left self.old.stream self.new.stream self.old.inflow.bytes self.new.inflow.bytes result }
         ensures buffer { length buffer.new ≡ length buffer.old }
     {
         self.refill(alloc, buffer, now);
-        self.take_piece(alloc)
+        self.take_piece(alloc, room)
     }
 
     /// Reads what is there if no bytes of a message can be handed on.
@@ -216,17 +255,19 @@ impl<S: ReadyStream> Place<S> {
         }
     }
 
-    /// Takes the next piece of what is held. The stream is ended if memory runs out, or if a client says CONNECT.
-    fn take_piece(&mut self, alloc: Global) -> Option<Bytes>
+    /// Takes the next piece of what is held. The stream is ended if memory runs out, if a client says CONNECT, and if there is no room for a
+    /// peer's message.
+    fn take_piece(&mut self, alloc: Global, room: u64) -> Option<Bytes>
         ensures { TakesPiece self.old.stream self.new.stream self.old.inflow self.new.inflow result }
     {
         if !self.inflow.has_piece() {
             return None;
         }
-        if self.is_late_greeting() {
+        if self.is_late_greeting() || self.is_too_large(room) {
             self.end(alloc);
             return None;
         }
+        self.note_message();
         match self.inflow.take_piece(alloc) {
             Ok(piece) => Some(piece),
             Err(_) => {

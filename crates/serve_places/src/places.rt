@@ -4,7 +4,7 @@ ghost use Rattle.std.specs.Prelude.{◌≡◌, ◌≢◌, get_or, IfOk};
 ghost use Rattle.serve_places.specs.Numbers.{AreFresh, ChangesNumbersIfAny};
 
 use crate::gate::{Gate, Speaker};
-use crate::limits::{MAX_CLIENTS, MAX_READ_BYTES, MAX_SOCKETS};
+use crate::limits::{MAX_CLIENTS, MAX_READ_BYTES, MAX_SOCKETS, MAX_UNDER_WAY_BYTES};
 use crate::numbering::Numbering;
 use crate::outflow::CutCause;
 use crate::place::Place;
@@ -131,6 +131,7 @@ impl<S: ReadyStream> Places<S> {
         ensures numbers { ChangesNumbersIfAny self.old.numbers self.new.numbers result }
     {
         let number = self.numbers.at(at);
+        let room = self.message_room(at);
         let (alloc, now) = (self.alloc, self.now);
         let place = self.places.get_mut(at)?;
         self.last = at;
@@ -149,8 +150,27 @@ impl<S: ReadyStream> Places<S> {
         if !place.may_hand_on() {
             return None;
         }
-        let piece = place.next_piece(alloc, &mut self.buffer, now)?;
+        let piece = place.next_piece(alloc, &mut self.buffer, room, now)?;
         Some(Event::Bytes(number, piece))
+    }
+
+    /// How many bytes a large message of the peer at a socket may have, beside those of other peers that are under way.
+    fn message_room(&self, at: usize) -> u64 {
+        match self.places.get(at) {
+            Some(place) if place.is_peer() => {
+                MAX_UNDER_WAY_BYTES.saturating_sub(self.large_bytes())
+            }
+            _ => MAX_UNDER_WAY_BYTES,
+        }
+    }
+
+    /// How many bytes the large messages of peers have that are under way.
+    fn large_bytes(&self) -> u64 {
+        let mut sum = 0u64;
+        for place in &self.places {
+            sum = sum.saturating_add(place.large_bytes());
+        }
+        sum
     }
 
     /// Who speaks on a socket. If it is refused as a connection, it is closed. A peer's older connection is closed.

@@ -15,8 +15,8 @@ const SAID: &[u8; 48] =
 /// 1 MiB.
 const MEBIBYTE: usize = 1_048_576;
 
-/// The version, and a CONNECT of node 2; one of node 3; another one of node 2; one of node 10; one whose message has 63 words; and a message of
-/// one word with a CONNECT after it.
+/// The version, and a CONNECT of node 2; one of node 3; another one of node 2; one of node 10; one whose message has 63 words; CONNECTs of nodes
+/// 2 and 3 with the header of a message of 200 MiB; and a message of one word with a CONNECT after it.
 const SECOND: &[u8] = b"\x01\0\0\0\0\0\0\0\x02\0\0\0\x0b\0\0\0\x02\0\0\0\0\0\0\0here:2\0\0";
 
 const THIRD: &[u8] = b"\x01\0\0\0\0\0\0\0\x02\0\0\0\x0b\0\0\0\x03\0\0\0\0\0\0\0here:3\0\0";
@@ -26,6 +26,12 @@ const WRONG: &[u8] = b"\x01\0\0\0\0\0\0\0\x02\0\0\0\x0b\0\0\0\x02\0\0\0\0\0\0\0h
 const TENTH: &[u8] = b"\x01\0\0\0\0\0\0\0\x02\0\0\0\x0b\0\0\0\x0a\0\0\0\0\0\0\0here:2\0\0";
 
 const LONG: &[u8] = b"\x01\0\0\0\0\0\0\0\x3f\0\0\0\x0b\0\0\0\x02\0\0\0\0\0\0\0";
+
+const SECOND_LARGE: &[u8] =
+    b"\x01\0\0\0\0\0\0\0\x02\0\0\0\x0b\0\0\0\x02\0\0\0\0\0\0\0here:2\0\0\0\0\x90\x01\x05\x01\0\0";
+
+const THIRD_LARGE: &[u8] =
+    b"\x01\0\0\0\0\0\0\0\x02\0\0\0\x0b\0\0\0\x03\0\0\0\0\0\0\0here:3\0\0\0\0\x90\x01\x05\x01\0\0";
 
 const LATE: &[u8] =
     b"\x01\0\0\0\0\0\0\0\x01\0\0\0\x03\0\0\0one word\x02\0\0\0\x0b\0\0\0\x02\0\0\0\0\0\0\0here:2\0\0";
@@ -145,6 +151,18 @@ const ROWS: &[(&[Deed], &[u8])] = &[
     (&[Say(0, TENTH, 32), Read(0)], b" cy "),
     (&[Say(0, LONG, 24), Read(0)], b"  "),
     (&[Say(0, LATE, 48), Read(0)], b" cyh "),
+    (
+        &[
+            Say(0, SECOND_LARGE, 40),
+            Read(0),
+            Say(1, THIRD_LARGE, 40),
+            Read(1),
+            Cut(1),
+            Say(2, THIRD_LARGE, 40),
+            Read(2),
+        ],
+        b" cyy  cyh h  cyy ",
+    ),
     (
         &[
             Guard,
