@@ -101,7 +101,8 @@ fn served_options<'a>(alloc: Global) -> Result<Command<'a>, AllocError>
     plain(alloc, "serve")
         .arg(option(alloc, "engine"))?
         .arg(option(alloc, "events"))?
-        .arg(flag(alloc, "new"))
+        .arg(flag(alloc, "new"))?
+        .arg(option(alloc, "secret"))
 }
 
 /// The command of the arguments after `serve`.

@@ -1,6 +1,7 @@
 //! Lines on the error stream.
 
 use crate::founding::FolderRefusal;
+use crate::secret::SecretFault;
 use folder_disk::DirDisk;
 use serve_node::{Note, Notes};
 use serve_sockets::{HostFault, TcpHost};
@@ -51,6 +52,18 @@ pub fn tell_refusal(rt: &HostRuntime, refusal: &FolderRefusal) {
             held.as_str().trim_end()
         ),
     };
+}
+
+/// Says why a file is not taken as the cluster's secret.
+pub fn tell_secret(rt: &HostRuntime, file: &str, fault: &SecretFault) {
+    let _ = eprintln!(rt; "status 1: --secret {file}: {fault}");
+}
+
+/// Says that a node at this address has no secret.
+pub fn tell_no_secret(rt: &HostRuntime, address: &str) {
+    let _ = eprintln!(rt;
+        "no --secret, and {address} is not loopback: who reaches it can speak as a peer"
+    );
 }
 
 /// Says that the process is the superuser's.

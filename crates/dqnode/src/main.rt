@@ -13,16 +13,18 @@ mod process;
 mod program;
 mod script_bytes;
 mod scripts;
+mod secret;
 mod serving;
 mod statements;
 mod status;
 mod words;
 
-use arguments::{Invocation, Serve, read_words};
+use arguments::{Invocation, Serve, read_secret, read_words};
 use disk_model::DiskFault;
 use dq_base::{ReadSource, WriteSink};
 use error_stream::{
-    ErrorStream, tell_bug, tell_disk, tell_host, tell_memory, tell_refusal, tell_root,
+    ErrorStream, tell_bug, tell_disk, tell_host, tell_memory, tell_no_secret, tell_refusal,
+    tell_root, tell_secret,
 };
 use folder_disk::DirDisk;
 use founding::{claim, refusal_of};
@@ -31,6 +33,7 @@ use pages::{print_request, report_refusal, request_of};
 use process::{is_root, open_streams};
 pub use program::dqnode;
 use script_cluster::ClusterJournal;
+use secret::{guard, is_loopback, secret_in};
 use serve_sockets::{TcpDialer, TcpHost};
 use session_gateway::Read;
 pub use status::Status;
@@ -104,6 +107,33 @@ fn served_in<R: Wait + Copy + Drop>(
     Ok(served)
 }
 
+/// Has the host use the cluster's secret, if a node is to be served and the arguments name its file, and says whether the node may start: not
+/// with a file that isn't taken, of which the error stream says why. It also says that there is no secret, if other computers may reach the
+/// node.
+fn take_secret<R: Wait + Copy + Drop>(
+    rt: &HostRuntime,
+    words: &[String],
+    host: &mut TcpHost<R, Read>,
+) -> Result<bool, AllocError> {
+    let Some(serve) = served(rt, words) else {
+        return Ok(true);
+    };
+    let Some(file) = read_secret(rt.alloc(), words::behind_name(words))? else {
+        if !is_loopback(serve.listen.as_str()) {
+            tell_no_secret(rt, serve.listen.as_str());
+        }
+        return Ok(true);
+    };
+    match secret_in(rt, file.as_str()) {
+        Ok(secret) => guard(rt.alloc(), &serve, secret.as_slice(), host)?,
+        Err(fault) => {
+            tell_secret(rt, file.as_str(), &fault);
+            return Ok(false);
+        }
+    }
+    Ok(true)
+}
+
 /// Says why a served node ended, unless the error stream says it already.
 fn tell_end<R: Wait + Copy + Drop>(
     rt: &HostRuntime,
@@ -135,6 +165,14 @@ fn main(rt: HostRuntime) -> ExitCode {
     let Ok(mut host) = TcpHost::<HostRuntime, Read>::new(rt, rt, rt.alloc()) else {
         return no_memory;
     };
+    match take_secret(&rt, words, &mut host) {
+        Ok(true) => {}
+        Ok(false) => return ExitCode::from(Status::Words.code()),
+        Err(_) => {
+            tell_memory(&rt);
+            return no_memory;
+        }
+    }
     let Ok(served) = served_in(&rt, words, &mut disk, &mut host) else {
         tell_memory(&rt);
         return no_memory;

@@ -5,6 +5,7 @@ ghost use Rattle.serve_threads.specs.Counts.{IsCounted};
 
 use crate::poller::Poller;
 use crate::ready_socket::ReadySocket;
+use crate::refusal_lines::RefusalLines;
 use crate::tcp_peer::TcpPeerDialer;
 use crate::tcp_replies::TcpReplies;
 use dq_base::Failed;
@@ -17,6 +18,7 @@ use std::net::TcpListener;
 use std::sync::{Arc, Mutex, Wait};
 use std::thread::Threads;
 use std::time::Clock;
+use wire_words::WireBytes;
 
 /// Milliseconds since a moment that doesn't change; 0 if no clock can be read.
 fn moment_of(rt: &HostRuntime) -> u64 {
@@ -64,6 +66,8 @@ pub struct TcpHost<R: Wait + Copy + Drop, T: Drop> {
     places: Arc<Mutex<Places<ReadySocket>>, Global>,
     bound: Option<io::Result<TcpListener>>,
     poller: Option<Poller>,
+    greetings: Vec<(u64, WireBytes)>,
+    refusals: RefusalLines,
     turns: usize,
     taken: u64,
     done: HostCounts,
@@ -83,12 +87,21 @@ impl<R: Wait + Copy + Drop, T: Drop> TcpHost<R, T> {
             places: Arc::new(alloc, Mutex::new(Places::new(alloc)?))?,
             bound: None,
             poller: None,
+            greetings: Vec::new(alloc),
+            refusals: RefusalLines::new(sockets),
             turns: 0,
             taken: 0,
             done: HostCounts::new(),
             faults: 0,
             last_fault: None,
         })
+    }
+
+    /// The bytes with which a connection to the peer of each id begins, in place of the version and a CONNECT with the node's address; and
+    /// those with which a connection of a peer may begin. One that begins with another CONNECT is closed.
+    pub fn guard(&mut self, greetings: Vec<(u64, WireBytes)>, taken: Vec<WireBytes>) {
+        self.greetings = greetings;
+        self.places.lock(&self.rt).guard(taken);
     }
 
     /// Binds an address before the host listens there, and says whether that was possible. Connections that come wait. The next `listen`,
@@ -125,7 +138,8 @@ impl<R: Wait + Copy + Drop, T: Drop> TcpHost<R, T> {
         unreachable!()
     }
 
-    /// The next event that another thread posted, if there is one. With each heartbeat the sockets whose time is over are closed.
+    /// The next event that another thread posted, if there is one. With each heartbeat the sockets whose time is over are closed, and it is
+    /// said what was refused.
     fn posted(&mut self) -> Option<Event<T>>
         ensures taken { self.new.taken ≡ self.old.taken }
         ensures faults { self.new.faults ≡ self.old.faults }
@@ -141,9 +155,13 @@ impl<R: Wait + Copy + Drop, T: Drop> TcpHost<R, T> {
             poller.settle();
         }
         if matches!(event, Some(Event::Beat)) {
+            let now = moment_of(&self.sockets);
             let mut places = self.places.lock(&self.rt);
-            places.tick(moment_of(&self.sockets));
+            places.tick(now);
             poller.accept(&mut places);
+            if self.refusals.may_say(now) {
+                self.refusals.say(places.take_refused(), now);
+            }
         }
         event
     }
@@ -238,6 +256,15 @@ impl<R: Threads + Wait + Clock + Copy + Drop + Send + 'static, T: Drop> Host<T> 
             }
             Err(error) => Err(self.fail("listen", Some(error))),
         }
+    }
+
+    fn greeting(&self, peer: u64) -> Result<Option<WireBytes>, AllocError> {
+        for (id, greeting) in &self.greetings {
+            if *id == peer {
+                return Ok(Some(greeting.try_clone(self.sockets.alloc())?));
+            }
+        }
+        Ok(None)
     }
 
     fn dialer(&mut self) -> Result<TcpPeerDialer, Failed> {
