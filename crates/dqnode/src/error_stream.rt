@@ -1,5 +1,7 @@
 //! Lines on the error stream.
 
+use crate::founding::FolderRefusal;
+use crate::secret::SecretFault;
 use folder_disk::DirDisk;
 use serve_node::{Note, Notes};
 use serve_sockets::{HostFault, TcpHost};
@@ -35,12 +37,38 @@ impl Notes for ErrorStream {
     }
 }
 
-/// Says that the folder is another node's, by what its file says.
-pub fn tell_owner(rt: &HostRuntime, held: &str) {
-    let held = held.trim_end();
+/// Says why a node doesn't get its folder.
+pub fn tell_refusal(rt: &HostRuntime, refusal: &FolderRefusal) {
+    let _ = match refusal {
+        FolderRefusal::NoNode => eprintln!(rt;
+            "status 5: the folder has no file `node`: make a new node with --new; if this node is not new its files are missing, as where a disk is not mounted"
+        ),
+        FolderRefusal::HasNode(held) => eprintln!(rt;
+            "status 5: --new makes a new node, and the folder has one, whose file `node` says: {}",
+            held.as_str().trim_end()
+        ),
+        FolderRefusal::Another(held) => eprintln!(rt;
+            "status 5: the words name another node or other voters than the folder's file `node`, which says: {}",
+            held.as_str().trim_end()
+        ),
+    };
+}
+
+/// Says why a file is not taken as the cluster's secret.
+pub fn tell_secret(rt: &HostRuntime, file: &str, fault: &SecretFault) {
+    let _ = eprintln!(rt; "status 1: --secret {file}: {fault}");
+}
+
+/// Says that a node at this address has no secret.
+pub fn tell_no_secret(rt: &HostRuntime, address: &str) {
     let _ = eprintln!(rt;
-        "status 5: the words name another node or other voters than the folder's file `node`, which says: {held}"
+        "no --secret, and {address} is not loopback: who reaches it can speak as a peer"
     );
+}
+
+/// Says that the process is the superuser's.
+pub fn tell_root(rt: &HostRuntime) {
+    let _ = eprintln!(rt; "running as root, which the node does not need");
 }
 
 /// Says that the disk failed, with the call that failed last and the system's error.

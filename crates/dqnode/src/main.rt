@@ -9,24 +9,31 @@ mod founding;
 mod generating;
 mod network;
 mod pages;
+mod process;
 mod program;
 mod script_bytes;
 mod scripts;
+mod secret;
 mod serving;
 mod statements;
 mod status;
 mod words;
 
-use arguments::{Invocation, Serve, read_words};
+use arguments::{Invocation, Serve, read_secret, read_words};
 use disk_model::DiskFault;
 use dq_base::{ReadSource, WriteSink};
-use error_stream::{ErrorStream, tell_bug, tell_disk, tell_host, tell_memory, tell_owner};
+use error_stream::{
+    ErrorStream, tell_bug, tell_disk, tell_host, tell_memory, tell_no_secret, tell_refusal,
+    tell_root, tell_secret,
+};
 use folder_disk::DirDisk;
-use founding::{FolderOwner, owner_of};
+use founding::{claim, refusal_of};
 pub use network::Network;
 use pages::{print_request, report_refusal, request_of};
+use process::{is_root, open_streams};
 pub use program::dqnode;
 use script_cluster::ClusterJournal;
+use secret::{guard, is_loopback, secret_in};
 use serve_sockets::{TcpDialer, TcpHost};
 use session_gateway::Read;
 pub use status::Status;
@@ -43,16 +50,39 @@ fn served(rt: &HostRuntime, words: &[String]) -> Option<Serve> {
     }
 }
 
-/// Takes the folder for the node that the arguments name. If it is another node's, or if the disk fails, the error stream says so, and
-/// the disk is refused, so that the node doesn't start.
-fn take_folder(
+/// Has the folder say that it is of the node that the arguments name. A new node binds its address first, so that a start that can't listen
+/// leaves nothing; the node ends when it is to listen there.
+fn claim_folder<R: Wait + Copy + Drop>(
     rt: &HostRuntime,
     words: &Serve,
     disk: &mut DirDisk<HostRuntime>,
+    host: &mut TcpHost<R, Read>,
+) -> Result<(), DiskFault> {
+    if words.new && !host.bind(words.listen.as_str()) {
+        return Ok(());
+    }
+    claim(rt.alloc(), words, disk)
+}
+
+/// Takes the folder for the node that the arguments name. If it doesn't get the folder, or if the disk fails, the error stream says so, and
+/// the disk is refused, so that the node doesn't start.
+fn take_folder<R: Wait + Copy + Drop>(
+    rt: &HostRuntime,
+    words: &Serve,
+    disk: &mut DirDisk<HostRuntime>,
+    host: &mut TcpHost<R, Read>,
 ) -> Result<(), AllocError> {
-    match owner_of(rt.alloc(), words, disk) {
-        Ok(FolderOwner::Ours) => return Ok(()),
-        Ok(FolderOwner::Another(held)) => tell_owner(rt, held.as_str()),
+    let claimed = match refusal_of(rt.alloc(), words, disk) {
+        Ok(None) => claim_folder(rt, words, disk, host),
+        Ok(Some(refusal)) => {
+            tell_refusal(rt, &refusal);
+            disk.refuse();
+            return Ok(());
+        }
+        Err(fault) => Err(fault),
+    };
+    match claimed {
+        Ok(()) => return Ok(()),
         Err(DiskFault::Failed) => tell_disk(rt, disk),
         Err(DiskFault::NoMemory) => return Err(AllocError),
     }
@@ -61,16 +91,47 @@ fn take_folder(
 }
 
 /// The node that the arguments name, if they ask for one to be served, with the folder taken for it.
-fn served_in(
+fn served_in<R: Wait + Copy + Drop>(
     rt: &HostRuntime,
     words: &[String],
     disk: &mut DirDisk<HostRuntime>,
+    host: &mut TcpHost<R, Read>,
 ) -> Result<Option<Serve>, AllocError> {
     let served = served(rt, words);
     if let Some(words) = &served {
-        take_folder(rt, words, disk)?;
+        if is_root(rt) {
+            tell_root(rt);
+        }
+        take_folder(rt, words, disk, host)?;
     }
     Ok(served)
+}
+
+/// Has the host use the cluster's secret, if a node is to be served and the arguments name its file, and says whether the node may start: not
+/// with a file that isn't taken, of which the error stream says why. It also says that there is no secret, if other computers may reach the
+/// node.
+fn take_secret<R: Wait + Copy + Drop>(
+    rt: &HostRuntime,
+    words: &[String],
+    host: &mut TcpHost<R, Read>,
+) -> Result<bool, AllocError> {
+    let Some(serve) = served(rt, words) else {
+        return Ok(true);
+    };
+    let Some(file) = read_secret(rt.alloc(), words::behind_name(words))? else {
+        if !is_loopback(serve.listen.as_str()) {
+            tell_no_secret(rt, serve.listen.as_str());
+        }
+        return Ok(true);
+    };
+    match secret_in(rt, file.as_str()) {
+        Ok(secret) => guard(rt.alloc(), &serve, secret.as_slice(), host)?,
+        Err(fault) => {
+            tell_secret(rt, file.as_str(), &fault);
+            return Ok(false);
+        }
+    }
+    Ok(true)
 }
 
 /// Says why a served node ended, unless the error stream says it already.
@@ -89,6 +150,7 @@ fn tell_end<R: Wait + Copy + Drop>(
 }
 
 fn main(rt: HostRuntime) -> ExitCode {
+    open_streams(&rt);
     let no_memory = ExitCode::from(Status::NoMemory.code());
     let Ok(all) = words::given(&rt) else {
         return no_memory;
@@ -100,10 +162,18 @@ fn main(rt: HostRuntime) -> ExitCode {
     let Ok(mut disk) = DirDisk::new(rt) else {
         return no_memory;
     };
-    let Ok(host) = TcpHost::<HostRuntime, Read>::new(rt, rt, rt.alloc()) else {
+    let Ok(mut host) = TcpHost::<HostRuntime, Read>::new(rt, rt, rt.alloc()) else {
         return no_memory;
     };
-    let Ok(served) = served_in(&rt, words, &mut disk) else {
+    match take_secret(&rt, words, &mut host) {
+        Ok(true) => {}
+        Ok(false) => return ExitCode::from(Status::Words.code()),
+        Err(_) => {
+            tell_memory(&rt);
+            return no_memory;
+        }
+    }
+    let Ok(served) = served_in(&rt, words, &mut disk, &mut host) else {
         tell_memory(&rt);
         return no_memory;
     };

@@ -103,6 +103,7 @@ impl<'a, R: Wait + Copy + Drop, L: Replies, W: Notes> Outbox<StepReport>
 
     fn put(&mut self, said: StepReport) {
         let StepReport { outs, state, shut } = said;
+        self.queues.note_step();
         self.hand_on(outs);
         if let Some(conn) = shut {
             self.queues.cut(conn);

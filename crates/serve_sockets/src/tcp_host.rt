@@ -5,6 +5,7 @@ ghost use Rattle.serve_threads.specs.Counts.{IsCounted};
 
 use crate::poller::Poller;
 use crate::ready_socket::ReadySocket;
+use crate::refusal_lines::RefusalLines;
 use crate::tcp_peer::TcpPeerDialer;
 use crate::tcp_replies::TcpReplies;
 use dq_base::Failed;
@@ -17,6 +18,7 @@ use std::net::TcpListener;
 use std::sync::{Arc, Mutex, Wait};
 use std::thread::Threads;
 use std::time::Clock;
+use wire_words::WireBytes;
 
 /// Milliseconds since a moment that doesn't change; 0 if no clock can be read.
 fn moment_of(rt: &HostRuntime) -> u64 {
@@ -29,9 +31,17 @@ fn moment_of(rt: &HostRuntime) -> u64 {
     }
 }
 
-/// The wait for a listener at this address.
-fn listen_at(sockets: &HostRuntime, address: &str) -> io::Result<Poller> {
-    Poller::new(sockets, TcpListener::bind(sockets, address)?)
+/// The wait for a listener at this address, or for one that was bound before.
+fn listen_at(
+    sockets: &HostRuntime,
+    address: &str,
+    bound: Option<io::Result<TcpListener>>,
+) -> io::Result<Poller> {
+    let listener = match bound {
+        Some(bound) => bound?,
+        None => TcpListener::bind(sockets, address)?,
+    };
+    Poller::new(sockets, listener)
 }
 
 /// A call of a host that failed.
@@ -54,7 +64,10 @@ pub struct TcpHost<R: Wait + Copy + Drop, T: Drop> {
     inbox: ChannelInbox<R, T>,
     post: ChannelPost<R, T>,
     places: Arc<Mutex<Places<ReadySocket>>, Global>,
+    bound: Option<io::Result<TcpListener>>,
     poller: Option<Poller>,
+    greetings: Vec<(u64, WireBytes)>,
+    refusals: RefusalLines,
     turns: usize,
     taken: u64,
     done: HostCounts,
@@ -72,13 +85,35 @@ impl<R: Wait + Copy + Drop, T: Drop> TcpHost<R, T> {
             inbox,
             post,
             places: Arc::new(alloc, Mutex::new(Places::new(alloc)?))?,
+            bound: None,
             poller: None,
+            greetings: Vec::new(alloc),
+            refusals: RefusalLines::new(sockets),
             turns: 0,
             taken: 0,
             done: HostCounts::new(),
             faults: 0,
             last_fault: None,
         })
+    }
+
+    /// The bytes with which a connection to the peer of each id begins, in place of the version and a CONNECT with the node's address; and
+    /// those with which a connection of a peer may begin. One that begins with another CONNECT is closed.
+    pub fn guard(&mut self, greetings: Vec<(u64, WireBytes)>, taken: Vec<WireBytes>) {
+        self.greetings = greetings;
+        self.places.lock(&self.rt).guard(taken);
+    }
+
+    /// Binds an address before the host listens there, and says whether that was possible. Connections that come wait. The next `listen`,
+    /// which has to be at the same address, takes over what was bound, or fails as the binding did.
+    pub fn bind(&mut self, address: &str) -> bool
+        ensures taken { self.new.taken ≡ self.old.taken }
+        ensures faults { self.new.faults ≡ self.old.faults }
+    {
+        let bound = TcpListener::bind(&self.sockets, address);
+        let is_bound = bound.is_ok();
+        self.bound = Some(bound);
+        is_bound
     }
 
     /// The call that failed last, if one did.
@@ -103,7 +138,8 @@ impl<R: Wait + Copy + Drop, T: Drop> TcpHost<R, T> {
         unreachable!()
     }
 
-    /// The next event that another thread posted, if there is one. With each heartbeat the sockets whose time is over are closed.
+    /// The next event that another thread posted, if there is one. With each heartbeat the sockets whose time is over are closed, and it is
+    /// said what was refused.
     fn posted(&mut self) -> Option<Event<T>>
         ensures taken { self.new.taken ≡ self.old.taken }
         ensures faults { self.new.faults ≡ self.old.faults }
@@ -119,9 +155,13 @@ impl<R: Wait + Copy + Drop, T: Drop> TcpHost<R, T> {
             poller.settle();
         }
         if matches!(event, Some(Event::Beat)) {
+            let now = moment_of(&self.sockets);
             let mut places = self.places.lock(&self.rt);
-            places.tick(moment_of(&self.sockets));
+            places.tick(now);
             poller.accept(&mut places);
+            if self.refusals.may_say(now) {
+                self.refusals.say(places.take_refused(), now);
+            }
         }
         event
     }
@@ -207,7 +247,7 @@ impl<R: Threads + Wait + Clock + Copy + Drop + Send + 'static, T: Drop> Host<T> 
         let Some(listens) = self.done.listens.checked_add(1) else {
             return Err(self.fail("listen", None));
         };
-        match listen_at(&self.sockets, address) {
+        match listen_at(&self.sockets, address, self.bound.take()) {
             Ok(poller) => {
                 self.places.lock(&self.rt).tick(moment_of(&self.sockets));
                 self.poller = Some(poller);
@@ -216,6 +256,15 @@ impl<R: Threads + Wait + Clock + Copy + Drop + Send + 'static, T: Drop> Host<T> 
             }
             Err(error) => Err(self.fail("listen", Some(error))),
         }
+    }
+
+    fn greeting(&self, peer: u64) -> Result<Option<WireBytes>, AllocError> {
+        for (id, greeting) in &self.greetings {
+            if *id == peer {
+                return Ok(Some(greeting.try_clone(self.sockets.alloc())?));
+            }
+        }
+        Ok(None)
     }
 
     fn dialer(&mut self) -> Result<TcpPeerDialer, Failed> {
