@@ -3,76 +3,174 @@
 use folder_disk::DirDisk;
 use serve_node::{Note, Notes};
 use serve_sockets::{HostFault, TcpHost};
+use serve_threads::{LineQueue, NextLine};
 use session_gateway::Read;
+use std::alloc::AllocError;
 use std::io::ErrorKind;
 use std::sync::Wait;
+use std::thread::{Builder, Threads};
+use std::time::{Clock, Duration};
+use std::{io, thread};
 
-/// Writes a line on the error stream for each note. A line that can't be written is lost.
+/// The room of the thread that writes lines, in bytes.
+const STACK: usize = 262_144;
+
+/// How many times the end looks whether all lines are written, and how long it waits after each look, in milliseconds.
+const MAX_LOOKS: u64 = 100;
+
+const LOOK_MS: u64 = 10;
+
+/// Has lines written on the error stream. Those of a served node wait in a queue for a thread that writes them, so that the node never
+/// waits for who reads the stream. A line that can't be written, or for which memory runs out, is lost.
 #[derive(Drop)]
-pub struct ErrorStream {
+pub struct ErrorStream<R: Wait + Clock + Copy + Drop> {
+    waits: R,
     rt: HostRuntime,
+    lines: LineQueue,
+    has_writer: bool,
 }
 
-impl ErrorStream {
-    /// The error stream of the process.
-    pub fn new(rt: HostRuntime) -> ErrorStream {
-        ErrorStream { rt }
-    }
-}
-
-impl Notes for ErrorStream {
-    fn note(&mut self, note: Note<'_>) {
-        let rt = self.rt;
-        let _ = match note {
-            Note::Listens { id, address } => eprintln!(rt; "listening on {address} as node {id}"),
-            Note::Leads { term } => eprintln!(rt; "term {term}: leader"),
-            Note::Follows { term, leader } => eprintln!(rt; "term {term}: follower of {leader}"),
-            Note::FillsUp { last } => {
-                eprintln!(rt; "the log has {last} entries of at most 4294900000")
+/// Writes lines while the process is there.
+fn write_lines<R: Wait>(waits: &R, rt: HostRuntime, lines: &LineQueue) {
+    for _ in 0..u64::MAX {
+        let _ = match lines.take(waits) {
+            NextLine::Text(text) => eprintln!(rt; "{text}"),
+            NextLine::LeftOut(count) => {
+                eprintln!(rt; "{count} lines were left out, since this stream was not read")
             }
-            Note::Unread { fault } => eprintln!(rt; "status 8: {fault}"),
         };
     }
 }
 
-/// Says that the folder is another node's, by what its file says.
-pub fn tell_owner(rt: &HostRuntime, held: &str) {
-    let held = held.trim_end();
-    let _ = eprintln!(rt;
-        "status 5: the words name another node or other voters than the folder's file `node`, which says: {held}"
-    );
+/// Starts the thread that writes lines.
+fn start_writer<R: Threads + Wait + Copy + Drop + Send + 'static>(
+    waits: R,
+    rt: HostRuntime,
+    lines: LineQueue,
+) -> io::Result<()> {
+    Builder::new()
+        .stack_size(STACK)
+        .spawn(&waits, move || write_lines(&waits, rt, &lines))?;
+    Ok(())
 }
 
-/// Says that the disk failed, with the call that failed last and the system's error.
-pub fn tell_disk(rt: &HostRuntime, disk: &DirDisk<HostRuntime>) {
-    if let Some(fault) = disk.last_fault() {
-        let _ = if fault.error.kind() == ErrorKind::WouldBlock {
-            eprintln!(rt; "status 5: {}: another process has the folder", fault.call)
+/// The line of a note.
+fn line_of(rt: &HostRuntime, note: Note<'_>) -> Result<String, AllocError> {
+    let alloc = rt.alloc();
+    match note {
+        Note::Listens { id, address } => format!(in alloc; "listening on {address} as node {id}"),
+        Note::Leads { term } => format!(in alloc; "term {term}: leader"),
+        Note::Follows { term, leader } => { format!(in alloc; "term {term}: follower of {leader}") }
+        Note::FillsUp { last } => {
+            format!(in alloc; "the log has {last} entries of at most 4294900000")
+        }
+        Note::Unread { fault } => format!(in alloc; "status 8: {fault}"),
+    }
+}
+
+impl<R: Wait + Clock + Copy + Drop> ErrorStream<R> {
+    /// The error stream of the process, with the queue of its lines. The runtime is passed twice, once for waits and once for the stream.
+    pub fn new(waits: R, rt: HostRuntime, lines: LineQueue) -> ErrorStream<R> {
+        ErrorStream {
+            waits,
+            rt,
+            lines,
+            has_writer: false,
+        }
+    }
+
+    /// Has lines wait in the queue from here on, for a thread that writes them. If there is no thread, it says so.
+    pub fn begin_queue(&mut self) -> io::Result<()>
+    where
+        R: Threads + Send + 'static,
+    {
+        let started = match self.lines.again() {
+            Ok(lines) => start_writer(self.waits, self.rt, lines),
+            Err(_) => Err(ErrorKind::OutOfMemory.into()),
+        };
+        match started {
+            Ok(()) => {
+                self.has_writer = true;
+                Ok(())
+            }
+            Err(error) => {
+                let _ = eprintln!(self.rt; "status 6: start a thread: {error}");
+                Err(error)
+            }
+        }
+    }
+
+    /// Waits until all lines are written, at most for a second.
+    pub fn finish(&self) {
+        for _ in 0..MAX_LOOKS {
+            if !self.has_writer || self.lines.is_written(&self.waits) {
+                return;
+            }
+            thread::sleep(&self.waits, Duration::from_millis(LOOK_MS));
+        }
+    }
+
+    /// Has a line written.
+    fn say(&self, line: Result<String, AllocError>) {
+        let Ok(line) = line else {
+            return;
+        };
+        if self.has_writer {
+            self.lines.put(&self.waits, line);
         } else {
-            eprintln!(rt; "status 5: {}: {}", fault.call, fault.error)
+            let _ = eprintln!(self.rt; "{line}");
+        }
+    }
+
+    /// Says that the folder is another node's, by what its file says.
+    pub fn tell_owner(&self, held: &str) {
+        let held = held.trim_end();
+        self.say(format!(in self.rt.alloc();
+            "status 5: the words name another node or other voters than the folder's file `node`, which says: {held}"
+        ));
+    }
+
+    /// Says that the disk failed, with the call that failed last and the system's error.
+    pub fn tell_disk(&self, disk: &DirDisk<HostRuntime>) {
+        let alloc = self.rt.alloc();
+        let Some(fault) = disk.last_fault() else {
+            return;
         };
+        self.say(if fault.error.kind() == ErrorKind::WouldBlock {
+            format!(in alloc; "status 5: {}: another process has the folder", fault.call)
+        } else {
+            format!(in alloc; "status 5: {}: {}", fault.call, fault.error)
+        });
+    }
+
+    /// Says that the host failed, with the call that failed last and the system's error, if there is one.
+    pub fn tell_host<Q: Wait + Copy + Drop>(&self, host: &TcpHost<Q, Read>) {
+        let alloc = self.rt.alloc();
+        let Some(HostFault { call, error }) = host.last_fault() else {
+            return;
+        };
+        self.say(match error {
+            Some(error) => format!(in alloc; "status 6: {call}: {error}"),
+            None => format!(in alloc; "status 6: {call}"),
+        });
+    }
+
+    /// Says that memory ran out.
+    pub fn tell_memory(&self) {
+        self.say(String::from_str(self.rt.alloc(), "status 7: out of memory"));
+    }
+
+    /// Says that a node failed because of a bug of the program, and asks for a report.
+    pub fn tell_bug(&self) {
+        self.say(String::from_str(
+            self.rt.alloc(),
+            "status 15: internal fault: this is a bug of dqnode; please report it, with the lines before this one and what led to it",
+        ));
     }
 }
 
-/// Says that the host failed, with the call that failed last and the system's error, if there is one.
-pub fn tell_host<R: Wait + Copy + Drop>(rt: &HostRuntime, host: &TcpHost<R, Read>) {
-    let Some(HostFault { call, error }) = host.last_fault() else {
-        return;
-    };
-    let _ = match error {
-        Some(error) => eprintln!(rt; "status 6: {call}: {error}"),
-        None => eprintln!(rt; "status 6: {call}"),
-    };
-}
-
-/// Says that memory ran out.
-pub fn tell_memory(rt: &HostRuntime) {
-    let _ = eprintln!(rt; "status 7: out of memory");
-}
-
-/// Says that a node failed because of a bug of the program, and asks for a report.
-pub fn tell_bug(rt: &HostRuntime) {
-    let _ = eprintln!(rt;
-        "status 15: internal fault: this is a bug of dqnode; please report it, with the lines before this one and what led to it"
-    );
+impl<R: Wait + Clock + Copy + Drop> Notes for ErrorStream<R> {
+    fn note(&mut self, note: Note<'_>) {
+        self.say(line_of(&self.rt, note));
+    }
 }

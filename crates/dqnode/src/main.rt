@@ -20,7 +20,7 @@ mod words;
 use arguments::{Invocation, Serve, read_words};
 use disk_model::DiskFault;
 use dq_base::{ReadSource, WriteSink};
-use error_stream::{ErrorStream, tell_bug, tell_disk, tell_host, tell_memory, tell_owner};
+use error_stream::ErrorStream;
 use folder_disk::DirDisk;
 use founding::{FolderOwner, owner_of};
 pub use network::Network;
@@ -28,12 +28,15 @@ use pages::{print_request, report_refusal, request_of};
 pub use program::dqnode;
 use script_cluster::ClusterJournal;
 use serve_sockets::{TcpDialer, TcpHost};
+use serve_threads::Host;
 use session_gateway::Read;
 pub use status::Status;
 use std::alloc::AllocError;
 use std::io;
 use std::process::ExitCode;
 use std::sync::Wait;
+use std::thread::Threads;
+use std::time::Clock;
 
 /// The node that the arguments name, if they ask for one to be served.
 fn served(rt: &HostRuntime, words: &[String]) -> Option<Serve> {
@@ -45,45 +48,52 @@ fn served(rt: &HostRuntime, words: &[String]) -> Option<Serve> {
 
 /// Takes the folder for the node that the arguments name. If it is another node's, or if the disk fails, the error stream says so, and
 /// the disk is refused, so that the node doesn't start.
-fn take_folder(
+fn take_folder<R: Wait + Clock + Copy + Drop>(
     rt: &HostRuntime,
     words: &Serve,
     disk: &mut DirDisk<HostRuntime>,
+    errors: &ErrorStream<R>,
 ) -> Result<(), AllocError> {
     match owner_of(rt.alloc(), words, disk) {
         Ok(FolderOwner::Ours) => return Ok(()),
-        Ok(FolderOwner::Another(held)) => tell_owner(rt, held.as_str()),
-        Err(DiskFault::Failed) => tell_disk(rt, disk),
+        Ok(FolderOwner::Another(held)) => errors.tell_owner(held.as_str()),
+        Err(DiskFault::Failed) => errors.tell_disk(disk),
         Err(DiskFault::NoMemory) => return Err(AllocError),
     }
     disk.refuse();
     Ok(())
 }
 
-/// The node that the arguments name, if they ask for one to be served, with the folder taken for it.
-fn served_in(
+/// The status with which the program ends before it serves the node that the arguments name, if it does: its lines need a thread, and the
+/// folder is taken for it.
+fn begin_serving<R: Threads + Wait + Clock + Copy + Drop + Send + 'static>(
     rt: &HostRuntime,
-    words: &[String],
+    words: &Serve,
     disk: &mut DirDisk<HostRuntime>,
-) -> Result<Option<Serve>, AllocError> {
-    let served = served(rt, words);
-    if let Some(words) = &served {
-        take_folder(rt, words, disk)?;
+    errors: &mut ErrorStream<R>,
+) -> Option<Status> {
+    if errors.begin_queue().is_err() {
+        return Some(Status::HostFault);
     }
-    Ok(served)
+    if take_folder(rt, words, disk, errors).is_err() {
+        errors.tell_memory();
+        errors.finish();
+        return Some(Status::NoMemory);
+    }
+    None
 }
 
 /// Says why a served node ended, unless the error stream says it already.
-fn tell_end<R: Wait + Copy + Drop>(
-    rt: &HostRuntime,
+fn tell_end<R: Wait + Clock + Copy + Drop>(
+    errors: &ErrorStream<R>,
     code: u8,
     disk: &DirDisk<HostRuntime>,
     host: &TcpHost<R, Read>,
 ) {
     match code {
-        5 if !disk.is_refused() => tell_disk(rt, disk),
-        6 => tell_host(rt, host),
-        7 => tell_memory(rt),
+        5 if !disk.is_refused() => errors.tell_disk(disk),
+        6 => errors.tell_host(host),
+        7 => errors.tell_memory(),
         _ => {}
     }
 }
@@ -103,17 +113,23 @@ fn main(rt: HostRuntime) -> ExitCode {
     let Ok(host) = TcpHost::<HostRuntime, Read>::new(rt, rt, rt.alloc()) else {
         return no_memory;
     };
-    let Ok(served) = served_in(&rt, words, &mut disk) else {
-        tell_memory(&rt);
+    let Ok(lines) = Host::lines(&host) else {
         return no_memory;
     };
+    let mut errors = ErrorStream::new(rt, rt, lines);
+    let served = served(&rt, words);
+    if let Some(words) = &served {
+        if let Some(status) = begin_serving(&rt, words, &mut disk, &mut errors) {
+            return ExitCode::from(status.code());
+        }
+    }
     let mut input = ReadSource::new(rt.stdin());
     let mut output = WriteSink::new(io::writer(&rt));
     let mut journal = ClusterJournal::new(rt.alloc());
     let mut network = Network {
         dialer: TcpDialer::new(rt),
         host,
-        notes: ErrorStream::new(rt),
+        notes: errors,
     };
     let code = dqnode(
         rt.alloc(),
@@ -125,13 +141,14 @@ fn main(rt: HostRuntime) -> ExitCode {
         &mut network,
     );
     if served.is_some() {
-        tell_end(&rt, code, &disk, &network.host);
+        tell_end(&network.notes, code, &disk, &network.host);
     }
     if code == Status::Internal.code() {
-        tell_bug(&rt);
+        network.notes.tell_bug();
     }
     if code == Status::Words.code() {
         report_refusal(&rt, all.as_slice());
     }
+    network.notes.finish();
     ExitCode::from(code)
 }

@@ -48,6 +48,7 @@ fn reach<E: Engine + Send + Drop + 'static, H: Host<Read>>(
         address: copied(alloc, &peer.address)?,
         greeting: greeting(alloc, words.id, &words.listen)?,
         queue: queue.again()?,
+        lines: host.lines()?,
     });
     beside(host, worker)?;
     Ok(queue)
@@ -166,7 +167,7 @@ pub(crate) fn crew<E: Engine + Send + Drop + 'static, H: Host<Read>>(
     ensures cause { IfErr result (λ f. f ≡ crew.Host → Rose (H.faults host.old) (H.faults host.new)) }
 {
     let rt = host.rt();
-    let heard = LeaderContact::new(alloc)?;
+    let heard = host.contact()?;
     let replies = host.replies()?;
     let peers = reach_all::<E, H>(alloc, host, words)?;
     tick::<E, H>(alloc, host, &heard)?;

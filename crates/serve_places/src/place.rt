@@ -104,6 +104,11 @@ impl<S: ReadyStream> Place<S> {
         self.may_hand_on() && (self.is_readable || self.inflow.has_piece())
     }
 
+    /// Whether a peer speaks, and its next message begins with the next piece.
+    pub(crate) fn begins_peers_message(&self) -> bool {
+        self.is_peer && self.inflow.is_at_head()
+    }
+
     /// Whether a message of the connection may be handed on: not while a reply waits, nor before it is closed.
     pub(crate) fn may_hand_on(&self) -> bool {
         !self.is_closing && self.outflow.is_empty()

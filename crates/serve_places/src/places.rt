@@ -6,6 +6,7 @@ ghost use Rattle.serve_places.specs.Numbers.{AreFresh, ChangesNumbersIfAny};
 use crate::limits::{MAX_READ_BYTES, MAX_SOCKETS};
 use crate::numbering::Numbering;
 use crate::outflow::CutCause;
+use crate::peer_sign::{PeerSign, sign_of};
 use crate::place::Place;
 use crate::rooms::Rooms;
 use crate::stream::ReadyStream;
@@ -39,6 +40,7 @@ pub struct Places<S: ReadyStream> {
     rooms: Rooms,
     ready: VecDeque<usize>,
     last: usize,
+    sign: Option<PeerSign>,
     now: u64,
     buffer: Vec<u8>,
 }
@@ -59,6 +61,7 @@ impl<S: ReadyStream> Places<S> {
             rooms: Rooms::new(alloc)?,
             ready: VecDeque::with_capacity(alloc, MAX_SOCKETS)?,
             last: 0,
+            sign: None,
             now: 0,
             buffer: vec![in alloc; 0u8; MAX_READ_BYTES]?,
         })
@@ -93,6 +96,7 @@ impl<S: ReadyStream> Places<S> {
     pub fn next<T>(&mut self) -> Option<Event<T>>
         ensures numbers { ChangesNumbersIfAny self.old.numbers self.new.numbers result }
     {
+        self.sign = None;
         let at = self.ready.pop_front()?;
         if let Some(place) = self.places.get_mut(at) {
             place.is_queued = false;
@@ -122,8 +126,17 @@ impl<S: ReadyStream> Places<S> {
         if !place.may_hand_on() {
             return None;
         }
+        let is_peers = place.begins_peers_message();
         let piece = place.next_piece(alloc, &mut self.buffer, now)?;
+        if is_peers {
+            self.sign = sign_of(piece.as_slice());
+        }
         Some(Event::Bytes(number, piece))
+    }
+
+    /// What the message of a peer says that the last call of `next` brought whole, if it matters to the time of the node.
+    pub fn peer_sign(&self) -> Option<PeerSign> {
+        self.sign
     }
 
     /// The socket is a connection from now on, if its first bytes are there and there are not too many others.

@@ -8,8 +8,10 @@ use crate::ready_socket::ReadySocket;
 use crate::tcp_peer::TcpPeerDialer;
 use crate::tcp_replies::TcpReplies;
 use dq_base::Failed;
-use serve_places::Places;
-use serve_threads::{ChannelInbox, ChannelPost, Host, HostCounts, event_channel};
+use serve_places::{PeerSign, Places};
+use serve_threads::{
+    ChannelInbox, ChannelPost, Host, HostCounts, LeaderContact, LineQueue, event_channel,
+};
 use serve_traits::{Event, Inbox};
 use std::alloc::{AllocError, Global};
 use std::io;
@@ -47,12 +49,16 @@ pub struct HostFault {
 ///
 /// The thread that takes its events reads and writes all connections that come. It takes what other threads post first, then what happens at
 /// the sockets that are ready, one after the other; it asks the system again once each of them had its turn, and waits there if none is.
+///
+/// It notes which peers acknowledge. An AskVote is lost if the node hears a leader, except one whose sender was handed the leadership.
 #[derive(Drop)]
 pub struct TcpHost<R: Wait + Copy + Drop, T: Drop> {
     rt: R,
     sockets: HostRuntime,
     inbox: ChannelInbox<R, T>,
     post: ChannelPost<R, T>,
+    contact: LeaderContact,
+    lines: LineQueue,
     places: Arc<Mutex<Places<ReadySocket>>, Global>,
     poller: Option<Poller>,
     turns: usize,
@@ -71,6 +77,8 @@ impl<R: Wait + Copy + Drop, T: Drop> TcpHost<R, T> {
             sockets,
             inbox,
             post,
+            contact: LeaderContact::new(alloc)?,
+            lines: LineQueue::new(alloc)?,
             places: Arc::new(alloc, Mutex::new(Places::new(alloc)?))?,
             poller: None,
             turns: 0,
@@ -144,7 +152,25 @@ impl<R: Wait + Copy + Drop, T: Drop> TcpHost<R, T> {
             return None;
         }
         self.turns -= 1;
-        places.next()
+        let event = places.next();
+        let sign = places.peer_sign();
+        drop(places);
+        if self.is_lost(sign) {
+            return None;
+        }
+        event
+    }
+
+    /// Notes what a message of a peer says, and says whether the message is lost.
+    fn is_lost(&self, sign: Option<PeerSign>) -> bool {
+        match sign {
+            Some(PeerSign::Ack(from)) => {
+                self.contact.note_ack(from);
+                false
+            }
+            Some(PeerSign::AskVote) => self.contact.is_settled(),
+            None => false,
+        }
     }
 
     /// Counts a call that failed, and keeps it.
@@ -201,6 +227,14 @@ impl<R: Threads + Wait + Clock + Copy + Drop + Send + 'static, T: Drop> Host<T> 
             rt: self.rt,
             places: Arc::try_clone(&self.places)?,
         })
+    }
+
+    fn lines(&self) -> Result<LineQueue, AllocError> {
+        self.lines.again()
+    }
+
+    fn contact(&self) -> Result<LeaderContact, AllocError> {
+        self.contact.again()
     }
 
     fn listen(&mut self, address: &str) -> Result<(), Failed> {

@@ -16,33 +16,10 @@ const PEER_SECONDS: u64 = 10;
 
 /// A connection over a TCP socket that was dialed. It says nothing of content. A message is written in one write, and goes out at once; a
 /// write of which only a front was taken has failed, since its time was over. An interrupted call is tried again, up to 1,000 times in a row.
-///
-/// The error stream gets a line when the connection is up, and one when a write fails.
 #[derive(Drop)]
 pub struct TcpPeerConnection {
     stream: TcpStream,
     faults: u64,
-    announced: Option<Announced>,
-}
-
-/// A connection of which the error stream has a line.
-#[derive(Drop)]
-struct Announced {
-    rt: HostRuntime,
-    address: String,
-}
-
-impl Announced {
-    /// Says that the connection is up. A line that can't be written is left out.
-    fn up(rt: HostRuntime, address: String) -> Announced {
-        let _ = eprintln!(rt; "link to {address} up");
-        Announced { rt, address }
-    }
-
-    /// Says that the connection is down.
-    fn down(&self) {
-        let _ = eprintln!(self.rt; "link to {} down", self.address);
-    }
 }
 
 /// A connection to an address, of which a write takes at most ten seconds.
@@ -54,26 +31,9 @@ fn open(rt: &HostRuntime, address: &str) -> io::Result<TcpStream> {
 }
 
 impl TcpPeerConnection {
-    /// A connection that was dialed, which the error stream says is up. If memory runs out, it says nothing of it.
-    fn new(rt: HostRuntime, address: &str, stream: TcpStream) -> TcpPeerConnection {
-        let announced = match String::from_str(rt.alloc(), address) {
-            Ok(address) => Some(Announced::up(rt, address)),
-            Err(_) => None,
-        };
-        TcpPeerConnection {
-            stream,
-            faults: 0,
-            announced,
-        }
-    }
-
-    /// Says that the connection is down, once.
-    fn announce_end(&mut self)
-        ensures { self.new.faults ≡ self.old.faults }
-    {
-        if let Some(announced) = self.announced.take() {
-            announced.down();
-        }
+    /// A connection that was dialed.
+    fn new(stream: TcpStream) -> TcpPeerConnection {
+        TcpPeerConnection { stream, faults: 0 }
     }
 
     /// Counts a call that failed.
@@ -93,10 +53,7 @@ impl PeerConnection for TcpPeerConnection {
     fn write_all(&mut self, bytes: &[u8]) -> Result<(), Failed> {
         match write_whole(&mut &self.stream, bytes) {
             Ok(()) => Ok(()),
-            Err(_) => {
-                self.announce_end();
-                Err(self.fail())
-            }
+            Err(_) => Err(self.fail()),
         }
     }
 }
@@ -130,7 +87,7 @@ impl PeerDialer for TcpPeerDialer {
 
     fn dial(&mut self, address: &str) -> Result<TcpPeerConnection, Failed> {
         match open(&self.rt, address) {
-            Ok(stream) => Ok(TcpPeerConnection::new(self.rt, address, stream)),
+            Ok(stream) => Ok(TcpPeerConnection::new(stream)),
             Err(_) => Err(self.fail()),
         }
     }

@@ -1,5 +1,6 @@
 //! The connection to a peer.
 
+use crate::lines::LineQueue;
 use crate::peer_queue::PeerQueue;
 use raft_messages::{RaftMessage, write_message};
 use serve_traits::{PeerConnection, PeerDialer};
@@ -12,7 +13,8 @@ use wire_words::{WireBytes, WireText};
 const MAX_IDLE_SECONDS: u64 = 30;
 
 /// Sends messages to one peer, over a connection that it dials. If the connection fails it is dropped, and the same holds for the message; the next one
-/// has the peer dialled again, and so has one that comes 30 seconds after the last one.
+/// has the peer dialled again, and so has one that comes 30 seconds after the last one. It has a line when the connection is up, and one when
+/// it has failed.
 #[derive(Drop)]
 pub struct Peer<R: Wait + Clock + Copy + Drop, D: PeerDialer> {
     /// For the bytes of messages, of which there is one at a time.
@@ -27,6 +29,8 @@ pub struct Peer<R: Wait + Clock + Copy + Drop, D: PeerDialer> {
     pub greeting: WireBytes,
     /// The messages.
     pub queue: PeerQueue,
+    /// Where its lines go.
+    pub lines: LineQueue,
 }
 
 impl<R: Wait + Clock + Copy + Drop, D: PeerDialer> Peer<R, D> {
@@ -68,7 +72,10 @@ impl<R: Wait + Clock + Copy + Drop, D: PeerDialer> Peer<R, D> {
         let Ok(bytes) = write_message(self.alloc, message) else {
             return Some(connection);
         };
-        connection.write_all(bytes.as_slice()).ok()?;
+        if connection.write_all(bytes.as_slice()).is_err() {
+            self.say("down");
+            return None;
+        }
         Some(connection)
     }
 
@@ -76,6 +83,15 @@ impl<R: Wait + Clock + Copy + Drop, D: PeerDialer> Peer<R, D> {
     fn dial(&mut self) -> Option<D::Connection> {
         let mut connection = self.dialer.dial(self.address.as_str()).ok()?;
         connection.write_all(self.greeting.as_slice()).ok()?;
+        self.say("up");
         Some(connection)
+    }
+
+    /// Has a line that the connection is up, or down. If memory runs out it is left out.
+    fn say(&self, state: &str) {
+        let address = self.address.as_str();
+        if let Ok(line) = format!(in self.alloc; "link to {address} {state}") {
+            self.lines.put(&self.rt, line);
+        }
     }
 }

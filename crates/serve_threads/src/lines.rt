@@ -1,0 +1,135 @@
+//! The lines that wait to be written on the error stream.
+
+ghost use Rattle.std.specs.Prelude.{◌≤◌, length};
+
+use std::alloc::{AllocError, Global};
+use std::collections::VecDeque;
+use std::sync::{Arc, Condvar, Mutex, Wait};
+
+/// How many lines may wait.
+const MAX_LINES: usize = 256;
+
+/// What is to be written next.
+#[derive(Drop)]
+pub enum NextLine {
+    /// A line, without its end.
+    Text(String),
+    /// After the lines before it this many were left out, since too many waited.
+    LeftOut(u64),
+}
+
+/// The lines that wait, and how many were left out after them.
+#[derive(Drop)]
+struct WaitingLines {
+    waiting: VecDeque<NextLine>,
+    left_out: u64,
+    is_writing: bool,
+    ghost bounded: { length waiting.items ≤ 256 },
+}
+
+impl WaitingLines {
+    /// No line waits.
+    fn new(alloc: Global) -> WaitingLines {
+        WaitingLines {
+            waiting: VecDeque::new(alloc),
+            left_out: 0,
+            is_writing: false,
+        }
+    }
+
+    /// Has what is to be written next wait, if there is room and memory for it, and says whether there is.
+    fn push(&mut self, next: NextLine) -> bool {
+        if self.waiting.len() >= MAX_LINES {
+            return false;
+        }
+        self.waiting.push_back(next).is_ok()
+    }
+
+    /// Adds a line, or leaves it out if there is no room. The first line after some that were left out says so before it.
+    fn add(&mut self, text: String) {
+        if self.left_out > 0 && self.push(NextLine::LeftOut(self.left_out)) {
+            self.left_out = 0;
+        }
+        if self.left_out > 0 || !self.push(NextLine::Text(text)) {
+            self.left_out = self.left_out.saturating_add(1);
+        }
+    }
+
+    /// Takes what is to be written next, if there is something.
+    fn next(&mut self) -> Option<NextLine> {
+        if let Some(next) = self.waiting.pop_front() {
+            return Some(next);
+        }
+        if self.left_out == 0 {
+            return None;
+        }
+        let left_out = self.left_out;
+        self.left_out = 0;
+        Some(NextLine::LeftOut(left_out))
+    }
+
+    /// Whether all that came was written.
+    fn is_written(&self) -> bool {
+        self.waiting.is_empty() && self.left_out == 0 && !self.is_writing
+    }
+}
+
+#[derive(Drop)]
+struct Shared {
+    lines: Mutex<WaitingLines>,
+    came: Condvar,
+}
+
+/// One end of a queue of lines. Who puts a line never waits for who writes it: of more than 256 that wait the new ones are left out, and
+/// counted.
+#[derive(Drop)]
+pub struct LineQueue {
+    shared: Arc<Shared, Global>,
+}
+
+impl LineQueue {
+    /// A queue in which nothing waits.
+    pub fn new(alloc: Global) -> Result<LineQueue, AllocError> {
+        let shared = Shared {
+            lines: Mutex::new(WaitingLines::new(alloc)),
+            came: Condvar::new(),
+        };
+        Ok(LineQueue {
+            shared: Arc::new(alloc, shared)?,
+        })
+    }
+
+    /// Another end. `Err` where there are too many.
+    pub fn again(&self) -> Result<LineQueue, AllocError> {
+        Ok(LineQueue {
+            shared: Arc::try_clone(&self.shared)?,
+        })
+    }
+
+    /// Puts a line, which has no end of a line.
+    pub fn put<R: Wait>(&self, rt: &R, text: String) {
+        let mut lines = self.shared.lines.lock(rt);
+        lines.add(text);
+        drop(lines);
+        self.shared.came.notify_one();
+    }
+
+    /// Waits for what is to be written next. What was taken before counts as written from here on.
+    pub fn take<R: Wait>(&self, rt: &R) -> NextLine {
+        let mut lines = self.shared.lines.lock(rt);
+        lines.is_writing = false;
+        for _ in rt.forever() {
+            if let Some(next) = lines.next() {
+                lines.is_writing = true;
+                return next;
+            }
+            lines = self.shared.came.wait(rt, lines);
+        }
+        unreachable!()
+    }
+
+    /// Whether all that was put is written.
+    pub fn is_written<R: Wait>(&self, rt: &R) -> bool {
+        self.shared.lines.lock(rt).is_written()
+    }
+}
