@@ -73,7 +73,7 @@ impl<'a, R: Wait + Copy + Drop, L: Replies, W: Notes> Dispatcher<'a, R, L, W> {
         if state.role.leads() {
             self.queues.heard.note_leads(self.id, voters);
         } else {
-            self.queues.heard.note_follows();
+            self.queues.heard.note_follows(state.leader.is_some());
         }
     }
 

@@ -12,6 +12,7 @@ mod place;
 mod places;
 mod rooms;
 mod stream;
+mod transaction;
 
 pub use laws::each_number_lives_once;
 pub use limits::{MAX_COMMON_BYTES, MAX_CONNECTIONS, MAX_PLACE_BYTES, MAX_SOCKETS};

@@ -9,6 +9,7 @@ use crate::limits::{
 };
 use crate::outflow::{CutCause, Flushed, Outflow};
 use crate::stream::{ReadOutcome, ReadyStream};
+use crate::transaction::TransactionState;
 use dq_base::Bytes;
 use std::alloc::Global;
 use wire_words::WireBytes;
@@ -26,6 +27,7 @@ pub(crate) struct Place<S: ReadyStream> {
     is_ended: bool,
     is_closing: bool,
     is_peer: bool,
+    transaction: TransactionState,
     heard_at: u64,
     moved_at: u64,
 }
@@ -42,6 +44,7 @@ impl<S: ReadyStream> Place<S> {
             is_ended: false,
             is_closing: false,
             is_peer: false,
+            transaction: TransactionState::Absent,
             heard_at: 0,
             moved_at: 0,
         }
@@ -54,6 +57,7 @@ impl<S: ReadyStream> Place<S> {
         self.is_ended = false;
         self.is_closing = false;
         self.is_peer = false;
+        self.transaction = TransactionState::Absent;
         self.heard_at = now;
         self.moved_at = now;
     }
@@ -104,9 +108,27 @@ impl<S: ReadyStream> Place<S> {
         self.may_hand_on() && (self.is_readable || self.inflow.has_piece())
     }
 
-    /// Whether a peer speaks, and its next message begins with the next piece.
-    pub(crate) fn begins_peers_message(&self) -> bool {
-        self.is_peer && self.inflow.is_at_head()
+    /// Whether a peer speaks.
+    pub(crate) fn is_peer(&self) -> bool {
+        self.is_peer
+    }
+
+    /// Whether the next bytes are the first ones of a message.
+    pub(crate) fn is_at_head(&self) -> bool {
+        self.inflow.is_at_head()
+    }
+
+    /// Notes a whole message of a client.
+    pub(crate) fn note_message(&mut self, message: &[u8]) {
+        self.transaction = self.transaction.after_message(message);
+    }
+
+    /// Whether a client with a transaction has said nothing for this time, in milliseconds, and nothing waits for it.
+    pub(crate) fn has_idle_transaction(&self, now: u64, most: u64) -> bool {
+        self.stream.is_some()
+            && self.transaction.is_open()
+            && self.outflow.is_empty()
+            && now.saturating_sub(self.heard_at) > most
     }
 
     /// Whether a message of the connection may be handed on: not while a reply waits, nor before it is closed.
@@ -225,6 +247,7 @@ impl<S: ReadyStream> Place<S> {
         if self.outflow.is_empty() {
             self.moved_at = now;
         }
+        self.transaction = self.transaction.after_reply(reply.as_slice());
         self.outflow.add(reply)?;
         self.flush(now)
     }

@@ -129,7 +129,10 @@ impl<R: Wait + Copy + Drop, T: Drop> TcpHost<R, T> {
         if matches!(event, Some(Event::Beat)) {
             let mut places = self.places.lock(&self.rt);
             places.tick(moment_of(&self.sockets));
+            let idle = places.take_idle_count();
             poller.accept(&mut places);
+            drop(places);
+            self.tell_idle(idle);
         }
         event
     }
@@ -141,6 +144,7 @@ impl<R: Wait + Copy + Drop, T: Drop> TcpHost<R, T> {
     {
         let poller = self.poller.as_mut()?;
         let mut places = self.places.lock(&self.rt);
+        places.hold_clients(self.contact.holds_clients());
         if self.turns == 0 {
             poller.look(&mut places);
             self.turns = places.ready_count();
@@ -159,6 +163,24 @@ impl<R: Wait + Copy + Drop, T: Drop> TcpHost<R, T> {
             return None;
         }
         event
+    }
+
+    /// Has a line that connections were closed because of idle transactions, if any were.
+    fn tell_idle(&self, count: u64) {
+        if count == 0 {
+            return;
+        }
+        let alloc = self.sockets.alloc();
+        if let Ok(line) = format!(in alloc; "{count} connections closed: a transaction was idle") {
+            self.lines.put(&self.rt, line);
+        }
+    }
+
+    /// Has the connection of a client closed that has a transaction and says nothing for this time, in seconds; 0 for any time.
+    pub fn limit_idle_transactions(&mut self, seconds: u64) {
+        self.places
+            .lock(&self.rt)
+            .limit_idle_transactions(seconds.saturating_mul(1_000));
     }
 
     /// Notes what a message of a peer says, and says whether the message is lost.

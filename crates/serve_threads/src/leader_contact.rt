@@ -13,6 +13,9 @@ use std::sync::atomic::{AtomicU64, Ordering};
 /// for election.
 const MAX_SETTLED_BEATS: u64 = 8;
 
+/// For how many heartbeats' time clients' messages wait after the node handed its leadership over: one second.
+const MAX_HELD_BEATS: u64 = 10;
+
 /// What is known, each as a number of its own.
 #[derive(Drop)]
 struct Contact {
@@ -24,6 +27,8 @@ struct Contact {
     voters: AtomicU64,
     /// The servers that acknowledged since a majority last had.
     acked: AtomicU64,
+    /// For how many heartbeats' time clients' messages still wait.
+    held_beats: AtomicU64,
 }
 
 /// One end of what a node's threads know of its leadership: whether it hears a leader, and whether it is acknowledged while it leads.
@@ -57,6 +62,7 @@ impl LeaderContact {
             quiet_beats: AtomicU64::new(MAX_SETTLED_BEATS),
             voters: AtomicU64::new(0),
             acked: AtomicU64::new(0),
+            held_beats: AtomicU64::new(0),
         };
         Ok(LeaderContact {
             shared: Arc::new(alloc, contact)?,
@@ -78,6 +84,11 @@ impl LeaderContact {
         if answers_leader(message) {
             self.shared.quiet_beats.store(0, Ordering::SeqCst);
         }
+        if matches!(message.what, MessageBody::TimeoutNow) {
+            self.shared
+                .held_beats
+                .store(MAX_HELD_BEATS, Ordering::SeqCst);
+        }
     }
 
     /// Notes that the node of this id leads these voters. It acknowledges itself.
@@ -86,10 +97,13 @@ impl LeaderContact {
         self.note_ack(id);
     }
 
-    /// Notes that the node doesn't lead.
-    pub fn note_follows(&self) {
+    /// Notes that the node doesn't lead, and whether it knows who does.
+    pub fn note_follows(&self, is_led: bool) {
         self.shared.voters.store(0, Ordering::SeqCst);
         self.shared.acked.store(0, Ordering::SeqCst);
+        if is_led {
+            self.shared.held_beats.store(0, Ordering::SeqCst);
+        }
     }
 
     /// Notes that a server acknowledged something.
@@ -121,6 +135,15 @@ impl LeaderContact {
     /// The time of a heartbeat has passed.
     pub fn count_beat(&self) {
         self.shared.quiet_beats.fetch_add(1, Ordering::SeqCst);
+        let held = self.shared.held_beats.load(Ordering::SeqCst);
+        if held > 0 {
+            self.shared.held_beats.store(held - 1, Ordering::SeqCst);
+        }
+    }
+
+    /// Whether clients' messages wait: the node handed its leadership over within the last second, and knows no leader since.
+    pub fn holds_clients(&self) -> bool {
+        self.shared.held_beats.load(Ordering::SeqCst) > 0
     }
 
     /// Whether the node answered its leader within the last 0.8 s, or led and was acknowledged by a majority.

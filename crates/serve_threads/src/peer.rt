@@ -9,11 +9,12 @@ use std::sync::Wait;
 use std::time::Clock;
 use wire_words::{WireBytes, WireText};
 
-/// How long a connection may be idle until the next message goes over a new one, in seconds: a peer closes a connection over which nothing came for 60.
-const MAX_IDLE_SECONDS: u64 = 30;
+/// How long a connection may be idle until the next message goes over a new one, in milliseconds. A peer that was started again has closed the
+/// connection, which shows only after a write: a vote that is sent once would be lost.
+const MAX_IDLE_MS: u64 = 1_000;
 
 /// Sends messages to one peer, over a connection that it dials. If the connection fails it is dropped, and the same holds for the message; the next one
-/// has the peer dialled again, and so has one that comes 30 seconds after the last one. It has a line when the connection is up, and one when
+/// has the peer dialled again, and so has one that comes more than a second after the last one. It has a line when the connection is up, and one when
 /// it has failed.
 #[derive(Drop)]
 pub struct Peer<R: Wait + Clock + Copy + Drop, D: PeerDialer> {
@@ -42,8 +43,8 @@ impl<R: Wait + Clock + Copy + Drop, D: PeerDialer> Peer<R, D> {
             let Some(message) = self.queue.take(&self.rt) else {
                 return;
             };
-            let now = self.seconds();
-            if now.saturating_sub(sent_at) > MAX_IDLE_SECONDS {
+            let now = self.moment();
+            if now.saturating_sub(sent_at) > MAX_IDLE_MS {
                 connection = None;
             }
             sent_at = now;
@@ -51,10 +52,13 @@ impl<R: Wait + Clock + Copy + Drop, D: PeerDialer> Peer<R, D> {
         }
     }
 
-    /// Seconds since a moment that doesn't change; 0 if no clock can be read.
-    fn seconds(&self) -> u64 {
+    /// Milliseconds since a moment that doesn't change; 0 if no clock can be read.
+    fn moment(&self) -> u64 {
         match self.rt.monotonic() {
-            Ok(time) => time.as_secs(),
+            Ok(time) => time
+                .as_secs()
+                .saturating_mul(1_000)
+                .saturating_add(time.subsec_millis() as u64),
             Err(_) => 0,
         }
     }

@@ -21,6 +21,8 @@ mod script;
 #[cfg(test)]
 mod served;
 #[cfg(test)]
+mod signs;
+#[cfg(test)]
 mod taps;
 #[cfg(test)]
 mod workers;
