@@ -23,8 +23,7 @@ const LOOK_MS: u64 = 10;
 /// Has lines written on the error stream. Those of a served node wait in a queue for a thread that writes them, so that the node never
 /// waits for who reads the stream. A line that can't be written, or for which memory runs out, is lost.
 #[derive(Drop)]
-pub struct ErrorStream<R: Wait + Clock + Copy + Drop> {
-    waits: R,
+pub struct ErrorStream {
     rt: HostRuntime,
     lines: LineQueue,
     has_writer: bool,
@@ -68,11 +67,10 @@ fn line_of(rt: &HostRuntime, note: Note<'_>) -> Result<String, AllocError> {
     }
 }
 
-impl<R: Wait + Clock + Copy + Drop> ErrorStream<R> {
-    /// The error stream of the process, with the queue of its lines. The runtime is passed twice, once for waits and once for the stream.
-    pub fn new(waits: R, rt: HostRuntime, lines: LineQueue) -> ErrorStream<R> {
+impl ErrorStream {
+    /// The error stream of the process, with the queue of its lines.
+    pub fn new(rt: HostRuntime, lines: LineQueue) -> ErrorStream {
         ErrorStream {
-            waits,
             rt,
             lines,
             has_writer: false,
@@ -80,12 +78,12 @@ impl<R: Wait + Clock + Copy + Drop> ErrorStream<R> {
     }
 
     /// Has lines wait in the queue from here on, for a thread that writes them. If there is no thread, it says so.
-    pub fn begin_queue(&mut self) -> io::Result<()>
-    where
-        R: Threads + Send + 'static,
-    {
+    pub fn begin_queue<R: Threads + Wait + Copy + Drop + Send + 'static>(
+        &mut self,
+        waits: R,
+    ) -> io::Result<()> {
         let started = match self.lines.again() {
-            Ok(lines) => start_writer(self.waits, self.rt, lines),
+            Ok(lines) => start_writer(waits, self.rt, lines),
             Err(_) => Err(ErrorKind::OutOfMemory.into()),
         };
         match started {
@@ -101,12 +99,12 @@ impl<R: Wait + Clock + Copy + Drop> ErrorStream<R> {
     }
 
     /// Waits until all lines are written, at most for a second.
-    pub fn finish(&self) {
+    pub fn finish<R: Wait + Clock>(&self, waits: &R) {
         for _ in 0..MAX_LOOKS {
-            if !self.has_writer || self.lines.is_written(&self.waits) {
+            if !self.has_writer || self.lines.is_written(waits) {
                 return;
             }
-            thread::sleep(&self.waits, Duration::from_millis(LOOK_MS));
+            thread::sleep(waits, Duration::from_millis(LOOK_MS));
         }
     }
 
@@ -116,7 +114,7 @@ impl<R: Wait + Clock + Copy + Drop> ErrorStream<R> {
             return;
         };
         if self.has_writer {
-            self.lines.put(&self.waits, line);
+            self.lines.put(line);
         } else {
             let _ = eprintln!(self.rt; "{line}");
         }
@@ -144,7 +142,7 @@ impl<R: Wait + Clock + Copy + Drop> ErrorStream<R> {
     }
 
     /// Says that the host failed, with the call that failed last and the system's error, if there is one.
-    pub fn tell_host<Q: Wait + Copy + Drop>(&self, host: &TcpHost<Q, Read>) {
+    pub fn tell_host<R: Wait + Copy + Drop>(&self, host: &TcpHost<R, Read>) {
         let alloc = self.rt.alloc();
         let Some(HostFault { call, error }) = host.last_fault() else {
             return;
@@ -169,7 +167,7 @@ impl<R: Wait + Clock + Copy + Drop> ErrorStream<R> {
     }
 }
 
-impl<R: Wait + Clock + Copy + Drop> Notes for ErrorStream<R> {
+impl Notes for ErrorStream {
     fn note(&mut self, note: Note<'_>) {
         self.say(line_of(&self.rt, note));
     }

@@ -28,7 +28,6 @@ use pages::{print_request, report_refusal, request_of};
 pub use program::dqnode;
 use script_cluster::ClusterJournal;
 use serve_sockets::{TcpDialer, TcpHost};
-use serve_threads::Host;
 use session_gateway::Read;
 pub use status::Status;
 use std::alloc::AllocError;
@@ -48,11 +47,11 @@ fn served(rt: &HostRuntime, words: &[String]) -> Option<Serve> {
 
 /// Takes the folder for the node that the arguments name. If it is another node's, or if the disk fails, the error stream says so, and
 /// the disk is refused, so that the node doesn't start.
-fn take_folder<R: Wait + Clock + Copy + Drop>(
+fn take_folder(
     rt: &HostRuntime,
     words: &Serve,
     disk: &mut DirDisk<HostRuntime>,
-    errors: &ErrorStream<R>,
+    errors: &ErrorStream,
 ) -> Result<(), AllocError> {
     match owner_of(rt.alloc(), words, disk) {
         Ok(FolderOwner::Ours) => return Ok(()),
@@ -67,25 +66,26 @@ fn take_folder<R: Wait + Clock + Copy + Drop>(
 /// The status with which the program ends before it serves the node that the arguments name, if it does: its lines need a thread, and the
 /// folder is taken for it.
 fn begin_serving<R: Threads + Wait + Clock + Copy + Drop + Send + 'static>(
+    waits: R,
     rt: &HostRuntime,
     words: &Serve,
     disk: &mut DirDisk<HostRuntime>,
-    errors: &mut ErrorStream<R>,
+    errors: &mut ErrorStream,
 ) -> Option<Status> {
-    if errors.begin_queue().is_err() {
+    if errors.begin_queue(waits).is_err() {
         return Some(Status::HostFault);
     }
     if take_folder(rt, words, disk, errors).is_err() {
         errors.tell_memory();
-        errors.finish();
+        errors.finish(&waits);
         return Some(Status::NoMemory);
     }
     None
 }
 
 /// Says why a served node ended, unless the error stream says it already.
-fn tell_end<R: Wait + Clock + Copy + Drop>(
-    errors: &ErrorStream<R>,
+fn tell_end<R: Wait + Copy + Drop>(
+    errors: &ErrorStream,
     code: u8,
     disk: &DirDisk<HostRuntime>,
     host: &TcpHost<R, Read>,
@@ -113,13 +113,13 @@ fn main(rt: HostRuntime) -> ExitCode {
     let Ok(host) = TcpHost::<HostRuntime, Read>::new(rt, rt, rt.alloc()) else {
         return no_memory;
     };
-    let Ok(lines) = Host::lines(&host) else {
+    let Ok(lines) = host.lines() else {
         return no_memory;
     };
-    let mut errors = ErrorStream::new(rt, rt, lines);
+    let mut errors = ErrorStream::new(rt, lines);
     let served = served(&rt, words);
     if let Some(words) = &served {
-        if let Some(status) = begin_serving(&rt, words, &mut disk, &mut errors) {
+        if let Some(status) = begin_serving(rt, &rt, words, &mut disk, &mut errors) {
             return ExitCode::from(status.code());
         }
     }
@@ -149,6 +149,6 @@ fn main(rt: HostRuntime) -> ExitCode {
     if code == Status::Words.code() {
         report_refusal(&rt, all.as_slice());
     }
-    network.notes.finish();
+    network.notes.finish(&rt);
     ExitCode::from(code)
 }

@@ -48,7 +48,6 @@ fn reach<E: Engine + Send + Drop + 'static, H: Host<Read>>(
         address: copied(alloc, &peer.address)?,
         greeting: greeting(alloc, words.id, &words.listen)?,
         queue: queue.again()?,
-        lines: host.lines()?,
     });
     beside(host, worker)?;
     Ok(queue)

@@ -7,7 +7,7 @@ ghost use Rattle.serve_threads.specs.Counts.{Does, one_listen, one_worker};
 use crate::mem_dialer::MemPeerDialer;
 use dq_base::{Calls, Failed};
 use serve_threads::{
-    ChannelInbox, ChannelPost, Host, HostCounts, LeaderContact, LineQueue, NoReplies, event_channel,
+    ChannelInbox, ChannelPost, Host, HostCounts, LeaderContact, NoReplies, event_channel,
 };
 use serve_traits::{Event, Inbox};
 use std::alloc::{AllocError, Global};
@@ -25,7 +25,6 @@ pub struct MemHost<R: Wait + Copy + Drop, T: Drop> {
     inbox: ChannelInbox<R, T>,
     pub(crate) post: ChannelPost<R, T>,
     pub(crate) contact: LeaderContact,
-    pub(crate) lines: LineQueue,
     asked: u64,
     pub(crate) done: HostCounts,
     pub(crate) calls: Calls,
@@ -40,7 +39,6 @@ impl<R: Wait + Copy + Drop, T: Drop> MemHost<R, T> {
             inbox,
             post,
             contact: LeaderContact::new(alloc)?,
-            lines: LineQueue::new(alloc)?,
             asked: 0,
             done: HostCounts::new(),
             calls: Calls::new(fails),
@@ -144,10 +142,6 @@ impl<R: Threads + Wait + Clock + Copy + Drop + Send + 'static, T: Drop> Host<T> 
 
     fn replies(&self) -> Result<NoReplies, AllocError> {
         Ok(NoReplies)
-    }
-
-    fn lines(&self) -> Result<LineQueue, AllocError> {
-        self.lines.again()
     }
 
     fn contact(&self) -> Result<LeaderContact, AllocError> {

@@ -89,6 +89,11 @@ impl<R: Wait + Copy + Drop, T: Drop> TcpHost<R, T> {
         })
     }
 
+    /// An end of the lines that the host has for the error stream.
+    pub fn lines(&self) -> Result<LineQueue, AllocError> {
+        self.lines.again()
+    }
+
     /// The call that failed last, if one did.
     pub fn last_fault(&self) -> Option<&HostFault> {
         self.last_fault.as_ref()
@@ -172,7 +177,7 @@ impl<R: Wait + Copy + Drop, T: Drop> TcpHost<R, T> {
         }
         let alloc = self.sockets.alloc();
         if let Ok(line) = format!(in alloc; "{count} connections closed: a transaction was idle") {
-            self.lines.put(&self.rt, line);
+            self.lines.put(line);
         }
     }
 
@@ -251,10 +256,6 @@ impl<R: Threads + Wait + Clock + Copy + Drop + Send + 'static, T: Drop> Host<T> 
         })
     }
 
-    fn lines(&self) -> Result<LineQueue, AllocError> {
-        self.lines.again()
-    }
-
     fn contact(&self) -> Result<LeaderContact, AllocError> {
         self.contact.again()
     }
@@ -275,7 +276,10 @@ impl<R: Threads + Wait + Clock + Copy + Drop + Send + 'static, T: Drop> Host<T> 
     }
 
     fn dialer(&mut self) -> Result<TcpPeerDialer, Failed> {
-        Ok(TcpPeerDialer::new(self.sockets))
+        let Ok(lines) = self.lines.again() else {
+            return Err(self.fail("start a thread", None));
+        };
+        Ok(TcpPeerDialer::new(self.sockets, lines))
     }
 
     fn moment(&mut self) -> u64 {

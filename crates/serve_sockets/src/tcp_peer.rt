@@ -6,7 +6,9 @@ ghost use Rattle.serve_threads.specs.Counts.{IsCounted};
 use crate::stream;
 use crate::stream::write_whole;
 use dq_base::Failed;
+use serve_threads::LineQueue;
 use serve_traits::{PeerConnection, PeerDialer};
+use std::alloc::AllocError;
 use std::io;
 use std::net::TcpStream;
 use std::time::Duration;
@@ -16,10 +18,42 @@ const PEER_SECONDS: u64 = 10;
 
 /// A connection over a TCP socket that was dialed. It says nothing of content. A message is written in one write, and goes out at once; a
 /// write of which only a front was taken has failed, since its time was over. An interrupted call is tried again, up to 1,000 times in a row.
+///
+/// The error stream gets a line when the connection is up, and one when a write fails.
 #[derive(Drop)]
 pub struct TcpPeerConnection {
     stream: TcpStream,
     faults: u64,
+    announced: Option<Announced>,
+}
+
+/// A connection of which the error stream has a line.
+#[derive(Drop)]
+struct Announced {
+    rt: HostRuntime,
+    lines: LineQueue,
+    address: String,
+}
+
+impl Announced {
+    /// Says that a connection to this address is up.
+    fn up(rt: HostRuntime, lines: &LineQueue, address: &str) -> Result<Announced, AllocError> {
+        let announced = Announced {
+            rt,
+            lines: lines.again()?,
+            address: String::from_str(rt.alloc(), address)?,
+        };
+        announced.say("up");
+        Ok(announced)
+    }
+
+    /// Says that the connection is up or down. If memory runs out the line is left out.
+    fn say(&self, state: &str) {
+        let address = self.address.as_str();
+        if let Ok(line) = format!(in self.rt.alloc(); "link to {address} {state}") {
+            self.lines.put(line);
+        }
+    }
 }
 
 /// A connection to an address, of which a write takes at most ten seconds.
@@ -31,9 +65,27 @@ fn open(rt: &HostRuntime, address: &str) -> io::Result<TcpStream> {
 }
 
 impl TcpPeerConnection {
-    /// A connection that was dialed.
-    fn new(stream: TcpStream) -> TcpPeerConnection {
-        TcpPeerConnection { stream, faults: 0 }
+    /// A connection that was dialed, which the error stream says is up. If memory runs out, it says nothing of it.
+    fn new(
+        rt: HostRuntime,
+        lines: &LineQueue,
+        address: &str,
+        stream: TcpStream,
+    ) -> TcpPeerConnection {
+        TcpPeerConnection {
+            stream,
+            faults: 0,
+            announced: Announced::up(rt, lines, address).ok(),
+        }
+    }
+
+    /// Says that the connection is down, once.
+    fn announce_end(&mut self)
+        ensures { self.new.faults ≡ self.old.faults }
+    {
+        if let Some(announced) = self.announced.take() {
+            announced.say("down");
+        }
     }
 
     /// Counts a call that failed.
@@ -53,7 +105,10 @@ impl PeerConnection for TcpPeerConnection {
     fn write_all(&mut self, bytes: &[u8]) -> Result<(), Failed> {
         match write_whole(&mut &self.stream, bytes) {
             Ok(()) => Ok(()),
-            Err(_) => Err(self.fail()),
+            Err(_) => {
+                self.announce_end();
+                Err(self.fail())
+            }
         }
     }
 }
@@ -62,13 +117,18 @@ impl PeerConnection for TcpPeerConnection {
 #[derive(Drop)]
 pub struct TcpPeerDialer {
     rt: HostRuntime,
+    lines: LineQueue,
     faults: u64,
 }
 
 impl TcpPeerDialer {
-    /// A dialer that did nothing yet.
-    pub(crate) fn new(rt: HostRuntime) -> TcpPeerDialer {
-        TcpPeerDialer { rt, faults: 0 }
+    /// A dialer that did nothing yet. The lines of its connections go to this queue.
+    pub(crate) fn new(rt: HostRuntime, lines: LineQueue) -> TcpPeerDialer {
+        TcpPeerDialer {
+            rt,
+            lines,
+            faults: 0,
+        }
     }
 
     /// Counts a call that failed.
@@ -87,7 +147,7 @@ impl PeerDialer for TcpPeerDialer {
 
     fn dial(&mut self, address: &str) -> Result<TcpPeerConnection, Failed> {
         match open(&self.rt, address) {
-            Ok(stream) => Ok(TcpPeerConnection::new(stream)),
+            Ok(stream) => Ok(TcpPeerConnection::new(self.rt, &self.lines, address, stream)),
             Err(_) => Err(self.fail()),
         }
     }

@@ -2,7 +2,6 @@
 
 use crate::channel::ChannelPost;
 use crate::leader_contact::LeaderContact;
-use crate::lines::LineQueue;
 use crate::replies::Replies;
 use dq_base::Failed;
 use serve_traits::{Inbox, PeerDialer};
@@ -46,9 +45,6 @@ pub trait Host<T: Drop>: Inbox<T> {
     /// An end of what the threads of the node know of its leadership. The host notes there which peers acknowledge, and may look there
     /// whether the node hears a leader.
     fn contact(&self) -> Result<LeaderContact, AllocError>;
-
-    /// An end at which lines for the error stream are put.
-    fn lines(&self) -> Result<LineQueue, AllocError>;
 
     /// Listens at an address, as `localhost:9001`. What comes there are events from then on.
     fn listen(&mut self, address: &str) -> Result<(), Failed>

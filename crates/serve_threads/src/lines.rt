@@ -4,10 +4,14 @@ ghost use Rattle.std.specs.Prelude.{◌≤◌, length};
 
 use std::alloc::{AllocError, Global};
 use std::collections::VecDeque;
+use std::sync::atomic::{AtomicU64, Ordering};
 use std::sync::{Arc, Condvar, Mutex, Wait};
 
 /// How many lines may wait.
 const MAX_LINES: usize = 256;
+
+/// How many times a line is tried to be put while another thread touches the queue.
+const MAX_TRIES: u64 = 10_000;
 
 /// What is to be written next.
 #[derive(Drop)]
@@ -55,6 +59,11 @@ impl WaitingLines {
         }
     }
 
+    /// This many lines more were left out.
+    fn leave_out(&mut self, count: u64) {
+        self.left_out = self.left_out.saturating_add(count);
+    }
+
     /// Takes what is to be written next, if there is something.
     fn next(&mut self) -> Option<NextLine> {
         if let Some(next) = self.waiting.pop_front() {
@@ -78,9 +87,10 @@ impl WaitingLines {
 struct Shared {
     lines: Mutex<WaitingLines>,
     came: Condvar,
+    missed: AtomicU64,
 }
 
-/// One end of a queue of lines. Who puts a line never waits for who writes it: of more than 256 that wait the new ones are left out, and
+/// One end of a queue of lines. Who puts a line never waits, and never sleeps: of more than 256 that wait the new ones are left out, and
 /// counted.
 #[derive(Drop)]
 pub struct LineQueue {
@@ -93,6 +103,7 @@ impl LineQueue {
         let shared = Shared {
             lines: Mutex::new(WaitingLines::new(alloc)),
             came: Condvar::new(),
+            missed: AtomicU64::new(0),
         };
         Ok(LineQueue {
             shared: Arc::new(alloc, shared)?,
@@ -106,12 +117,17 @@ impl LineQueue {
         })
     }
 
-    /// Puts a line, which has no end of a line.
-    pub fn put<R: Wait>(&self, rt: &R, text: String) {
-        let mut lines = self.shared.lines.lock(rt);
-        lines.add(text);
-        drop(lines);
-        self.shared.came.notify_one();
+    /// Puts a line, which has no end of a line. It is left out if others touch the queue all the time.
+    pub fn put(&self, text: String) {
+        for _ in 0..MAX_TRIES {
+            if let Some(mut lines) = self.shared.lines.try_lock() {
+                lines.add(text);
+                drop(lines);
+                self.shared.came.notify_one();
+                return;
+            }
+        }
+        self.shared.missed.fetch_add(1, Ordering::SeqCst);
     }
 
     /// Waits for what is to be written next. What was taken before counts as written from here on.
@@ -119,6 +135,7 @@ impl LineQueue {
         let mut lines = self.shared.lines.lock(rt);
         lines.is_writing = false;
         for _ in rt.forever() {
+            lines.leave_out(self.shared.missed.swap(0, Ordering::SeqCst));
             if let Some(next) = lines.next() {
                 lines.is_writing = true;
                 return next;

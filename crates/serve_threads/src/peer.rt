@@ -1,6 +1,5 @@
 //! The connection to a peer.
 
-use crate::lines::LineQueue;
 use crate::peer_queue::PeerQueue;
 use raft_messages::{RaftMessage, write_message};
 use serve_traits::{PeerConnection, PeerDialer};
@@ -14,8 +13,7 @@ use wire_words::{WireBytes, WireText};
 const MAX_IDLE_MS: u64 = 1_000;
 
 /// Sends messages to one peer, over a connection that it dials. If the connection fails it is dropped, and the same holds for the message; the next one
-/// has the peer dialled again, and so has one that comes more than a second after the last one. It has a line when the connection is up, and one when
-/// it has failed.
+/// has the peer dialled again, and so has one that comes more than a second after the last one.
 #[derive(Drop)]
 pub struct Peer<R: Wait + Clock + Copy + Drop, D: PeerDialer> {
     /// For the bytes of messages, of which there is one at a time.
@@ -30,8 +28,6 @@ pub struct Peer<R: Wait + Clock + Copy + Drop, D: PeerDialer> {
     pub greeting: WireBytes,
     /// The messages.
     pub queue: PeerQueue,
-    /// Where its lines go.
-    pub lines: LineQueue,
 }
 
 impl<R: Wait + Clock + Copy + Drop, D: PeerDialer> Peer<R, D> {
@@ -76,10 +72,7 @@ impl<R: Wait + Clock + Copy + Drop, D: PeerDialer> Peer<R, D> {
         let Ok(bytes) = write_message(self.alloc, message) else {
             return Some(connection);
         };
-        if connection.write_all(bytes.as_slice()).is_err() {
-            self.say("down");
-            return None;
-        }
+        connection.write_all(bytes.as_slice()).ok()?;
         Some(connection)
     }
 
@@ -87,15 +80,6 @@ impl<R: Wait + Clock + Copy + Drop, D: PeerDialer> Peer<R, D> {
     fn dial(&mut self) -> Option<D::Connection> {
         let mut connection = self.dialer.dial(self.address.as_str()).ok()?;
         connection.write_all(self.greeting.as_slice()).ok()?;
-        self.say("up");
         Some(connection)
-    }
-
-    /// Has a line that the connection is up, or down. If memory runs out it is left out.
-    fn say(&self, state: &str) {
-        let address = self.address.as_str();
-        if let Ok(line) = format!(in self.alloc; "link to {address} {state}") {
-            self.lines.put(&self.rt, line);
-        }
     }
 }

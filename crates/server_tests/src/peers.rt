@@ -3,7 +3,7 @@
 use crate::taps::{Deeds, TapDialer};
 use dq_base::{Calls, Items};
 use raft_messages::{LogEnd, MessageBody, RaftMessage};
-use serve_threads::{LineQueue, Peer, PeerQueue};
+use serve_threads::{Peer, PeerQueue};
 use std::alloc::Global;
 use std::sync::Wait;
 use std::test::*;
@@ -87,7 +87,6 @@ fn sends<R: Wait + Clock + Copy + Drop>(
         address: WireText::new(String::new(alloc)),
         greeting: Items::new(Vec::from_slice(alloc, b"0123456789abcdefg").ok()?),
         queue: queue.again().ok()?,
-        lines: LineQueue::new(alloc).ok()?,
     };
     for &(term, is_bulk) in put {
         queue.put(&rt, message(alloc, term as u64, is_bulk));

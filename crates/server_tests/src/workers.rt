@@ -80,7 +80,6 @@ fn sends<H: Host<u8>>(host: &mut H, alloc: Global, address: String) -> Option<bo
         address: WireText::new(address),
         greeting: Items::new(Vec::from_slice(alloc, GREETING).ok()?),
         queue: queue.again().ok()?,
-        lines: host.lines().ok()?,
     };
     beside::<Next, H>(host, Worker::Peer(peer)).ok()?;
     let message = RaftMessage {
