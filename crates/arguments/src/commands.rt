@@ -100,7 +100,8 @@ fn served_options<'a>(alloc: Global) -> Result<Command<'a>, AllocError>
 {
     plain(alloc, "serve")
         .arg(option(alloc, "engine"))?
-        .arg(option(alloc, "events"))
+        .arg(option(alloc, "events"))?
+        .arg(flag(alloc, "new"))
 }
 
 /// The command of the arguments after `serve`.

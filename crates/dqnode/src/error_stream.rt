@@ -1,5 +1,6 @@
 //! Lines on the error stream.
 
+use crate::founding::FolderRefusal;
 use folder_disk::DirDisk;
 use serve_node::{Note, Notes};
 use serve_sockets::{HostFault, TcpHost};
@@ -120,11 +121,30 @@ impl ErrorStream {
         }
     }
 
-    /// Says that the folder is another node's, by what its file says.
-    pub fn tell_owner(&self, held: &str) {
-        let held = held.trim_end();
-        self.say(format!(in self.rt.alloc();
-            "status 5: the words name another node or other voters than the folder's file `node`, which says: {held}"
+    /// Says why a node doesn't get its folder.
+    pub fn tell_refusal(&self, refusal: &FolderRefusal) {
+        let alloc = self.rt.alloc();
+        self.say(match refusal {
+            FolderRefusal::NoNode => String::from_str(
+                alloc,
+                "status 5: the folder has no file `node`: make a new node with --new; if this node is not new its files are missing, as where a disk is not mounted",
+            ),
+            FolderRefusal::HasNode(held) => format!(in alloc;
+                "status 5: --new makes a new node, and the folder has one, whose file `node` says: {}",
+                held.as_str().trim_end()
+            ),
+            FolderRefusal::Another(held) => format!(in alloc;
+                "status 5: the words name another node or other voters than the folder's file `node`, which says: {}",
+                held.as_str().trim_end()
+            ),
+        });
+    }
+
+    /// Says that the process is the superuser's.
+    pub fn tell_root(&self) {
+        self.say(String::from_str(
+            self.rt.alloc(),
+            "running as root, which the node does not need",
         ));
     }
 

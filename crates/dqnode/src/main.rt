@@ -9,6 +9,7 @@ mod founding;
 mod generating;
 mod network;
 mod pages;
+mod process;
 mod program;
 mod script_bytes;
 mod scripts;
@@ -22,9 +23,10 @@ use disk_model::DiskFault;
 use dq_base::{ReadSource, WriteSink};
 use error_stream::ErrorStream;
 use folder_disk::DirDisk;
-use founding::{FolderOwner, owner_of};
+use founding::{claim, refusal_of};
 pub use network::Network;
 use pages::{print_request, report_refusal, request_of};
+use process::{is_root, open_streams};
 pub use program::dqnode;
 use script_cluster::ClusterJournal;
 use serve_sockets::{TcpDialer, TcpHost};
@@ -45,17 +47,40 @@ fn served(rt: &HostRuntime, words: &[String]) -> Option<Serve> {
     }
 }
 
-/// Takes the folder for the node that the arguments name. If it is another node's, or if the disk fails, the error stream says so, and
-/// the disk is refused, so that the node doesn't start.
-fn take_folder(
+/// Has the folder say that it is of the node that the arguments name. A new node binds its address first, so that a start that can't listen
+/// leaves nothing; the node ends when it is to listen there.
+fn claim_folder<R: Wait + Copy + Drop>(
     rt: &HostRuntime,
     words: &Serve,
     disk: &mut DirDisk<HostRuntime>,
+    host: &mut TcpHost<R, Read>,
+) -> Result<(), DiskFault> {
+    if words.new && !host.bind(words.listen.as_str()) {
+        return Ok(());
+    }
+    claim(rt.alloc(), words, disk)
+}
+
+/// Takes the folder for the node that the arguments name. If it doesn't get the folder, or if the disk fails, the error stream says so, and
+/// the disk is refused, so that the node doesn't start.
+fn take_folder<R: Wait + Copy + Drop>(
+    rt: &HostRuntime,
+    words: &Serve,
+    disk: &mut DirDisk<HostRuntime>,
+    host: &mut TcpHost<R, Read>,
     errors: &ErrorStream,
 ) -> Result<(), AllocError> {
-    match owner_of(rt.alloc(), words, disk) {
-        Ok(FolderOwner::Ours) => return Ok(()),
-        Ok(FolderOwner::Another(held)) => errors.tell_owner(held.as_str()),
+    let claimed = match refusal_of(rt.alloc(), words, disk) {
+        Ok(None) => claim_folder(rt, words, disk, host),
+        Ok(Some(refusal)) => {
+            errors.tell_refusal(&refusal);
+            disk.refuse();
+            return Ok(());
+        }
+        Err(fault) => Err(fault),
+    };
+    match claimed {
+        Ok(()) => return Ok(()),
         Err(DiskFault::Failed) => errors.tell_disk(disk),
         Err(DiskFault::NoMemory) => return Err(AllocError),
     }
@@ -70,12 +95,16 @@ fn begin_serving<R: Threads + Wait + Clock + Copy + Drop + Send + 'static>(
     rt: &HostRuntime,
     words: &Serve,
     disk: &mut DirDisk<HostRuntime>,
+    host: &mut TcpHost<R, Read>,
     errors: &mut ErrorStream,
 ) -> Option<Status> {
     if errors.begin_queue(waits).is_err() {
         return Some(Status::HostFault);
     }
-    if take_folder(rt, words, disk, errors).is_err() {
+    if is_root(rt) {
+        errors.tell_root();
+    }
+    if take_folder(rt, words, disk, host, errors).is_err() {
         errors.tell_memory();
         errors.finish(&waits);
         return Some(Status::NoMemory);
@@ -99,6 +128,7 @@ fn tell_end<R: Wait + Copy + Drop>(
 }
 
 fn main(rt: HostRuntime) -> ExitCode {
+    open_streams(&rt);
     let no_memory = ExitCode::from(Status::NoMemory.code());
     let Ok(all) = words::given(&rt) else {
         return no_memory;
@@ -110,7 +140,7 @@ fn main(rt: HostRuntime) -> ExitCode {
     let Ok(mut disk) = DirDisk::new(rt) else {
         return no_memory;
     };
-    let Ok(host) = TcpHost::<HostRuntime, Read>::new(rt, rt, rt.alloc()) else {
+    let Ok(mut host) = TcpHost::<HostRuntime, Read>::new(rt, rt, rt.alloc()) else {
         return no_memory;
     };
     let Ok(lines) = host.lines() else {
@@ -119,7 +149,8 @@ fn main(rt: HostRuntime) -> ExitCode {
     let mut errors = ErrorStream::new(rt, lines);
     let served = served(&rt, words);
     if let Some(words) = &served {
-        if let Some(status) = begin_serving(rt, &rt, words, &mut disk, &mut errors) {
+        let ended = begin_serving(rt, &rt, words, &mut disk, &mut host, &mut errors);
+        if let Some(status) = ended {
             return ExitCode::from(status.code());
         }
     }

@@ -31,9 +31,17 @@ fn moment_of(rt: &HostRuntime) -> u64 {
     }
 }
 
-/// The wait for a listener at this address.
-fn listen_at(sockets: &HostRuntime, address: &str) -> io::Result<Poller> {
-    Poller::new(sockets, TcpListener::bind(sockets, address)?)
+/// The wait for a listener at this address, or for one that was bound before.
+fn listen_at(
+    sockets: &HostRuntime,
+    address: &str,
+    bound: Option<io::Result<TcpListener>>,
+) -> io::Result<Poller> {
+    let listener = match bound {
+        Some(bound) => bound?,
+        None => TcpListener::bind(sockets, address)?,
+    };
+    Poller::new(sockets, listener)
 }
 
 /// A call of a host that failed.
@@ -60,6 +68,7 @@ pub struct TcpHost<R: Wait + Copy + Drop, T: Drop> {
     contact: LeaderContact,
     lines: LineQueue,
     places: Arc<Mutex<Places<ReadySocket>>, Global>,
+    bound: Option<io::Result<TcpListener>>,
     poller: Option<Poller>,
     turns: usize,
     taken: u64,
@@ -80,6 +89,7 @@ impl<R: Wait + Copy + Drop, T: Drop> TcpHost<R, T> {
             contact: LeaderContact::new(alloc)?,
             lines: LineQueue::new(alloc)?,
             places: Arc::new(alloc, Mutex::new(Places::new(alloc)?))?,
+            bound: None,
             poller: None,
             turns: 0,
             taken: 0,
@@ -92,6 +102,18 @@ impl<R: Wait + Copy + Drop, T: Drop> TcpHost<R, T> {
     /// An end of the lines that the host has for the error stream.
     pub fn lines(&self) -> Result<LineQueue, AllocError> {
         self.lines.again()
+    }
+
+    /// Binds an address before the host listens there, and says whether that was possible. Connections that come wait. The next `listen`,
+    /// which has to be at the same address, takes over what was bound, or fails as the binding did.
+    pub fn bind(&mut self, address: &str) -> bool
+        ensures taken { self.new.taken ≡ self.old.taken }
+        ensures faults { self.new.faults ≡ self.old.faults }
+    {
+        let bound = TcpListener::bind(&self.sockets, address);
+        let is_bound = bound.is_ok();
+        self.bound = Some(bound);
+        is_bound
     }
 
     /// The call that failed last, if one did.
@@ -264,7 +286,7 @@ impl<R: Threads + Wait + Clock + Copy + Drop + Send + 'static, T: Drop> Host<T> 
         let Some(listens) = self.done.listens.checked_add(1) else {
             return Err(self.fail("listen", None));
         };
-        match listen_at(&self.sockets, address) {
+        match listen_at(&self.sockets, address, self.bound.take()) {
             Ok(poller) => {
                 self.places.lock(&self.rt).tick(moment_of(&self.sockets));
                 self.poller = Some(poller);
