@@ -104,6 +104,7 @@ fn begin_serving<R: Threads + Wait + Clock + Copy + Drop + Send + 'static>(
     if is_root(rt) {
         errors.tell_root();
     }
+    host.limit_idle_transactions(words.idle_transaction);
     if take_folder(rt, words, disk, host, errors).is_err() {
         errors.tell_memory();
         errors.finish(&waits);

@@ -48,7 +48,8 @@ Status:
 ";
 
 pub(crate) const SERVE_USAGE: &str = "\
-Usage: dqnode serve [--new] [--engine E] [--events K] ID LISTEN [N=ADDRESS]..
+Usage: dqnode serve [--new] [--engine E] [--events K] [--idle-transaction S]
+                    ID LISTEN [N=ADDRESS]..
 ";
 
 pub(crate) const SERVE_DETAILS: &str = "\
@@ -66,6 +67,9 @@ Options:
   --new       make a new node, in a folder that has none
   --engine E  sqlite, which is the default, or cells
   --events K  end after K events, 1 to 4294967295, which is the default
+  --idle-transaction S
+              close the connection of a client that has a transaction and says
+              nothing for S seconds, 0 to 86400; 60 is the default, 0 is never
   -h, --help  print this page
 
 Status:
