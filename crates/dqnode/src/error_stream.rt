@@ -4,17 +4,14 @@ use crate::founding::FolderRefusal;
 use folder_disk::DirDisk;
 use serve_node::{Note, Notes};
 use serve_sockets::{HostFault, TcpHost};
-use serve_threads::{LineQueue, NextLine};
+use serve_threads::{LineQueue, LineWriter, NextLine, write_beside};
 use session_gateway::Read;
 use std::alloc::AllocError;
 use std::io::ErrorKind;
 use std::sync::Wait;
-use std::thread::{Builder, Threads};
+use std::thread::Threads;
 use std::time::{Clock, Duration};
 use std::{io, thread};
-
-/// The room of the thread that writes lines, in bytes.
-const STACK: usize = 262_144;
 
 /// How many times the end looks whether all lines are written, and how long it waits after each look, in milliseconds.
 const MAX_LOOKS: u64 = 100;
@@ -30,28 +27,22 @@ pub struct ErrorStream {
     has_writer: bool,
 }
 
-/// Writes lines while the process is there.
-fn write_lines<R: Wait>(waits: &R, rt: HostRuntime, lines: &LineQueue) {
-    for _ in 0..u64::MAX {
-        let _ = match lines.take(waits) {
+/// Writes on the error stream.
+#[derive(Drop)]
+struct StreamWriter {
+    rt: HostRuntime,
+}
+
+impl LineWriter for StreamWriter {
+    fn write(&mut self, next: NextLine) {
+        let rt = self.rt;
+        let _ = match next {
             NextLine::Text(text) => eprintln!(rt; "{text}"),
             NextLine::LeftOut(count) => {
                 eprintln!(rt; "{count} lines were left out, since this stream was not read")
             }
         };
     }
-}
-
-/// Starts the thread that writes lines.
-fn start_writer<R: Threads + Wait + Copy + Drop + Send + 'static>(
-    waits: R,
-    rt: HostRuntime,
-    lines: LineQueue,
-) -> io::Result<()> {
-    Builder::new()
-        .stack_size(STACK)
-        .spawn(&waits, move || write_lines(&waits, rt, &lines))?;
-    Ok(())
 }
 
 /// The line of a note.
@@ -84,7 +75,7 @@ impl ErrorStream {
         waits: R,
     ) -> io::Result<()> {
         let started = match self.lines.again() {
-            Ok(lines) => start_writer(waits, self.rt, lines),
+            Ok(lines) => write_beside(waits, lines, StreamWriter { rt: self.rt }),
             Err(_) => Err(ErrorKind::OutOfMemory.into()),
         };
         match started {

@@ -22,7 +22,7 @@ pub use channel::{ChannelInbox, ChannelPost, event_channel};
 pub use host::Host;
 pub use host_counts::HostCounts;
 pub use leader_contact::LeaderContact;
-pub use lines::{LineQueue, NextLine};
+pub use lines::{LineQueue, LineWriter, NextLine, write_beside};
 pub use outbox::Queues;
 pub use peer::Peer;
 pub use peer_queue::PeerQueue;

@@ -4,11 +4,16 @@ ghost use Rattle.std.specs.Prelude.{◌≤◌, length};
 
 use std::alloc::{AllocError, Global};
 use std::collections::VecDeque;
+use std::io;
 use std::sync::atomic::{AtomicU64, Ordering};
 use std::sync::{Arc, Condvar, Mutex, Wait};
+use std::thread::{Builder, Threads};
 
 /// How many lines may wait.
 const MAX_LINES: usize = 256;
+
+/// The room of the thread that writes lines, in bytes.
+const STACK: usize = 262_144;
 
 /// How many times a line is tried to be put while another thread touches the queue.
 const MAX_TRIES: u64 = 10_000;
@@ -148,5 +153,30 @@ impl LineQueue {
     /// Whether all that was put is written.
     pub fn is_written<R: Wait>(&self, rt: &R) -> bool {
         self.shared.lines.lock(rt).is_written()
+    }
+}
+
+/// What writes lines, in a thread of its own. It may wait.
+pub trait LineWriter: Send + Drop + Sized {
+    /// Writes a line, or how many were left out.
+    fn write(&mut self, next: NextLine);
+}
+
+/// Has the lines of a queue written by a thread of its own, while the process is there.
+pub fn write_beside<
+    R: Threads + Wait + Copy + Drop + Send + 'static,
+    W: LineWriter + Send + 'static,
+>(rt: R, lines: LineQueue, writer: W) -> io::Result<()> {
+    Builder::new()
+        .stack_size(STACK)
+        .spawn(&rt, move || write_all(rt, lines, writer))?;
+    Ok(())
+}
+
+/// Writes the lines that come.
+fn write_all<R: Wait + Copy + Drop, W: LineWriter>(rt: R, lines: LineQueue, writer: W) {
+    let mut writer = writer;
+    for _ in 0..u64::MAX {
+        writer.write(lines.take(&rt));
     }
 }
