@@ -88,6 +88,11 @@ abbrev pub serve_in : List Row → Option Serve
 serve_in rows =
     serve_with (number_in 1 9 (first_of (codes "ID") rows)) (first_of (codes "LISTEN") rows) (words_of (all_of (codes "PEER") rows)) (options_in rows)
 
+-- the file of the cluster's secret, if a command found it
+abbrev pub secret_found : Option (List Row) → Option Text
+secret_found None = None
+secret_found (Some rows) = first_of (codes "secret") rows
+
 -- what a command found, unless it refused the arguments
 abbrev pub serve_found : Option (List Row) → Option Serve
 serve_found None = None

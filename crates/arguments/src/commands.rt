@@ -102,7 +102,8 @@ fn served_options<'a>(alloc: Global) -> Result<Command<'a>, AllocError>
         .arg(option(alloc, "engine"))?
         .arg(option(alloc, "events"))?
         .arg(option(alloc, "idle-transaction"))?
-        .arg(flag(alloc, "new"))
+        .arg(flag(alloc, "new"))?
+        .arg(option(alloc, "secret"))
 }
 
 /// The command of the arguments after `serve`.

@@ -6,7 +6,7 @@ ghost use Rattle.std.specs.List.{before_first, after_first};
 ghost use Rattle.clap.specs.Words.{found_of, rows_of};
 ghost use Rattle.arguments.specs.Commands.{serve_app, read_by};
 ghost use Rattle.arguments.specs.Values.{is_address};
-ghost use Rattle.arguments.specs.Serving.{is_mark, peer_with, peer_of, has_id, is_new, new_peer, peers_behind, peers_of, events_of, idle_of, words_of, options_with, options_in, serve_with_peers, serve_with, serve_in, serve_found, IsServable};
+ghost use Rattle.arguments.specs.Serving.{is_mark, peer_with, peer_of, has_id, is_new, new_peer, peers_behind, peers_of, events_of, idle_of, words_of, options_with, options_in, serve_with_peers, serve_with, serve_in, serve_found, secret_found, IsServable};
 
 use crate::addresses::{is_address, text};
 use crate::commands::{matches_by, serve_command, value, values};
@@ -16,6 +16,7 @@ use clap::ArgMatches;
 use dq_base::Items;
 use sql_engine::EngineKind;
 use std::alloc::{AllocError, Global};
+use wire_words::WireText;
 
 /// How many peers a node has at most.
 pub(crate) const MAX_PEERS: usize = 6;
@@ -201,8 +202,9 @@ fn serve_in(alloc: Global, matches: &ArgMatches<'_>) -> Result<Option<Serve>, Al
 ///
 /// The id is a number of 1 to 9. An address is a host and a port; a peer is named as `N=ADDRESS`, with an N of 1 to 9. No two of
 /// the node and its peers have one number, and there are at most six peers. `--engine E` is as after `script`, and `--events K` with
-/// a number of 1 to 4,294,967,295, the greatest where it isn't there. `--idle-transaction S` with a number of 0 to 86,400 closes a client's connection that has a transaction
-/// and says nothing for S seconds; 60 where it isn't there, 0 for any time. `--new` makes a new node.
+/// a number of 1 to 4,294,967,295, the greatest where it isn't there. `--idle-transaction S` with a number of 0 to 86,400 closes a
+/// client's connection that has a transaction and says nothing for S seconds; 60 where it isn't there, 0 for any time. `--new` makes a new node. `--secret FILE` names a file of the cluster's secret,
+/// at which `read_secret` looks.
 #[tactic(auto, using(crate::proofs::Found::serve_simple))]
 pub fn read_serve(alloc: Global, words: &[String]) -> Result<Option<Serve>, AllocError>
     ensures found { IfOk result (λ served. served ≡ serve_found (read_by serve_app (map string_bytes words.now))) }
@@ -210,6 +212,20 @@ pub fn read_serve(alloc: Global, words: &[String]) -> Result<Option<Serve>, Allo
 {
     match matches_by(serve_command(alloc)?, words)? {
         Some(matches) => serve_in(alloc, &matches),
+        None => Ok(None),
+    }
+}
+
+/// The file of the cluster's secret that the arguments after `serve` name, if they name one.
+#[tactic(auto, using(crate::proofs::Found::serve_simple))]
+pub fn read_secret(alloc: Global, words: &[String]) -> Result<Option<WireText>, AllocError>
+    ensures { IfOk result (λ file. file ≡ secret_found (read_by serve_app (map string_bytes words.now))) }
+{
+    let Some(matches) = matches_by(serve_command(alloc)?, words)? else {
+        return Ok(None);
+    };
+    match value(&matches, "secret") {
+        Some(file) => Ok(Some(text(alloc, file)?)),
         None => Ok(None),
     }
 }

@@ -1,6 +1,7 @@
 //! Lines on the error stream.
 
 use crate::founding::FolderRefusal;
+use crate::secret::SecretFault;
 use folder_disk::DirDisk;
 use serve_node::{Note, Notes};
 use serve_sockets::{HostFault, TcpHost};
@@ -129,6 +130,18 @@ impl ErrorStream {
                 held.as_str().trim_end()
             ),
         });
+    }
+
+    /// Says why a file is not taken as the cluster's secret.
+    pub fn tell_secret(&self, file: &str, fault: &SecretFault) {
+        self.say(format!(in self.rt.alloc(); "status 1: --secret {file}: {fault}"));
+    }
+
+    /// Says that a node at this address has no secret.
+    pub fn tell_no_secret(&self, address: &str) {
+        self.say(format!(in self.rt.alloc();
+            "no --secret, and {address} is not loopback: who reaches it can speak as a peer"
+        ));
     }
 
     /// Says that the process is the superuser's.

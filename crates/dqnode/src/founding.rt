@@ -36,18 +36,23 @@ fn address_of(words: &Serve, id: u64) -> Option<&str> {
     None
 }
 
-/// What the file of a node says: its id, and all voters with their addresses, ascending by id.
-fn text_of(alloc: Global, words: &Serve) -> Result<String, AllocError> {
-    let mut text = format!(in alloc; "node {} of", words.id)?;
+/// The name of a cluster: all voters that the arguments name, with their addresses, ascending by id.
+pub fn cluster_name(alloc: Global, words: &Serve) -> Result<String, AllocError> {
+    let mut name = String::new(alloc);
     for before in 0..9 {
         let id = before + 1;
         if let Some(address) = address_of(words, id) {
             let voter = format!(in alloc; " {id}={address}")?;
-            text.push_str(voter.as_str())?;
+            name.push_str(voter.as_str())?;
         }
     }
-    text.push('\n')?;
-    Ok(text)
+    Ok(name)
+}
+
+/// What the file of a node says: its id, and all voters with their addresses, ascending by id.
+fn text_of(alloc: Global, words: &Serve) -> Result<String, AllocError> {
+    let cluster = cluster_name(alloc, words)?;
+    format!(in alloc; "node {} of{cluster}\n", words.id)
 }
 
 /// Room for `size` bytes.

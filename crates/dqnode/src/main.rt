@@ -13,12 +13,13 @@ mod process;
 mod program;
 mod script_bytes;
 mod scripts;
+mod secret;
 mod serving;
 mod statements;
 mod status;
 mod words;
 
-use arguments::{Invocation, Serve, read_words};
+use arguments::{Invocation, Serve, read_secret, read_words};
 use disk_model::DiskFault;
 use dq_base::{ReadSource, WriteSink};
 use error_stream::ErrorStream;
@@ -29,6 +30,7 @@ use pages::{print_request, report_refusal, request_of};
 use process::{is_root, open_streams};
 pub use program::dqnode;
 use script_cluster::ClusterJournal;
+use secret::{guard, is_loopback, secret_in};
 use serve_sockets::{TcpDialer, TcpHost};
 use session_gateway::Read;
 pub use status::Status;
@@ -88,12 +90,57 @@ fn take_folder<R: Wait + Copy + Drop>(
     Ok(())
 }
 
-/// The status with which the program ends before it serves the node that the arguments name, if it does: its lines need a thread, and the
-/// folder is taken for it.
+/// Has the host use the cluster's secret, if the arguments name its file, and says whether the node may start: not with a file that isn't taken,
+/// of which the error stream says why. It also says that there is no secret, if other computers may reach the node.
+fn take_secret<R: Wait + Copy + Drop>(
+    rt: &HostRuntime,
+    words: &[String],
+    serve: &Serve,
+    host: &mut TcpHost<R, Read>,
+    errors: &ErrorStream,
+) -> Result<bool, AllocError> {
+    let Some(file) = read_secret(rt.alloc(), words::behind_name(words))? else {
+        if !is_loopback(serve.listen.as_str()) {
+            errors.tell_no_secret(serve.listen.as_str());
+        }
+        return Ok(true);
+    };
+    match secret_in(rt, file.as_str()) {
+        Ok(secret) => guard(rt.alloc(), serve, secret.as_slice(), host)?,
+        Err(fault) => {
+            errors.tell_secret(file.as_str(), &fault);
+            return Ok(false);
+        }
+    }
+    Ok(true)
+}
+
+/// Has the host and the disk be those of the node that the arguments name, and says whether it may start.
+fn prepare<R: Wait + Copy + Drop>(
+    rt: &HostRuntime,
+    words: &[String],
+    serve: &Serve,
+    disk: &mut DirDisk<HostRuntime>,
+    host: &mut TcpHost<R, Read>,
+    errors: &ErrorStream,
+) -> Result<bool, AllocError> {
+    if !take_secret(rt, words, serve, host, errors)? {
+        return Ok(false);
+    }
+    if is_root(rt) {
+        errors.tell_root();
+    }
+    host.limit_idle_transactions(serve.idle_transaction);
+    take_folder(rt, serve, disk, host, errors)?;
+    Ok(true)
+}
+
+/// The status with which the program ends before it serves the node that the arguments name, if it does.
 fn begin_serving<R: Threads + Wait + Clock + Copy + Drop + Send + 'static>(
     waits: R,
     rt: &HostRuntime,
-    words: &Serve,
+    words: &[String],
+    serve: &Serve,
     disk: &mut DirDisk<HostRuntime>,
     host: &mut TcpHost<R, Read>,
     errors: &mut ErrorStream,
@@ -101,16 +148,16 @@ fn begin_serving<R: Threads + Wait + Clock + Copy + Drop + Send + 'static>(
     if errors.begin_queue(waits).is_err() {
         return Some(Status::HostFault);
     }
-    if is_root(rt) {
-        errors.tell_root();
-    }
-    host.limit_idle_transactions(words.idle_transaction);
-    if take_folder(rt, words, disk, host, errors).is_err() {
-        errors.tell_memory();
-        errors.finish(&waits);
-        return Some(Status::NoMemory);
-    }
-    None
+    let ended = match prepare(rt, words, serve, disk, host, errors) {
+        Ok(true) => return None,
+        Ok(false) => Status::Words,
+        Err(_) => {
+            errors.tell_memory();
+            Status::NoMemory
+        }
+    };
+    errors.finish(&waits);
+    Some(ended)
 }
 
 /// Says why a served node ended, unless the error stream says it already.
@@ -149,8 +196,8 @@ fn main(rt: HostRuntime) -> ExitCode {
     };
     let mut errors = ErrorStream::new(rt, lines);
     let served = served(&rt, words);
-    if let Some(words) = &served {
-        let ended = begin_serving(rt, &rt, words, &mut disk, &mut host, &mut errors);
+    if let Some(serve) = &served {
+        let ended = begin_serving(rt, &rt, words, serve, &mut disk, &mut host, &mut errors);
         if let Some(status) = ended {
             return ExitCode::from(status.code());
         }

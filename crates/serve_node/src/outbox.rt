@@ -117,6 +117,7 @@ impl<'a, R: Wait + Copy + Drop, L: Replies, W: Notes> Outbox<StepReport>
             voters,
             shut,
         } = said;
+        self.queues.note_step();
         self.hand_on(outs);
         if let Some(conn) = shut {
             self.queues.cut(conn);

@@ -3,11 +3,13 @@
 ghost use Rattle.std.specs.Prelude.{◌≡◌, ◌≢◌, get_or, IfOk};
 ghost use Rattle.serve_places.specs.Numbers.{AreFresh, ChangesNumbersIfAny};
 
-use crate::limits::{MAX_READ_BYTES, MAX_SOCKETS};
+use crate::gate::{Gate, Speaker};
+use crate::limits::{MAX_CLIENTS, MAX_READ_BYTES, MAX_SOCKETS, MAX_UNDER_WAY_BYTES};
 use crate::numbering::Numbering;
 use crate::outflow::CutCause;
 use crate::peer_sign::{PeerSign, sign_of};
 use crate::place::Place;
+use crate::refused::Refused;
 use crate::rooms::Rooms;
 use crate::stream::ReadyStream;
 use serve_traits::Event;
@@ -28,8 +30,10 @@ pub struct Readiness {
 
 /// All sockets of a server, with the connections among them, and which of these have a turn.
 ///
-/// A socket is a connection once its first 16 bytes are there and fewer than 72 others are: it gets the next number then, from 1 on. Of a
-/// connection one message is handed on a turn, and none while a reply to it waits to be written. What waits counts for its bytes and 256
+/// A socket is a connection once it has said who speaks and fewer than 72 others are: it gets the next number then, from 1 on. It has said
+/// so with its first 16 bytes, or, if these begin a CONNECT, with the whole of it. A client is closed if 56 others are there; a peer is taken
+/// by the gate, and closes the connection that its node had. Of a connection one message is handed on a turn, and none while a reply to it
+/// waits to be written. What waits counts for its bytes and 256
 /// for each reply: 32 MiB for one connection at most, and 96 MiB for all, of which the first 1 MiB of each does not count. A connection
 /// without room is closed.
 #[derive(Drop)]
@@ -37,6 +41,8 @@ pub struct Places<S: ReadyStream> {
     alloc: Global,
     places: Vec<Place<S>>,
     numbers: Numbering,
+    gate: Gate,
+    refused: Refused,
     rooms: Rooms,
     ready: VecDeque<usize>,
     last: usize,
@@ -62,6 +68,8 @@ impl<S: ReadyStream> Places<S> {
             alloc,
             places,
             numbers: Numbering::new(alloc)?,
+            gate: Gate::open(alloc),
+            refused: Refused::new(),
             rooms: Rooms::new(alloc)?,
             ready: VecDeque::with_capacity(alloc, MAX_SOCKETS)?,
             last: 0,
@@ -72,6 +80,22 @@ impl<S: ReadyStream> Places<S> {
             now: 0,
             buffer: vec![in alloc; 0u8; MAX_READ_BYTES]?,
         })
+    }
+
+    /// From now on only these CONNECTs are taken, each with the version before it.
+    pub fn guard(&mut self, greetings: Vec<WireBytes>)
+        ensures numbers { self.new.numbers ≡ self.old.numbers }
+    {
+        self.gate = Gate::guarded(greetings);
+    }
+
+    /// How many connections were not taken since this was asked last.
+    pub fn take_refused(&mut self) -> Refused
+        ensures numbers { self.new.numbers ≡ self.old.numbers }
+    {
+        let refused = self.refused;
+        self.refused = Refused::new();
+        refused
     }
 
     /// A socket that is free.
@@ -122,6 +146,7 @@ impl<S: ReadyStream> Places<S> {
         ensures numbers { ChangesNumbersIfAny self.old.numbers self.new.numbers result }
     {
         let number = self.numbers.at(at);
+        let room = self.message_room(at);
         let (alloc, now) = (self.alloc, self.now);
         let place = self.places.get_mut(at)?;
         self.last = at;
@@ -129,7 +154,10 @@ impl<S: ReadyStream> Places<S> {
             if !place.has_front() {
                 place.fill_front(alloc);
             }
-            return self.meet(at);
+            return match self.welcome(at) {
+                Some(speaker) => self.meet(at, speaker),
+                None => None,
+            };
         }
         if !place.has_stream() {
             return self.hang_up(at, number);
@@ -138,7 +166,7 @@ impl<S: ReadyStream> Places<S> {
             return None;
         }
         let is_at_head = place.is_at_head();
-        let piece = place.next_piece(alloc, &mut self.buffer, now)?;
+        let piece = place.next_piece(alloc, &mut self.buffer, room, now)?;
         if is_at_head && place.is_at_head() {
             self.note_message(at, piece.as_slice());
         }
@@ -155,7 +183,7 @@ impl<S: ReadyStream> Places<S> {
         if place.is_peer() {
             self.sign = sign_of(message);
         } else {
-            place.note_message(message);
+            place.note_request(message);
         }
     }
 
@@ -182,6 +210,77 @@ impl<S: ReadyStream> Places<S> {
         }
     }
 
+    /// How many bytes a large message of the peer at a socket may have, beside those of other peers that are under way.
+    fn message_room(&self, at: usize) -> u64 {
+        match self.places.get(at) {
+            Some(place) if place.is_peer() => {
+                MAX_UNDER_WAY_BYTES.saturating_sub(self.large_bytes())
+            }
+            _ => MAX_UNDER_WAY_BYTES,
+        }
+    }
+
+    /// How many bytes the large messages of peers have that are under way.
+    fn large_bytes(&self) -> u64 {
+        let mut sum = 0u64;
+        for place in &self.places {
+            sum = sum.saturating_add(place.large_bytes());
+        }
+        sum
+    }
+
+    /// Who speaks on a socket. If it is refused as a connection, it is closed. A peer's older connection is closed.
+    fn welcome(&mut self, at: usize) -> Option<Speaker>
+        ensures numbers { self.new.numbers ≡ self.old.numbers }
+    {
+        let speaker = self.places.get(at)?.speaker_by(&self.gate);
+        match speaker {
+            Speaker::Unknown => None,
+            Speaker::Stranger => {
+                self.refused.count_stranger();
+                self.end(at);
+                None
+            }
+            Speaker::Client if self.client_count() >= MAX_CLIENTS => {
+                self.refused.count_client();
+                self.end(at);
+                None
+            }
+            Speaker::Client => Some(speaker),
+            Speaker::Peer(_) => {
+                self.end_all_of(speaker);
+                Some(speaker)
+            }
+        }
+    }
+
+    /// How many clients there are.
+    pub fn client_count(&self) -> usize {
+        self.places
+            .iter()
+            .filter(|place| place.is_of(Speaker::Client))
+            .count()
+    }
+
+    /// Closes all connections of a speaker.
+    fn end_all_of(&mut self, speaker: Speaker)
+        ensures numbers { self.new.numbers ≡ self.old.numbers }
+    {
+        for at in 0..self.places.len() {
+            if self.is_of(at, speaker) {
+                self.end(at);
+            }
+        }
+    }
+
+    /// Whether a socket is a connection of this speaker that is not closed.
+    fn is_of(&self, at: usize, speaker: Speaker) -> bool {
+        match self.places.get(at) {
+            Some(place) => place.is_of(speaker),
+            None => false,
+        }
+    }
+
     /// Has a client's connection closed that has a transaction and says nothing for this time, in milliseconds; 0 for any time.
     pub fn limit_idle_transactions(&mut self, most_ms: u64)
         ensures numbers { self.new.numbers ≡ self.old.numbers }
@@ -203,8 +302,8 @@ impl<S: ReadyStream> Places<S> {
         self.sign
     }
 
-    /// The socket is a connection from now on, if its first bytes are there and there are not too many others.
-    fn meet<T>(&mut self, at: usize) -> Option<Event<T>>
+    /// The socket is a connection of this speaker from now on, if there are not too many others.
+    fn meet<T>(&mut self, at: usize, speaker: Speaker) -> Option<Event<T>>
         ensures numbers { ChangesNumbersIfAny self.old.numbers self.new.numbers result }
     {
         let now = self.now;
@@ -213,7 +312,7 @@ impl<S: ReadyStream> Places<S> {
             return None;
         }
         let number = self.numbers.give(at)?;
-        place.meet(now);
+        place.meet(speaker, now);
         Some(Event::Connect(number))
     }
 

@@ -11,6 +11,7 @@ use std::alloc::{AllocError, Global};
 use std::sync::Wait;
 use std::thread::Threads;
 use std::time::Clock;
+use wire_words::WireBytes;
 
 /// A host over memory whose events are those of a list: a take fails if none is left. It reports them. No connection comes if it
 /// listens, replies and messages to peers get lost, and what is posted at its ends is never taken.
@@ -73,6 +74,10 @@ impl<R: Threads + Wait + Clock + Copy + Drop + Send + 'static, T: Drop> Host<T> 
 
     fn listen(&mut self, _address: &str) -> Result<(), Failed> {
         self.host.listen_once()
+    }
+
+    fn greeting(&self, _peer: u64) -> Result<Option<WireBytes>, AllocError> {
+        Ok(None)
     }
 
     fn dialer(&mut self) -> Result<MemPeerDialer, Failed> {

@@ -14,6 +14,7 @@ use std::alloc::{AllocError, Global};
 use std::sync::Wait;
 use std::thread::Threads;
 use std::time::Clock;
+use wire_words::WireBytes;
 
 /// A host over memory, whose workers run in threads of the runtime. Some of its calls may be made to fail.
 ///
@@ -154,6 +155,10 @@ impl<R: Threads + Wait + Clock + Copy + Drop + Send + 'static, T: Drop> Host<T> 
 
     fn listen(&mut self, _address: &str) -> Result<(), Failed> {
         self.listen_once()
+    }
+
+    fn greeting(&self, _peer: u64) -> Result<Option<WireBytes>, AllocError> {
+        Ok(None)
     }
 
     fn dialer(&mut self) -> Result<MemPeerDialer, Failed> {

@@ -5,6 +5,7 @@ ghost use Rattle.serve_threads.specs.Counts.{IsCounted};
 
 use crate::poller::Poller;
 use crate::ready_socket::ReadySocket;
+use crate::refusal_lines::RefusalLines;
 use crate::tcp_peer::TcpPeerDialer;
 use crate::tcp_replies::TcpReplies;
 use dq_base::Failed;
@@ -19,6 +20,7 @@ use std::net::TcpListener;
 use std::sync::{Arc, Mutex, Wait};
 use std::thread::Threads;
 use std::time::Clock;
+use wire_words::WireBytes;
 
 /// Milliseconds since a moment that doesn't change; 0 if no clock can be read.
 fn moment_of(rt: &HostRuntime) -> u64 {
@@ -70,6 +72,8 @@ pub struct TcpHost<R: Wait + Copy + Drop, T: Drop> {
     places: Arc<Mutex<Places<ReadySocket>>, Global>,
     bound: Option<io::Result<TcpListener>>,
     poller: Option<Poller>,
+    greetings: Vec<(u64, WireBytes)>,
+    refusals: RefusalLines,
     turns: usize,
     taken: u64,
     done: HostCounts,
@@ -81,16 +85,19 @@ impl<R: Wait + Copy + Drop, T: Drop> TcpHost<R, T> {
     /// A host that did nothing yet. The runtime is passed twice, once for threads and once for sockets.
     pub fn new(rt: R, sockets: HostRuntime, alloc: Global) -> Result<TcpHost<R, T>, AllocError> {
         let (inbox, post) = event_channel(rt, alloc)?;
+        let lines = LineQueue::new(alloc)?;
         Ok(TcpHost {
             rt,
             sockets,
             inbox,
             post,
             contact: LeaderContact::new(alloc)?,
-            lines: LineQueue::new(alloc)?,
+            lines,
             places: Arc::new(alloc, Mutex::new(Places::new(alloc)?))?,
             bound: None,
             poller: None,
+            greetings: Vec::new(alloc),
+            refusals: RefusalLines::new(sockets, lines.again()?),
             turns: 0,
             taken: 0,
             done: HostCounts::new(),
@@ -102,6 +109,13 @@ impl<R: Wait + Copy + Drop, T: Drop> TcpHost<R, T> {
     /// An end of the lines that the host has for the error stream.
     pub fn lines(&self) -> Result<LineQueue, AllocError> {
         self.lines.again()
+    }
+
+    /// The bytes with which a connection to the peer of each id begins, in place of the version and a CONNECT with the node's address; and
+    /// those with which a connection of a peer may begin. One that begins with another CONNECT is closed.
+    pub fn guard(&mut self, greetings: Vec<(u64, WireBytes)>, taken: Vec<WireBytes>) {
+        self.greetings = greetings;
+        self.places.lock(&self.rt).guard(taken);
     }
 
     /// Binds an address before the host listens there, and says whether that was possible. Connections that come wait. The next `listen`,
@@ -138,7 +152,8 @@ impl<R: Wait + Copy + Drop, T: Drop> TcpHost<R, T> {
         unreachable!()
     }
 
-    /// The next event that another thread posted, if there is one. With each heartbeat the sockets whose time is over are closed.
+    /// The next event that another thread posted, if there is one. With each heartbeat the sockets whose time is over are closed, and it is
+    /// said what was refused.
     fn posted(&mut self) -> Option<Event<T>>
         ensures taken { self.new.taken ≡ self.old.taken }
         ensures faults { self.new.faults ≡ self.old.faults }
@@ -154,12 +169,14 @@ impl<R: Wait + Copy + Drop, T: Drop> TcpHost<R, T> {
             poller.settle();
         }
         if matches!(event, Some(Event::Beat)) {
+            let now = moment_of(&self.sockets);
             let mut places = self.places.lock(&self.rt);
-            places.tick(moment_of(&self.sockets));
-            let idle = places.take_idle_count();
+            places.tick(now);
+            self.refusals.say_idle(places.take_idle_count());
             poller.accept(&mut places);
-            drop(places);
-            self.tell_idle(idle);
+            if self.refusals.may_say(now) {
+                self.refusals.say(places.take_refused(), now);
+            }
         }
         event
     }
@@ -190,17 +207,6 @@ impl<R: Wait + Copy + Drop, T: Drop> TcpHost<R, T> {
             return None;
         }
         event
-    }
-
-    /// Has a line that connections were closed because of idle transactions, if any were.
-    fn tell_idle(&self, count: u64) {
-        if count == 0 {
-            return;
-        }
-        let alloc = self.sockets.alloc();
-        if let Ok(line) = format!(in alloc; "{count} connections closed: a transaction was idle") {
-            self.lines.put(line);
-        }
     }
 
     /// Has the connection of a client closed that has a transaction and says nothing for this time, in seconds; 0 for any time.
@@ -295,6 +301,15 @@ impl<R: Threads + Wait + Clock + Copy + Drop + Send + 'static, T: Drop> Host<T> 
             }
             Err(error) => Err(self.fail("listen", Some(error))),
         }
+    }
+
+    fn greeting(&self, peer: u64) -> Result<Option<WireBytes>, AllocError> {
+        for (id, greeting) in &self.greetings {
+            if *id == peer {
+                return Ok(Some(greeting.try_clone(self.sockets.alloc())?));
+            }
+        }
+        Ok(None)
     }
 
     fn dialer(&mut self) -> Result<TcpPeerDialer, Failed> {

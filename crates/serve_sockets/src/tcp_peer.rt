@@ -4,7 +4,7 @@ ghost use Rattle.std.specs.Prelude.{◌≡◌, None};
 ghost use Rattle.serve_threads.specs.Counts.{IsCounted};
 
 use crate::stream;
-use crate::stream::write_whole;
+use crate::stream::{is_at_end, write_on};
 use dq_base::Failed;
 use serve_threads::LineQueue;
 use serve_traits::{PeerConnection, PeerDialer};
@@ -13,13 +13,13 @@ use std::io;
 use std::net::TcpStream;
 use std::time::Duration;
 
-/// How long a write to a peer may take, in seconds.
+/// How long a write to a peer may move no byte, in seconds.
 const PEER_SECONDS: u64 = 10;
 
-/// A connection over a TCP socket that was dialed. It says nothing of content. A message is written in one write, and goes out at once; a
-/// write of which only a front was taken has failed, since its time was over. An interrupted call is tried again, up to 1,000 times in a row.
+/// A connection over a TCP socket that was dialed. It says nothing of content. A message goes out at once; a large one over a slow network is
+/// written as long as some bytes of it are taken every ten seconds. What the peer says is dropped.
 ///
-/// The error stream gets a line when the connection is up, and one when a write fails.
+/// The error stream gets a line when the connection is up, and one when a write fails or the peer has ended the connection.
 #[derive(Drop)]
 pub struct TcpPeerConnection {
     stream: TcpStream,
@@ -56,7 +56,7 @@ impl Announced {
     }
 }
 
-/// A connection to an address, of which a write takes at most ten seconds.
+/// A connection to an address, of which a write fails that moves nothing for ten seconds.
 fn open(rt: &HostRuntime, address: &str) -> io::Result<TcpStream> {
     let stream = stream::connect(rt, address)?;
     stream.set_nodelay(true)?;
@@ -102,8 +102,16 @@ impl PeerConnection for TcpPeerConnection {
 
     ghost faults = { λ connection. connection.faults };
 
+    fn is_ended(&mut self) -> bool {
+        let is_ended = is_at_end(&self.stream);
+        if is_ended {
+            self.announce_end();
+        }
+        is_ended
+    }
+
     fn write_all(&mut self, bytes: &[u8]) -> Result<(), Failed> {
-        match write_whole(&mut &self.stream, bytes) {
+        match write_on(&mut &self.stream, bytes) {
             Ok(()) => Ok(()),
             Err(_) => {
                 self.announce_end();

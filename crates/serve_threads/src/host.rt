@@ -9,6 +9,7 @@ use std::alloc::AllocError;
 use std::sync::Wait;
 use std::thread::Threads;
 use std::time::Clock;
+use wire_words::WireBytes;
 
 /// A host listens for a node, gives it what dials its peers and brings it its events, and counts the threads that work concurrently with it.
 ///
@@ -52,6 +53,10 @@ pub trait Host<T: Drop>: Inbox<T> {
         ensures events { Self.taken self.new ≡ Self.taken self.old }
         ensures left { Self.left self.new ≡ Self.left self.old }
         ensures cause { HasCause (Self.faults self.old) (Self.faults self.new) result };
+
+    /// The bytes with which a connection to the peer of this id begins, if they are others than the version and a CONNECT with the node's
+    /// address.
+    fn greeting(&self, peer: u64) -> Result<Option<WireBytes>, AllocError>;
 
     /// What dials peers, for another thread.
     fn dialer(&mut self) -> Result<Self::Dialer, Failed>

@@ -3,11 +3,11 @@
 use crate::taps::{Deeds, TapDialer};
 use dq_base::{Calls, Items};
 use raft_messages::{LogEnd, MessageBody, RaftMessage};
-use serve_threads::{Peer, PeerQueue};
+use serve_threads::{NextMessage, Peer, PeerQueue};
 use std::alloc::Global;
 use std::sync::Wait;
 use std::test::*;
-use std::time::Clock;
+use std::time::{Clock, Duration};
 use wire_words::WireText;
 
 /// Where the low byte of the term is in a message's bytes.
@@ -97,7 +97,7 @@ fn sends<R: Wait + Clock + Copy + Drop>(
 }
 
 /// How many of this many messages that aren't Appends wait.
-fn waiting<R: Wait>(rt: &R, alloc: Global, count: u64) -> Option<u64> {
+fn waiting<R: Wait + Clock>(rt: &R, alloc: Global, count: u64) -> Option<u64> {
     let queue = PeerQueue::new(alloc).ok()?;
     for term in 0..count {
         queue.put(rt, message(alloc, term, false));
@@ -105,7 +105,7 @@ fn waiting<R: Wait>(rt: &R, alloc: Global, count: u64) -> Option<u64> {
     queue.close(rt);
     let mut taken: u64 = 0;
     for _ in 0..count {
-        if queue.take(rt).is_some() {
+        if let NextMessage::Message(_) = queue.take_within(rt, Duration::from_millis(0)) {
             taken = taken.saturating_add(1);
         }
     }

@@ -75,6 +75,10 @@ impl PeerConnection for Tap {
 
     ghost faults = { λ tap. tap.calls.faults };
 
+    fn is_ended(&mut self) -> bool {
+        false
+    }
+
     fn write_all(&mut self, bytes: &[u8]) -> Result<(), Failed> {
         if self.calls.start().is_err() {
             self.deeds.note(UNWRITTEN);

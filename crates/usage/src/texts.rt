@@ -25,6 +25,7 @@ Options:
   --engine E     of serve and script: sqlite, which is the default, or cells
   --events K     of serve: end after K events
   --new          of serve: make a new node
+  --secret FILE  of serve: take only peers that have the secret in FILE
   --run          of gen: run the script, and print how its nodes are at the end
   -h, --help     print this page, or the page of a command
   -V, --version  print the version
@@ -48,7 +49,8 @@ Status:
 ";
 
 pub(crate) const SERVE_USAGE: &str = "\
-Usage: dqnode serve [--new] [--engine E] [--events K] [--idle-transaction S]
+Usage: dqnode serve [--new] [--secret FILE] [--engine E] [--events K]
+                    [--idle-transaction S]
                     ID LISTEN [N=ADDRESS]..
 ";
 
@@ -65,6 +67,9 @@ Arguments:
 
 Options:
   --new       make a new node, in a folder that has none
+  --secret FILE
+              take only peers that have the cluster's secret, which is in FILE:
+              16 to 4096 bytes that only its owner may read
   --engine E  sqlite, which is the default, or cells
   --events K  end after K events, 1 to 4294967295, which is the default
   --idle-transaction S
