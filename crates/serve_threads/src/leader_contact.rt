@@ -9,14 +9,13 @@ use std::alloc::{AllocError, Global};
 use std::sync::Arc;
 use std::sync::atomic::{AtomicU64, Ordering};
 
-/// For how many heartbeats' time a node stands by the leader that it heard: 0.8 s, less than the shortest time after which a voter stands
-/// for election.
+/// For how many heartbeats' time a node keeps to the leader that it heard: 0.8 s, less than the shortest time until a voter's timeout.
 const MAX_SETTLED_BEATS: u64 = 8;
 
 /// For how many heartbeats' time clients' messages wait after the node handed its leadership over: one second.
 const MAX_HELD_BEATS: u64 = 10;
 
-/// What is known, each as a number of its own.
+/// What is known, as numbers.
 #[derive(Drop)]
 struct Contact {
     /// 1 if the node answered a leader or gave its vote since this was last taken.
@@ -69,7 +68,7 @@ impl LeaderContact {
         })
     }
 
-    /// Another end. `Err` where there are too many.
+    /// Another end. `Err` if there are too many.
     pub fn again(&self) -> Result<LeaderContact, AllocError> {
         Ok(LeaderContact {
             shared: Arc::try_clone(&self.shared)?,
@@ -117,7 +116,7 @@ impl LeaderContact {
         self.shared.heard.swap(0, Ordering::SeqCst) != 0
     }
 
-    /// Whether a majority of the voters has acknowledged since a call last said so; also where the node doesn't lead.
+    /// Whether a majority of the voters has acknowledged since a call last said so; also if the node doesn't lead.
     pub fn take_majority(&self) -> bool {
         let voters = ServerSet::from_bits(self.shared.voters.load(Ordering::SeqCst));
         if voters.is_empty() {

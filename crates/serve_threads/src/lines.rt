@@ -115,7 +115,7 @@ impl LineQueue {
         })
     }
 
-    /// Another end. `Err` where there are too many.
+    /// Another end. `Err` if there are too many.
     pub fn again(&self) -> Result<LineQueue, AllocError> {
         Ok(LineQueue {
             shared: Arc::try_clone(&self.shared)?,
@@ -156,13 +156,13 @@ impl LineQueue {
     }
 }
 
-/// What writes lines, in a thread of its own. It may wait.
+/// What writes lines, in its own thread. It may wait.
 pub trait LineWriter: Send + Drop + Sized {
     /// Writes a line, or how many were left out.
     fn write(&mut self, next: NextLine);
 }
 
-/// Has the lines of a queue written by a thread of its own, while the process is there.
+/// Has the lines of a queue written by their own thread, while the process is there.
 pub fn write_beside<
     R: Threads + Wait + Copy + Drop + Send + 'static,
     W: LineWriter + Send + 'static,

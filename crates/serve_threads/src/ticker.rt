@@ -12,7 +12,7 @@ use std::time::{Clock, Duration};
 /// The time between two Beats, in milliseconds.
 const BEAT: u64 = 100;
 
-/// The shortest time after which a node that heard of no leader stands for election, and what a random part adds to it at most, in
+/// The shortest time until the Timeout of a node that heard of no leader, and what a random part adds to it at most, in
 /// milliseconds.
 const PATIENCE: u64 = 1_000;
 
@@ -21,7 +21,7 @@ const MAX_UNACKED_BEATS: u64 = 20;
 
 /// Posts a Beat every 100 ms; a Timeout once the node answered no leader and gave no vote for 1,000 to 1,999 ms, again by chance each time;
 /// and a Yield once the node leads and no majority of the voters has acknowledged for two seconds. Each of these times counts Beats, so it
-/// stands still while a step is long.
+/// pauses while a step is long.
 #[derive(Drop)]
 pub struct Ticker<R: Wait + Clock + Copy + Drop, T: Drop> {
     /// For its clock.
