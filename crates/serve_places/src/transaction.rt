@@ -24,7 +24,7 @@ pub(crate) enum TransactionState {
     Ends,
 }
 
-/// Whether a text begins with this word of capital letters, in letters of any case, after spaces and line ends.
+/// Whether a text begins with this word, in upper or lower case, after spaces and line ends.
 fn begins_with(text: &[u8], word: &[u8]) -> bool {
     match text.trim_ascii_start().split_at_checked(word.len()) {
         Some((front, _)) => front.eq_ignore_ascii_case(word),

@@ -16,11 +16,11 @@ const BEAT: u64 = 100;
 /// milliseconds.
 const PATIENCE: u64 = 1_000;
 
-/// After how many Beats without an acknowledgement of a majority a leader gives up: two seconds.
+/// After how many heartbeats without an acknowledgement of a majority a leader gives up: two seconds.
 const MAX_UNACKED_BEATS: u64 = 20;
 
-/// Posts a Beat every 100 ms; a Timeout once the node answered no leader and gave no vote for 1,000 to 1,999 ms, again by chance each time;
-/// and a Yield once the node leads and no majority of the voters has acknowledged for two seconds. Each of these times counts Beats, so it
+/// Posts a heartbeat every 100 ms; a Timeout once the node answered no leader and gave no vote for 1,000 to 1,999 ms, again by chance each time;
+/// and a Yield once the node leads and no majority of the voters has acknowledged for two seconds. Each of these times counts heartbeats, so it
 /// pauses while a step is long.
 #[derive(Drop)]
 pub struct Ticker<R: Wait + Clock + Copy + Drop, T: Drop> {
@@ -68,7 +68,7 @@ impl<R: Wait + Clock + Copy + Drop, T: Drop> Ticker<R, T> {
         self.post.put(event).is_ok()
     }
 
-    /// The time until the next Timeout after a Beat more, in milliseconds. It begins again if something was heard.
+    /// The time until the next Timeout after a heartbeat more, in milliseconds. It begins again if something was heard.
     fn left_after(&mut self, left: u64) -> u64 {
         if self.heard.take() {
             return self.patience();
@@ -76,7 +76,7 @@ impl<R: Wait + Clock + Copy + Drop, T: Drop> Ticker<R, T> {
         left.saturating_sub(BEAT)
     }
 
-    /// For how many Beats no majority has acknowledged, after one more.
+    /// For how many heartbeats no majority has acknowledged, after one more.
     fn unacked_after(&self, unacked: u64) -> u64 {
         if self.heard.take_majority() {
             return 0;
