@@ -202,9 +202,9 @@ fn serve_in(alloc: Global, matches: &ArgMatches<'_>) -> Result<Option<Serve>, Al
 ///
 /// The id is a number of 1 to 9. An address is a host and a port; a peer is named as `N=ADDRESS`, with an N of 1 to 9. No two of
 /// the node and its peers have one number, and there are at most six peers. `--engine E` is as after `script`, and `--events K` with
-/// a number of 1 to 4,294,967,295, the greatest where it isn't there. `--idle-transaction S` with a number of 0 to 86,400 closes a
-/// client's connection that has a transaction and says nothing for S seconds; 60 where it isn't there, 0 for any time. `--new` makes a new node. `--secret FILE` names a file of the cluster's secret,
-/// at which `read_secret` looks.
+/// a number of 1 to 4,294,967,295, the greatest where it isn't there. `--idle-transaction S`, with a number of 0 to 86,400, closes the
+/// connection of a client that has a transaction and says nothing for S seconds; it is 60 without the option, and 0 is for any time.
+/// `--new` makes a new node. `--secret FILE` names a file of the cluster's secret, at which `read_secret` looks.
 #[tactic(auto, using(crate::proofs::Found::serve_simple))]
 pub fn read_serve(alloc: Global, words: &[String]) -> Result<Option<Serve>, AllocError>
     ensures found { IfOk result (λ served. served ≡ serve_found (read_by serve_app (map string_bytes words.now))) }
