@@ -86,6 +86,7 @@ impl<R: Wait + Copy + Drop, T: Drop> TcpHost<R, T> {
     pub fn new(rt: R, sockets: HostRuntime, alloc: Global) -> Result<TcpHost<R, T>, AllocError> {
         let (inbox, post) = event_channel(rt, alloc)?;
         let lines = LineQueue::new(alloc)?;
+        let refusals = RefusalLines::new(sockets, lines.again()?);
         Ok(TcpHost {
             rt,
             sockets,
@@ -97,7 +98,7 @@ impl<R: Wait + Copy + Drop, T: Drop> TcpHost<R, T> {
             bound: None,
             poller: None,
             greetings: Vec::new(alloc),
-            refusals: RefusalLines::new(sockets, lines.again()?),
+            refusals,
             turns: 0,
             taken: 0,
             done: HostCounts::new(),
