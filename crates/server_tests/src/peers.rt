@@ -146,7 +146,7 @@ fn install(alloc: Global, term: u64, index: u64) -> Option<RaftMessage> {
             snapshot: Snapshot {
                 index,
                 term: 1,
-                bytes: SharedBytes::new(alloc, Vec::new(alloc)).ok()?,
+                bytes: SharedBytes::new(alloc, Items::new(Vec::new(alloc))).ok()?,
             },
         },
     })
@@ -189,7 +189,7 @@ fn put_installs<R: Wait + Clock + Copy>(
 }
 
 /// Whether an Append is sent again while nothing comes, and an Install is not sent twice over one connection.
-fn repeats<R: Threads + Wait + Clock + Copy + Drop + Sync>(
+fn repeats<R: Threads + Wait + Clock + Copy + Drop + Send + Sync>(
     rt: R,
     alloc: Global,
     is_append: bool,
