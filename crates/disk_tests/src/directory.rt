@@ -110,6 +110,14 @@ fn a_folder_is_one_disk_at_a_time(rt: HostRuntime) -> Result<(), Fail> {
 
 const LINKED: &str = "dir_disk_linked";
 
+/// Calls that a symlink refuses.
+const ON_FILES: &[Step] = &[
+    Step::Reads(Place::A, 0, b"kept"),
+    Step::Write(Place::A, 0, b"x"),
+    Step::Cut(Place::A, 0),
+    Step::Sync(Place::A),
+];
+
 /// A symlink is listed, and no call reads, writes, truncates or syncs the file that it leads to.
 #[test]
 fn a_link_is_not_a_file(rt: HostRuntime) -> Result<(), Fail> {
@@ -119,15 +127,11 @@ fn a_link_is_not_a_file(rt: HostRuntime) -> Result<(), Fail> {
     symlink(&rt, "kept", "dir_disk_linked/a")?;
     let mut disk = DirDisk::in_folder(rt.clone()?, LINKED)?;
     assert_eq!(rt; make(&mut disk, Step::Lists(2)), Ok(true));
-    for step in [
-        Step::Reads(Place::A, 0, b"kept"),
-        Step::Write(Place::A, 0, b"x"),
-        Step::Cut(Place::A, 0),
-        Step::Sync(Place::A),
-    ] {
-        assert_eq!(rt; make(&mut disk, step), Err(DiskFault::Failed));
+    for step in ON_FILES {
+        assert_eq!(rt; make(&mut disk, *step), Err(DiskFault::Failed));
     }
-    assert!(rt; fs::read_to_string(&rt, "dir_disk_linked/kept")?.as_str() == "kept");
+    let kept = fs::read_to_string(&rt, "dir_disk_linked/kept")?;
+    assert!(rt; kept.as_str() == "kept");
     fs::remove_dir_all(&rt, LINKED)?;
     Ok(())
 }
