@@ -15,6 +15,7 @@ mod scripts;
 mod serving;
 mod statements;
 mod status;
+mod tails;
 mod words;
 
 use arguments::{Invocation, Serve, read_words};
@@ -34,6 +35,7 @@ use std::alloc::AllocError;
 use std::io;
 use std::process::ExitCode;
 use std::sync::Wait;
+use tails::{FolderUse, refused_tail};
 
 /// The node that the arguments name, if they ask for one to be served.
 fn served(rt: &HostRuntime, words: &[String]) -> Option<Serve> {
@@ -73,6 +75,29 @@ fn served_in(
     Ok(served)
 }
 
+/// What the arguments want the folder for, if they want it and it isn't refused.
+fn folder_use(
+    rt: &HostRuntime,
+    words: &[String],
+    disk: &DirDisk<HostRuntime>,
+) -> Option<FolderUse> {
+    match read_words(rt.alloc(), words) {
+        Ok(Some(Invocation::Serve(_))) if !disk.is_refused() => Some(FolderUse::Start),
+        Ok(Some(Invocation::Check)) => Some(FolderUse::Check),
+        _ => None,
+    }
+}
+
+/// The status to end with before anything is done, if the last segment of the folder that the arguments want is damaged.
+fn refused_folder(
+    rt: &HostRuntime,
+    words: &[String],
+    disk: &mut DirDisk<HostRuntime>,
+) -> Option<Status> {
+    let purpose = folder_use(rt, words, disk)?;
+    refused_tail(rt, purpose, disk)
+}
+
 /// Says why a served node ended, unless the error stream says it already.
 fn tell_end<R: Wait + Copy + Drop>(
     rt: &HostRuntime,
@@ -107,6 +132,9 @@ fn main(rt: HostRuntime) -> ExitCode {
         tell_memory(&rt);
         return no_memory;
     };
+    if let Some(status) = refused_folder(&rt, words, &mut disk) {
+        return ExitCode::from(status.code());
+    }
     let mut input = ReadSource::new(rt.stdin());
     let mut output = WriteSink::new(io::writer(&rt));
     let mut journal = ClusterJournal::new(rt.alloc());

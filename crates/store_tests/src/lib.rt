@@ -16,3 +16,5 @@ mod loading;
 mod stops;
 #[cfg(test)]
 mod stores;
+#[cfg(test)]
+mod tails;

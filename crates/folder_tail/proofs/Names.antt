@@ -1,0 +1,103 @@
+-- The greatest number of a segment among names.
+use Rattle.std.proofs.Common.{◌≡◌, ◌⊎◌, inl, inr, ℕ, ◌<◌, ◌≤◌, Bool, true, false, List, [], ◌∷◌, ◌++◌, Option, Some, None, refl, sym, ap, ◌∙◌, subst, arith}
+use Rattle.std.specs.Prelude.{nat_lt}
+use Rattle.std.proofs.lemmas.Bool.{ltb-true, ltb-false}
+use Rattle.disk_model.specs.Disk.{Disk}
+use Rattle.disk_model.specs.SyncAll.{Among}
+use Rattle.disk_model.specs.Trait.{Text, Lists}
+use Rattle.store_laws.specs.Names.{Segment}
+use Rattle.segment_store.specs.FileNames.{file_name}
+use Rattle.segment_store.proofs.NoTwoAlike.{no_two_alike}
+use Rattle.segment_store.specs.Keeps.{folder}
+use Rattle.folder_tail.specs.declared.folder.SegmentFile.{SegmentFile}
+use Rattle.folder_tail.specs.Last.{IsNumberOf, is_after, IsNamed, IsGreatest, TakesName, IsLastFile}
+
+among_front : (t : Text) (xs ys : List Text) → Among t xs → Among t (xs ++ ys)
+among_front t [] ys a = absurd a
+among_front t (x ∷ xs) ys (inl e) = inl e
+among_front t (x ∷ xs) ys (inr a) = inr (among_front t xs ys a)
+
+among_last : (t : Text) (xs : List Text) → Among t (xs ++ t ∷ [])
+among_last t [] = inl refl
+among_last t (x ∷ xs) = inr (among_last t xs)
+
+among_either : (t u : Text) (xs : List Text) → Among t (xs ++ u ∷ []) → Among t xs ⊎ (t ≡ u)
+among_either t u [] (inl e) = inr e
+among_either t u [] (inr a) = absurd a
+among_either t u (x ∷ xs) (inl e) = inl (inl e)
+among_either t u (x ∷ xs) (inr a) = elim (among_either t u xs a) [
+  | inl b ↦ inl (inr b)
+  | inr e ↦ inr e
+]
+
+-- a name that is no segment's
+pub takes_other : (name : Text) (best : Option SegmentFile) → IsNumberOf name None → TakesName name best best
+takes_other name None other names greatest = λ n digits a. elim (among_either _ name names a) [
+  | inl b ↦ greatest n digits b
+  | inr e ↦ other n digits (sym e)
+]
+takes_other name (Some file) other names greatest = (
+  greatest.0,
+  (
+    among_front _ names _ greatest.1.0,
+    λ n digits a. elim (among_either _ name names a) [
+      | inl b ↦ greatest.1.1 n digits b
+      | inr e ↦ absurd (other n digits (sym e))
+    ],
+  ),
+)
+
+number_is : (m n : ℕ) → file_name (Segment m) ≡ file_name (Segment n) → m ≡ n
+number_is m n e = segment_is (no_two_alike (Segment m) (Segment n) e)
+  where
+    segment_is : Segment m ≡ Segment n → m ≡ n
+    segment_is q = cc
+
+-- the name of a segment whose number is greater
+pub takes_greater : (name : Text) (n : ℕ) (best : Option SegmentFile) (now : SegmentFile) → IsNumberOf name (Some n) → now.number ≡ n → now.name ≡ name → is_after n best ≡ true → TakesName name best (Some now)
+takes_greater name n best now is number same after names greatest =
+    let small : now.number < 10000000000000000 = omega (arith, number, is.0) in
+    let named : now.name ≡ file_name (Segment now.number) = same ∙ is.1 ∙ ap (λ (k : ℕ). file_name (Segment k)) (sym number) in (
+      (small, named),
+      (
+        subst (λ (t : Text). Among t (names ++ name ∷ [])) (sym same ∙ named) (among_last name names),
+        λ m digits a. elim (among_either _ name names a) [
+          | inl b ↦ let low = less best m digits b after greatest in omega (arith, low, number)
+          | inr e ↦ let z : m ≡ n = number_is m n (e ∙ is.1) in omega (arith, z, number)
+        ],
+      ),
+    )
+  where
+    less : (best : Option SegmentFile) (m : ℕ) → m < 10000000000000000 → Among (file_name (Segment m)) names → is_after n best ≡ true → IsGreatest names best → m ≤ n
+    less None m digits b after greatest = absurd (greatest m digits b)
+    less (Some x) m digits b after greatest = let l = greatest.1.1 m digits b in let k : x.number < n = ltb-true _ _ after in omega (arith, l, k)
+
+-- the name of a segment whose number isn't
+pub takes_less : (name : Text) (n : ℕ) (best : Option SegmentFile) → IsNumberOf name (Some n) → is_after n best ≡ false → TakesName name best best
+takes_less name n None is after names greatest = absurd cc
+takes_less name n (Some x) is after names greatest = (
+  greatest.0,
+  (
+    among_front _ names _ greatest.1.0,
+    λ m digits a. elim (among_either _ name names a) [
+      | inl b ↦ greatest.1.1 m digits b
+      | inr e ↦
+          let z : m ≡ n = number_is m n (e ∙ is.1) in
+          let k : n ≤ x.number = ltb-false _ _ after in
+          omega (arith, z, k)
+    ],
+  ),
+)
+
+-- ---- a folder that lists these names
+
+pub last_file : (d : Disk Text) (names : List Text) (file : Option SegmentFile) → Lists d names → IsGreatest names file → IsLastFile file (folder d).read
+last_file d names None lists greatest = λ n digits there. greatest n digits (lists.all _ there)
+last_file d names (Some x) lists greatest = record {
+  there = lists.there _ greatest.1.0;
+  last = λ m digits there. greatest.1.1 m digits (lists.all _ there);
+}
+
+pub is_named : (names : List Text) (file : Option SegmentFile) → IsGreatest names file → IsNamed file
+is_named names None greatest = tt
+is_named names (Some x) greatest = greatest.0

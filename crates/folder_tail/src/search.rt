@@ -1,0 +1,77 @@
+//! The search for a batch after the place at which none reads.
+ghost use Rattle.std.specs.Prelude.{◌≡◌, ◌≤◌, ◌<◌, ◌+◌, length, IfOk};
+ghost use Rattle.folder_tail.specs.Search.{continues, LaterFrom, Later};
+
+use crate::heads::{head_in, sum_size};
+use std::alloc::{AllocError, Global};
+use store_format::read_batch;
+
+/// How many bytes the head of one entry has.
+const HEAD_SIZE: usize = 16;
+
+/// Whether bytes begin with a whole batch whose first index is at most `lost` past `next`.
+fn continues(
+    alloc: Global,
+    format: u64,
+    bytes: &[u8],
+    next: u64,
+    lost: u64,
+) -> Result<bool, AllocError>
+    ensures { IfOk result (λ found. found ≡ continues format next lost bytes.now) }
+{
+    match head_in(alloc, format, bytes)? {
+        Some(head) if head.first.saturating_sub(next) <= lost => {
+            Ok(read_batch(alloc, format, bytes)?.is_some())
+        }
+        _ => Ok(false),
+    }
+}
+
+/// The first place, from `from` on in steps of a word, at which a whole batch continues the log. `at` is the place at which none reads:
+/// the bytes from there on had at most one entry for each `HEAD_SIZE` of them.
+fn later_from(
+    alloc: Global,
+    format: u64,
+    bytes: &[u8],
+    at: usize,
+    from: usize,
+    next: u64,
+) -> Result<Option<usize>, AllocError>
+    requires order { at ≤ from }
+    requires within { from ≤ length bytes.now }
+    ensures { IfOk result (λ found. LaterFrom format next at from bytes.now found) }
+{
+    let mut place = from;
+    while place < bytes.len() {
+        let lost = (place - at) / HEAD_SIZE;
+        if continues(alloc, format, &bytes[place..], next, lost as u64)? {
+            return Ok(Some(place));
+        }
+        place += 8;
+    }
+    Ok(None)
+}
+
+/// The place of a whole batch after the place `at`, at which none reads: the first one, word by word, after the batch whose head is whole at
+/// `at`, or from the next word on if none is. `next` is the index that a batch at `at` had: a batch further on begins at most as many
+/// indices later as the bytes between could hold entries.
+pub(crate) fn later_batch(
+    alloc: Global,
+    format: u64,
+    bytes: &[u8],
+    at: usize,
+    next: u64,
+) -> Result<Option<usize>, AllocError>
+    requires { at < length bytes.now }
+    ensures { IfOk result (λ found. Later format next at bytes.now found) }
+{
+    let rest = &bytes[at..];
+    let size = match head_in(alloc, format, rest)? {
+        Some(head) => head.end.saturating_add(2 * sum_size(format) as u64),
+        None => 8,
+    };
+    if size >= rest.len() as u64 {
+        return Ok(None);
+    }
+    later_from(alloc, format, bytes, at, at + size as usize, next)
+}
