@@ -16,16 +16,18 @@ pub enum FolderUse {
     Check,
 }
 
-/// Says which bytes a start cuts off.
+/// Says by which bytes a start truncates the segment.
 fn tell_torn(rt: &HostRuntime, purpose: FolderUse, last: LastSegment) {
     let LastSegment { number, size, good } = last;
     let torn = size.saturating_sub(good);
     let _ = match purpose {
         FolderUse::Start => {
-            eprintln!(rt; "cut off the torn end of segment-{number:016}: {torn} bytes from byte {good} on")
+            eprintln!(rt;
+                "truncated the torn end of segment-{number:016}: {torn} bytes from byte {good} on"
+            )
         }
         FolderUse::Check => eprintln!(rt;
-            "a start cuts off the torn end of segment-{number:016}: {torn} bytes from byte {good} on"
+            "a start truncates the torn end of segment-{number:016}: {torn} bytes from byte {good} on"
         ),
     };
 }
@@ -60,8 +62,8 @@ fn tell_unknown(rt: &HostRuntime, purpose: FolderUse, number: u64, format: u64) 
 }
 
 /// Looks at the last segment of the folder and returns the status to end with, if nothing must be done with the folder: its end is damaged, its
-/// format is unknown, or it can't be read. It is said why. What a start cuts off is said, too. Faults of the files that a load finds are left to
-/// it.
+/// format is unknown, or it can't be read. It is said why. A torn end that a start truncates is said, too. Faults of the files that a load finds
+/// are left to it.
 pub fn refused_tail(
     rt: &HostRuntime,
     purpose: FolderUse,

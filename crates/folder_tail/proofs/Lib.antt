@@ -1,5 +1,5 @@
 pub mod HeadEnds
 pub mod HeadReads
 pub mod Searching
-pub mod Names
+pub mod Greatest
 pub mod Looking

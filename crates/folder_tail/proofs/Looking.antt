@@ -22,14 +22,21 @@ use Rattle.folder_tail.specs.declared.tail.Tail.{Tail}
 use Rattle.folder_tail.specs.declared.tail.Tail.TheVariants as tails
 use Rattle.folder_tail.specs.declared.folder.SegmentBytes.{SegmentBytes}
 use Rattle.folder_tail.specs.Last.{IsLast, IsLastRead}
-use Rattle.folder_tail.specs.Search.{Later}
-use Rattle.folder_tail.specs.Tails.{next_in, IsNext, Views, IsTorn, OfBytes, IsTailOf, TailShows}
+use Rattle.folder_tail.specs.Search.{is_misread, Later}
+use Rattle.folder_tail.specs.Tails.{next_in, IsNext, Views, IsTorn, OfBytes, IsTailOf, OfSegment, TailShows}
 
 -- ---- how far the bytes read
 
 pub walked_is : (f : Numbered) (s : SegmentsRead) → s ≡ with_segment node_format f none_read → s.last ≡ Some (last_of node_format f)
 unfolding with_segment
 walked_is f s e = ap (λ (x : SegmentsRead). x.last) e
+
+good_low : (bytes : List ℕ) → good_end node_format bytes ≤ length bytes
+unfolding good_end
+good_low bytes = elim (cases_Bool (opens node_format bytes)) [
+  | inl t ↦ subst (λ (n : ℕ). n ≤ length bytes) (sym (cond-true _ _ 0 t)) (omega arith)
+  | inr f ↦ subst (λ (n : ℕ). n ≤ length bytes) (sym (cond-false _ _ 0 f)) (omega arith)
+]
 
 -- bytes that don't read to their end read to a place before it, or not at all
 pub ends_before : (f : Numbered) (last : LastSegment) → last ≡ last_of node_format f → reads_whole last ≡ false → (last.good ≡ 0) ⊎ (last.good < length f.bytes)
@@ -59,18 +66,11 @@ ends_before f last e not_whole = which last.good refl
       | inr f ↦ inr (let l = ltb-false g n f in omega (arith, l, h))
     ]
 
-    good_low : (bytes : List ℕ) → good_end node_format bytes ≤ length bytes
-    unfolding good_end
-    good_low bytes = elim (cases_Bool (opens node_format bytes)) [
-      | inl t ↦ subst (λ (n : ℕ). n ≤ length bytes) (sym (cond-true _ _ 0 t)) (omega arith)
-      | inr f ↦ subst (λ (n : ℕ). n ≤ length bytes) (sym (cond-false _ _ 0 f)) (omega arith)
-    ]
-
 -- ---- the end of the bytes
 
-pub torn_after : (next good : ℕ) (bytes : List ℕ) → 0 < good → Later (format_in bytes) next good bytes None → IsTorn next good bytes
-torn_after next zero bytes some none = absurd (omega (arith, some))
-torn_after next (suc n) bytes some none = none
+pub torn_after : (next good : ℕ) (bytes : List ℕ) → 0 < good → is_misread next good bytes ≡ false → Later (format_in bytes) next good bytes None → IsTorn next good bytes
+torn_after next zero bytes some other none = absurd (omega (arith, some))
+torn_after next (suc n) bytes some other none = (other, none)
 
 pub torn_first : (next good : ℕ) (bytes : List ℕ) → good ≡ 0 → length bytes ≤ 8 → IsTorn next good bytes
 torn_first next zero bytes e short = short
@@ -93,10 +93,6 @@ view_now states x P is = record { each = λ d y plain. (y, is d) }
 
 pub view_stop : {T : Type 0} (states : Disk Text → Type 0) (f : LoadFault) (P : Disk Text → T → Type 0) → Views {T = T} states states (Err f) P
 view_stop states f P = record { each = λ d y plain. (y, tt) }
-
--- the tail of a segment whose bytes these are
-abbrev pub OfSegment : ℕ → List ℕ → Disk Text → Tail → Type 0
-OfSegment n bytes d tail = IsLast n (folder d).read → bytes ≡ ((folder d).read (Segment n)).bytes → TailShows tail (folder d).read
 
 -- two segments that are the last one are the same
 same_last : (g : NodeFiles) (m n : ℕ) → m < 10000000000000000 → n < 10000000000000000 → IsLast m g → IsLast n g → m ≡ n

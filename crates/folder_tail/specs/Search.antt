@@ -1,5 +1,5 @@
 -- A whole batch after the place at which none reads.
-use Rattle.std.specs.Prelude.{◌≡◌, ℕ, ◌+◌, ◌-◌, ◌*◌, ◌/◌, Bool, true, false, ◌&&◌, nat_lt, nat_le, List, length, drop, Option, Some, None}
+use Rattle.std.specs.Prelude.{◌≡◌, ℕ, ◌+◌, ◌-◌, ◌*◌, ◌/◌, Bool, true, false, ◌&&◌, ◌||◌, ◌==◌, cond, nat_lt, nat_le, List, length, drop, Option, Some, None}
 use Rattle.store_format.specs.Batches.{batch_in, sums_size}
 use Rattle.folder_tail.specs.declared.heads.BatchHead.{BatchHead}
 use Rattle.folder_tail.specs.Heads.{head_in}
@@ -8,7 +8,15 @@ use Rattle.folder_tail.specs.Heads.{head_in}
 unfoldable pub continues : ℕ → ℕ → ℕ → List ℕ → Bool
 continues format next lost bytes = nat_lt 0 (batch_in format bytes).size && nat_le ((batch_in format bytes).batch.first - next) lost
 
--- such a batch is at a place after the one at which none reads: the bytes between could hold as many entries as they have heads' sizes
+-- bytes begin with a whole batch of some format, whose first index isn't past the next one
+abbrev pub reads_in_any : ℕ → List ℕ → Bool
+reads_in_any next bytes = continues 1 next 0 bytes || (continues 2 next 0 bytes || continues 3 next 0 bytes)
+
+-- nothing reads after the first word of a segment, though a batch of some format is there
+abbrev pub is_misread : ℕ → ℕ → List ℕ → Bool
+is_misread next at bytes = cond (at == 8) (reads_in_any next (drop at bytes)) false
+
+-- a batch that continues the log is at a place after the one at which none reads: the bytes between could hold as many entries as they have heads' sizes
 abbrev pub continues_at : ℕ → ℕ → ℕ → List ℕ → ℕ → Bool
 continues_at format next at bytes place = continues format next ((place - at) / 16) (drop place bytes)
 

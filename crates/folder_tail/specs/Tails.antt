@@ -1,5 +1,5 @@
 -- What stands after the whole batches of the last segment of a folder.
-use Rattle.std.specs.Prelude.{◌≡◌, ℕ, zero, suc, ◌+◌, ◌≤◌, ◌<◌, true, List, length, Option, Some, None, Result, IfOk}
+use Rattle.std.specs.Prelude.{◌≡◌, ◌⊎◌, ℕ, zero, suc, ◌+◌, ◌≤◌, ◌<◌, true, false, List, length, Option, Some, None, Result, IfOk}
 use Rattle.disk_model.specs.Disk.{Disk}
 use Rattle.disk_model.specs.Trait.{Text}
 use Rattle.store_laws.specs.Names.{Segment, NodeFiles}
@@ -14,7 +14,7 @@ use Rattle.segment_store.specs.Reads.{at}
 use Rattle.folder_tail.specs.declared.tail.Tail.{Tail}
 use Rattle.folder_tail.specs.declared.tail.Tail.TheVariants as tails
 use Rattle.folder_tail.specs.Last.{IsLast}
-use Rattle.folder_tail.specs.Search.{Later}
+use Rattle.folder_tail.specs.Search.{is_misread, Later}
 
 -- the index after the last entry that is kept
 abbrev pub next_in : Kept → ℕ
@@ -32,13 +32,17 @@ pub record Views {T E : Type 0} (before after : Disk Text → Type 0) (result : 
 -- written, and after the whole batches of any other no batch continues the log
 abbrev pub IsTorn : ℕ → ℕ → List ℕ → Type 0
 IsTorn next zero bytes = length bytes ≤ 8
-IsTorn next (suc n) bytes = Later (format_in bytes) next (suc n) bytes None
+IsTorn next (suc n) bytes = (is_misread next (suc n) bytes ≡ false) × Later (format_in bytes) next (suc n) bytes None
+
+-- a whole batch is at a later place; or at the place itself, in another format than the segment's first word says
+abbrev pub IsDamaged : ℕ → ℕ → List ℕ → ℕ → Type 0
+IsDamaged next good bytes place = ((is_misread next good bytes ≡ true) × (place ≡ good)) ⊎ Later (format_in bytes) next good bytes (Some place)
 
 -- what stands at the end of the bytes of a segment that doesn't read to its end, if this is the index after the last entry
 abbrev pub OfBytes : Tail → LastSegment → ℕ → List ℕ → Type 0
 OfBytes tails.Whole last next bytes = ⊥
 OfBytes (tails.Torn seen) last next bytes = (seen ≡ last) × IsTorn next last.good bytes
-OfBytes (tails.Damaged seen place) last next bytes = (seen ≡ last) × ((0 < last.good) × Later (format_in bytes) next last.good bytes (Some place))
+OfBytes (tails.Damaged seen place) last next bytes = (seen ≡ last) × ((0 < last.good) × IsDamaged next last.good bytes place)
 OfBytes (tails.Unknown number format) last next bytes = (number ≡ last.number) × ((last.good ≡ 0) × ((8 < length bytes) × (format ≡ word_from 0 bytes)))
 
 -- the same of the segment of a number
@@ -54,3 +58,7 @@ TailShows tails.Whole g = (n : ℕ) → n < 10000000000000000 → IsLast n g →
 TailShows (tails.Torn last) g = IsTailOf (tails.Torn last) last.number g
 TailShows (tails.Damaged last place) g = IsTailOf (tails.Damaged last place) last.number g
 TailShows (tails.Unknown number format) g = IsTailOf (tails.Unknown number format) number g
+
+-- the same if the last segment is this one, with these bytes
+abbrev pub OfSegment : ℕ → List ℕ → Disk Text → Tail → Type 0
+OfSegment n bytes d tail = IsLast n (folder d).read → bytes ≡ ((folder d).read (Segment n)).bytes → TailShows tail (folder d).read

@@ -66,10 +66,7 @@ fn greatest(alloc: Global, names: &[Name]) -> Result<Option<SegmentFile>, AllocE
 }
 
 /// The last segment that a disk lists, if there is one.
-fn last_segment<D: Disk>(
-    alloc: Global,
-    disk: &mut D,
-) -> Result<Option<SegmentFile>, StoreFault>
+fn last_segment<D: Disk>(alloc: Global, disk: &mut D) -> Result<Option<SegmentFile>, StoreFault>
     ensures told { Sees (D.states disk.old) (D.states disk.new) result (λ d file. IsLastFile file (folder d).read) }
     ensures named { IfOk result IsNamed }
     ensures cause { DiskCause (D.faults disk.old) (D.faults disk.new) result }

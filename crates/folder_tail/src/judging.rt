@@ -1,16 +1,14 @@
 //! What stands after the whole batches of the last segment of a folder.
 ghost use Rattle.std.specs.Prelude.{◌≡◌, ◌⊎◌, ◌<◌, ℕ, length, IfOk, IfErr};
-ghost use Rattle.store_laws.specs.Names.{Segment};
 ghost use Rattle.store_format.specs.NodeFormat.{node_format};
 ghost use Rattle.store_format.specs.SegmentLog.{last_of};
 ghost use Rattle.segment_store.specs.declared.load_fault.LoadFault.TheVariants.{NoMemory};
 ghost use Rattle.segment_store.specs.Keeps.{folder};
 ghost use Rattle.segment_store.specs.Loading.{LoadCause};
-ghost use Rattle.folder_tail.specs.Last.{IsLast};
-ghost use Rattle.folder_tail.specs.Tails.{Views, IsNext, next_in, OfBytes, TailShows};
+ghost use Rattle.folder_tail.specs.Tails.{Views, IsNext, next_in, OfBytes, OfSegment, TailShows};
 
 use crate::folder::last_bytes;
-use crate::search::later_batch;
+use crate::search::{is_misread, later_batch};
 use crate::tail::Tail;
 use byteorder::{ByteOrder, LittleEndian};
 use disk_model::Disk;
@@ -51,7 +49,11 @@ fn after_batches(
     requires within { last.good < length bytes.now }
     ensures { IfOk result (λ tail. OfBytes tail last next bytes.now) }
 {
-    match later_batch(alloc, format_in(bytes), bytes, last.good as usize, next)? {
+    let at = last.good as usize;
+    if is_misread(alloc, bytes, at, next)? {
+        return Ok(Tail::Damaged(last, last.good));
+    }
+    match later_batch(alloc, format_in(bytes), bytes, at, next)? {
         Some(place) => Ok(Tail::Damaged(last, place as u64)),
         None => Ok(Tail::Torn(last)),
     }
@@ -70,12 +72,7 @@ fn without_format(last: LastSegment, bytes: &[u8]) -> Tail
 }
 
 /// What the bytes of a segment that doesn't read to its end end with. `next` is the index after the last entry that is kept.
-fn judge(
-    alloc: Global,
-    last: LastSegment,
-    bytes: &[u8],
-    next: u64,
-) -> Result<Tail, AllocError>
+fn judge(alloc: Global, last: LastSegment, bytes: &[u8], next: u64) -> Result<Tail, AllocError>
     requires { last.good ≡ 0 ⊎ last.good < length bytes.now }
     ensures { IfOk result (λ tail. OfBytes tail last next bytes.now) }
 {
@@ -87,12 +84,7 @@ fn judge(
 }
 
 /// The same, with the fault of a load.
-fn judged(
-    alloc: Global,
-    last: LastSegment,
-    bytes: &[u8],
-    next: u64,
-) -> Result<Tail, LoadFault>
+fn judged(alloc: Global, last: LastSegment, bytes: &[u8], next: u64) -> Result<Tail, LoadFault>
     requires { last.good ≡ 0 ⊎ last.good < length bytes.now }
     ensures tail { IfOk result (λ tail. OfBytes tail last next bytes.now) }
     ensures memory { IfErr result (λ fault. fault ≡ NoMemory) }
@@ -122,7 +114,7 @@ fn tail_of<D: Disk>(
     bytes: &[u8],
 ) -> Result<Tail, LoadFault>
     requires { number < 10000000000000000 }
-    ensures told { Views (D.states disk.old) (D.states disk.new) result (λ d tail. IsLast number (folder d).read → bytes.now ≡ ((folder d).read (Segment number)).bytes → TailShows tail (folder d).read) }
+    ensures told { Views (D.states disk.old) (D.states disk.new) result (OfSegment number bytes.now) }
     ensures cause { LoadCause (D.faults disk.old) (D.faults disk.new) result }
 {
     let Ok(last) = walked(alloc, number, bytes) else {
@@ -142,7 +134,7 @@ fn tail_of<D: Disk>(
 /// A batch is synced before the next one is written. So after one whose write never ended nothing stands, and where a whole batch reads
 /// further on, those before it were damaged later. One counts as such only if its first index continues the log: it is at most as far past the
 /// last index that is kept as the bytes before it could hold entries. If the head of the batch is whole at which reading stops, what its entries
-/// say is passed over; else each word after it is looked at.
+/// say is passed over; else each word after it is looked at. Where nothing reads after the first word, the other formats are tried there.
 ///
 /// If the files represent no state, the fault of a load is answered, unless the last segment reads to its end. Reads the last segment once more
 /// than a load does, and all files twice where it doesn't read to its end.

@@ -1,8 +1,8 @@
 //! The search for a batch after the place at which none reads.
-ghost use Rattle.std.specs.Prelude.{◌≡◌, ◌≤◌, ◌<◌, ◌+◌, length, IfOk};
-ghost use Rattle.folder_tail.specs.Search.{continues, LaterFrom, Later};
+ghost use Rattle.std.specs.Prelude.{◌≡◌, ◌≤◌, ◌<◌, min, length, IfOk};
+ghost use Rattle.folder_tail.specs.Search.{continues, reads_in_any, is_misread, LaterFrom, Later, passed_over};
 
-use crate::heads::{head_in, sum_size};
+use crate::heads::{BatchHead, head_in, sum_size};
 use std::alloc::{AllocError, Global};
 use store_format::read_batch;
 
@@ -27,6 +27,35 @@ fn continues(
     }
 }
 
+/// Whether bytes begin with a whole batch of any format whose first index is at most `next`.
+fn reads_in_any(alloc: Global, bytes: &[u8], next: u64) -> Result<bool, AllocError>
+    ensures { IfOk result (λ found. found ≡ reads_in_any next bytes.now) }
+{
+    Ok(
+        continues(alloc, 1, bytes, next, 0)?
+            || continues(alloc, 2, bytes, next, 0)?
+            || continues(alloc, 3, bytes, next, 0)?,
+    )
+}
+
+/// Whether nothing reads after the first word of a segment because that word is another format's: the place `at` is right after it, and a batch
+/// of some format is there.
+pub(crate) fn is_misread(
+    alloc: Global,
+    bytes: &[u8],
+    at: usize,
+    next: u64,
+) -> Result<bool, AllocError>
+    requires { at ≤ length bytes.now }
+    ensures { IfOk result (λ found. found ≡ is_misread next at bytes.now) }
+{
+    if at == 8 {
+        reads_in_any(alloc, &bytes[at..], next)
+    } else {
+        Ok(false)
+    }
+}
+
 /// The first place, from `from` on in steps of a word, at which a whole batch continues the log. `at` is the place at which none reads:
 /// the bytes from there on had at most one entry for each `HEAD_SIZE` of them.
 fn later_from(
@@ -42,7 +71,7 @@ fn later_from(
     ensures { IfOk result (λ found. LaterFrom format next at from bytes.now found) }
 {
     let mut place = from;
-    while place < bytes.len() {
+    'words: while place < bytes.len() {
         let lost = (place - at) / HEAD_SIZE;
         if continues(alloc, format, &bytes[place..], next, lost as u64)? {
             return Ok(Some(place));
@@ -50,6 +79,16 @@ fn later_from(
         place += 8;
     }
     Ok(None)
+}
+
+/// How many bytes are passed over at a place at which no batch reads, by the head that is there.
+fn passed_over(format: u64, head: Option<BatchHead>) -> u64
+    ensures { result ≡ min (passed_over format head) 18446744073709551615 }
+{
+    match head {
+        Some(head) => head.end.saturating_add(2 * sum_size(format) as u64),
+        None => 8,
+    }
 }
 
 /// The place of a whole batch after the place `at`, at which none reads: the first one, word by word, after the batch whose head is whole at
@@ -66,10 +105,8 @@ pub(crate) fn later_batch(
     ensures { IfOk result (λ found. Later format next at bytes.now found) }
 {
     let rest = &bytes[at..];
-    let size = match head_in(alloc, format, rest)? {
-        Some(head) => head.end.saturating_add(2 * sum_size(format) as u64),
-        None => 8,
-    };
+    let head = head_in(alloc, format, rest)?;
+    let size = passed_over(format, head);
     if size >= rest.len() as u64 {
         return Ok(None);
     }

@@ -90,7 +90,16 @@ const LOST: &[u64] = &[
 ];
 
 /// The same in a segment whose log ends before index 8 even if the words between were heads of entries.
-const FAR: &[u64] = &[3, 1, 0xd4c4_e7dd_2be8_9a5b, 0xa4d7_e2fd_a976_5ad2, 8, 1, 3, 2];
+const FAR: &[u64] = &[
+    3,
+    1,
+    0xd4c4_e7dd_2be8_9a5b,
+    0xa4d7_e2fd_a976_5ad2,
+    8,
+    1,
+    3,
+    2,
+];
 
 /// A change of a segment's bytes.
 #[derive(Clone, Copy)]
@@ -99,6 +108,8 @@ enum Change {
     None,
     /// Five bits of the byte at this place are turned.
     Flip(usize),
+    /// The first byte is this one.
+    Format(u8),
     /// Only as many bytes are left.
     Cut(usize),
     /// As many zeros follow.
@@ -136,6 +147,11 @@ fn changed(alloc: Global, words: &[u64], change: Change) -> Result<Vec<u8>, Allo
                 *byte ^= 0xf8;
             }
         }
+        Change::Format(format) => {
+            if let Some(byte) = bytes.first_mut() {
+                *byte = format;
+            }
+        }
         Change::Cut(length) => bytes.truncate(length),
         Change::Zeros(count) => bytes.resize(bytes.len() + count, 0)?,
     }
@@ -160,35 +176,54 @@ fn folder(
     let mut disk = MemDisk::new(alloc);
     put(&mut disk, "metadata1", &bytes_of(alloc, METADATA)?)?;
     if snapshot {
-        put(&mut disk, "snapshot-0000000000000007", &bytes_of(alloc, SNAPSHOT)?)?;
+        put(
+            &mut disk,
+            "snapshot-0000000000000007",
+            &bytes_of(alloc, SNAPSHOT)?,
+        )?;
     }
     let [before, last] = segments;
     if !before.is_empty() {
-        put(&mut disk, "segment-0000000000000001", &bytes_of(alloc, before)?)?;
+        put(
+            &mut disk,
+            "segment-0000000000000001",
+            &bytes_of(alloc, before)?,
+        )?;
     }
-    put(&mut disk, "segment-0000000000000002", &changed(alloc, last, change)?)?;
+    put(
+        &mut disk,
+        "segment-0000000000000002",
+        &changed(alloc, last, change)?,
+    )?;
     Ok(disk)
 }
 
-/// What is found in such a folder. A torn tail is loaded without a fault, and cut there.
-fn found(
+/// What is found in such a folder.
+fn found(alloc: Global, segments: [&[u64]; 2], snapshot: bool, change: Change) -> Option<Found> {
+    let mut disk = folder(alloc, segments, snapshot, change).ok()?;
+    let found = match look_at_tail(alloc, &mut disk).ok()? {
+        Tail::Whole => Found::Whole,
+        Tail::Torn(last) => Found::Torn(last.good),
+        Tail::Damaged(last, place) => Found::Damaged(last.good, place),
+        Tail::Unknown(2, _) => Found::Unknown,
+        Tail::Unknown(_, _) => return None,
+    };
+    Some(found)
+}
+
+/// What is found after a load, which drops what follows the last whole batch.
+fn after_load(
     alloc: Global,
     segments: [&[u64]; 2],
     snapshot: bool,
     change: Change,
 ) -> Option<Found> {
     let mut disk = folder(alloc, segments, snapshot, change).ok()?;
-    let found = match look_at_tail(alloc, &mut disk).ok()? {
-        Tail::Whole => Found::Whole,
-        Tail::Torn(last) => {
-            let (_store, _kept) = Store::load(alloc, &mut disk).ok()?;
-            Found::Torn(last.good)
-        }
-        Tail::Damaged(last, place) => Found::Damaged(last.good, place),
-        Tail::Unknown(2, _) => Found::Unknown,
-        Tail::Unknown(_, _) => return None,
-    };
-    Some(found)
+    let (_store, _kept) = Store::load(alloc, &mut disk).ok()?;
+    match look_at_tail(alloc, &mut disk).ok()? {
+        Tail::Whole => Some(Found::Whole),
+        _ => None,
+    }
 }
 
 /// A segment of two batches: its words, its size in bytes, and where its first batch ends.
@@ -243,6 +278,9 @@ const ROWS: &[([&[u64]; 2], bool, Change, Found)] = &[
     ([OLD, LOST], true, Change::None, Found::Damaged(8, 24)),
     ([&[], LOST], false, Change::None, Found::Torn(8)),
     ([&[], FAR], false, Change::None, Found::Torn(8)),
+    ([&[], LATEST], true, Change::Format(1), Found::Damaged(8, 8)),
+    ([&[], NEW], true, Change::Format(3), Found::Damaged(8, 8)),
+    ([&[], OLD], true, Change::Format(2), Found::Damaged(8, 8)),
     ([&[], &[4]], true, Change::None, Found::Torn(0)),
     ([&[], &[4, 0]], true, Change::None, Found::Unknown),
     ([OLD, &[0, 0]], true, Change::None, Found::Unknown),
@@ -253,6 +291,10 @@ fn what_follows_whole_batches_is_judged_by_its_bytes(rt: HostRuntime) {
     for &(segments, snapshot, change, wanted) in ROWS {
         let seen = found(rt.alloc(), segments, snapshot, change);
         assert_eq!(rt; seen, Some(wanted));
+        assert_eq!(rt;
+            after_load(rt.alloc(), segments, snapshot, change),
+            Some(Found::Whole)
+        );
     }
 }
 
