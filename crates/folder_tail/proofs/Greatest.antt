@@ -1,7 +1,8 @@
 -- The greatest number of a segment among names.
-use Rattle.std.proofs.Common.{◌≡◌, ◌⊎◌, inl, inr, ℕ, ◌<◌, ◌≤◌, Bool, true, false, List, [], ◌∷◌, ◌++◌, Option, Some, None, refl, sym, ap, ◌∙◌, subst, arith}
+use Rattle.std.proofs.Common.{◌≡◌, ◌⊎◌, inl, inr, ℕ, ◌<◌, ◌≤◌, Bool, true, false, List, [], ◌∷◌, ◌++◌, length, take, get_or, ◌+◌, Option, Some, None, refl, sym, ap, ◌∙◌, subst, arith}
 use Rattle.std.specs.Prelude.{nat_lt}
 use Rattle.std.proofs.lemmas.Bool.{ltb-true, ltb-false}
+use Rattle.std.proofs.lemmas.List.{take_more, take_all}
 use Rattle.disk_model.specs.Disk.{Disk}
 use Rattle.disk_model.specs.SyncAll.{Among}
 use Rattle.disk_model.specs.Trait.{Text, Lists}
@@ -31,12 +32,12 @@ among_either t u (x ∷ xs) (inr a) = elim (among_either t u xs a) [
 ]
 
 -- a name that is no segment's
-pub takes_other : (name : Text) (best : Option SegmentFile) → IsNumberOf name None → TakesName name best best
-takes_other name None other names greatest = λ n digits a. elim (among_either _ name names a) [
+takes_none : (name : Text) (best : Option SegmentFile) → IsNumberOf name None → TakesName name best best
+takes_none name None other names greatest = λ n digits a. elim (among_either _ name names a) [
   | inl b ↦ greatest n digits b
   | inr e ↦ other n digits (sym e)
 ]
-takes_other name (Some file) other names greatest = (
+takes_none name (Some file) other names greatest = (
   greatest.0,
   (
     among_front _ names _ greatest.1.0,
@@ -46,6 +47,12 @@ takes_other name (Some file) other names greatest = (
     ],
   ),
 )
+
+pub takes_other : (name text : Text) (number : Option ℕ) (best : Option SegmentFile) → text ≡ name → number ≡ None → IsNumberOf text number → TakesName name best best
+takes_other name text number best same none is = takes_none name best (subst (λ (t : Text). IsNumberOf t None) same (subst (IsNumberOf text) none is))
+
+pub number_named : (name text : Text) (number : Option ℕ) (n : ℕ) → text ≡ name → number ≡ Some n → IsNumberOf text number → IsNumberOf name (Some n)
+number_named name text number n same some is = subst (λ (t : Text). IsNumberOf t (Some n)) same (subst (IsNumberOf text) some is)
 
 number_is : (m n : ℕ) → file_name (Segment m) ≡ file_name (Segment n) → m ≡ n
 number_is m n e = segment_is (no_two_alike (Segment m) (Segment n) e)
@@ -88,6 +95,23 @@ takes_less name n (Some x) is after names greatest = (
     ],
   ),
 )
+
+-- ---- all names, one after the other
+
+pub greatest_none : (names : List Text) → IsGreatest (take 0 names) None
+greatest_none names = λ n digits a. absurd (none names a)
+  where
+    none : {t : Text} (names : List Text) → Among t (take 0 names) → ⊥
+    none [] a = a
+    none (x ∷ xs) a = a
+
+pub greatest_next : (names : List Text) (i : ℕ) (name : Text) (old new : Option SegmentFile) → i < length names → name ≡ get_or names i name → IsGreatest (take i names) old → TakesName name old new → IsGreatest (take (i + 1) names) new
+greatest_next names i name old new lt is greatest takes =
+    let one : take i names ++ name ∷ [] ≡ take (i + 1) names = ap (λ (x : Text). take i names ++ x ∷ []) is ∙ sym (take_more names i name lt) in
+    subst (λ (xs : List Text). IsGreatest xs new) one (takes (take i names) greatest)
+
+pub greatest_all : (names : List Text) (i : ℕ) (file : Option SegmentFile) → length names ≤ i → IsGreatest (take i names) file → IsGreatest names file
+greatest_all names i file h greatest = subst (λ (xs : List Text). IsGreatest xs file) (take_all i names h) greatest
 
 -- ---- a folder that lists these names
 

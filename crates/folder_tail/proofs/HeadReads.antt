@@ -2,7 +2,7 @@
 use Rattle.std.proofs.Common.{◌≡◌, ◌≢◌, inl, inr, ℕ, zero, suc, ◌+◌, ◌-◌, ◌<◌, ◌≤◌, Bool, true, false, cond, List, length, take, drop, Option, Some, None, Result, Ok, Err, refl, sym, ap, ◌∙◌, subst, arith}
 use Rattle.std.specs.Prelude.{◌&&◌, nat_lt, nat_le, MatchOption}
 use Rattle.std.specs.Str.{bytes_eq}
-use Rattle.std.proofs.lemmas.Bool.{cases_Bool, cond-true, cond-false, and_parts, lt-ltb, le-leb, leb-true}
+use Rattle.std.proofs.lemmas.Bool.{cases_Bool, cond-true, cond-false, and_parts, lt-ltb, ltb-true, le-leb, leb-true}
 use Rattle.wire_words.specs.declared.fault.WordFault.{WordFault}
 use Rattle.wire_words.specs.Reading.{Unread, unread}
 use Rattle.store_laws.specs.Store.{Read}
@@ -58,8 +58,11 @@ batch_head format bytes ne = elim (cases_Bool (nat_lt (length bytes) (sums_size 
 -- ---- whether a batch continues the log, by its head
 
 no_size : (n : ℕ) (b : Bool) → (n ≢ 0 → b ≡ false) → (nat_lt 0 n && b) ≡ false
-no_size zero b h = refl
-no_size (suc n) b h = h (λ q. absurd cc)
+no_size zero b h = elim (cases_Bool (nat_lt 0 0)) [
+  | inl t ↦ absurd (omega (arith, ltb-true 0 0 t))
+  | inr f ↦ ap (λ (x : Bool). x && b) f
+]
+no_size (suc n) b h = ap (λ (x : Bool). x && b) (lt-ltb 0 (suc n) (omega arith)) ∙ h (λ q. absurd (omega (arith, q)))
 
 -- no head is whole
 pub no_head : (format next lost : ℕ) (bytes : List ℕ) → head_in format bytes ≡ None → continues format next lost bytes ≡ false
@@ -86,17 +89,42 @@ too_far format next lost bytes head e far = no_size (batch_in format bytes).size
       | inr f ↦ f
     ]
 
+-- the head of a batch whose first index isn't too far
+pub near : (format next lost : ℕ) (bytes : List ℕ) (head : BatchHead) (found : Bool) → head_in format bytes ≡ Some head → head.first - next ≤ lost → found ≡ nat_lt 0 (batch_in format bytes).size → found ≡ continues format next lost bytes
+unfolding continues
+near format next lost bytes head found e low is = is ∙ sym (by_size (batch_in format bytes).size refl)
+  where
+    by_size : (n : ℕ) → (batch_in format bytes).size ≡ n → (nat_lt 0 (batch_in format bytes).size && nat_le ((batch_in format bytes).batch.first - next) lost) ≡ nat_lt 0 (batch_in format bytes).size
+    by_size zero z =
+        let none : nat_lt 0 (batch_in format bytes).size ≡ false = no_less (batch_in format bytes).size z in
+        ap (λ (x : Bool). x && nat_le ((batch_in format bytes).batch.first - next) lost) none ∙ sym none
+    by_size (suc n) z =
+        let h = batch_head format bytes (λ q. absurd (omega (arith, q, z))) in
+        let same : head.first ≡ (batch_in format bytes).batch.first = ap (λ (x : BatchHead). x.first) (some_is head h.whole (sym e ∙ h.is)) ∙ h.first_is in
+        let some : nat_lt 0 (batch_in format bytes).size ≡ true = lt-ltb 0 (batch_in format bytes).size (omega (arith, z)) in
+        ap (λ (x : Bool). x && nat_le ((batch_in format bytes).batch.first - next) lost) some ∙ le-leb ((batch_in format bytes).batch.first - next) lost (omega (arith, same, low)) ∙ sym some
+
+    no_less : (n : ℕ) → n ≡ 0 → nat_lt 0 n ≡ false
+    no_less n z = elim (cases_Bool (nat_lt 0 n)) [
+      | inl t ↦ absurd (omega (arith, z, ltb-true 0 n t))
+      | inr f ↦ f
+    ]
+
+pub batch_read : (format : ℕ) (bytes : List ℕ) (found : Option FoundBatch) (batch : FoundBatch) → read_of_found found ≡ batch_in format bytes → MatchOption found (Unit {0}) (λ b. 0 < b.size) → found ≡ Some batch → true ≡ nat_lt 0 (batch_in format bytes).size
+batch_read format bytes found batch is some e =
+    let size : batch.size ≡ (batch_in format bytes).size = ap (λ (r : Read). r.size) (ap read_of_found (sym e) ∙ is) in
+    let low : 0 < batch.size = subst (λ (f : Option FoundBatch). MatchOption f (Unit {0}) (λ b. 0 < b.size)) e some in
+    sym (lt-ltb 0 (batch_in format bytes).size (omega (arith, size, low)))
+
+pub batch_unread : (format : ℕ) (bytes : List ℕ) (found : Option FoundBatch) → read_of_found found ≡ batch_in format bytes → found ≡ None → false ≡ nat_lt 0 (batch_in format bytes).size
+batch_unread format bytes found is e =
+    let size : 0 ≡ (batch_in format bytes).size = ap (λ (r : Read). r.size) (ap read_of_found (sym e) ∙ is) in
+    elim (cases_Bool (nat_lt 0 (batch_in format bytes).size)) [
+      | inl t ↦ absurd (omega (arith, size, ltb-true 0 (batch_in format bytes).size t))
+      | inr f ↦ sym f
+    ]
+
 -- no batch reads
 pub no_batch : (format next lost : ℕ) (bytes : List ℕ) → (batch_in format bytes).size ≡ 0 → continues format next lost bytes ≡ false
 unfolding continues
 no_batch format next lost bytes e = no_size (batch_in format bytes).size _ (λ ne. absurd (ne e))
-
--- one does, and its first index isn't too far
-pub found_batch : (format next lost : ℕ) (bytes : List ℕ) (head : BatchHead) (batch : FoundBatch) → head_in format bytes ≡ Some head → head.first - next ≤ lost → read_of_found (Some batch) ≡ batch_in format bytes → 0 < batch.size → continues format next lost bytes ≡ true
-unfolding continues
-found_batch format next lost bytes head batch e near is some =
-    let size : batch.size ≡ (batch_in format bytes).size = ap (λ (r : Read). r.size) is in
-    let ne : (batch_in format bytes).size ≢ 0 = λ z. absurd (omega (arith, z, size, some)) in
-    let h = batch_head format bytes ne in
-    let same : head.first ≡ (batch_in format bytes).batch.first = ap (λ (x : BatchHead). x.first) (some_is head h.whole (sym e ∙ h.is)) ∙ h.first_is in
-    (λ i. lt-ltb 0 (batch_in format bytes).size (omega (arith, size, some)) i && le-leb ((batch_in format bytes).batch.first - next) lost (omega (arith, same, near)) i)

@@ -9,11 +9,15 @@ use Rattle.store_laws.specs.Store.{Kept, Loaded, opens, reader, torn}
 use Rattle.store_laws.specs.Damage.{Numbered, good_end}
 use Rattle.store_format.specs.Words.{format_in}
 use Rattle.store_format.specs.NodeFormat.{node_format}
-use Rattle.store_format.specs.SegmentLog.{SegmentsRead, none_read, last_of, reads_whole, with_segment}
+use Rattle.store_format.specs.FilesRead.{FilesRead, nothing_read, with_segment_read}
+use Rattle.store_format.specs.SegmentLog.{none_read, last_of, reads_whole, with_segment}
 use Rattle.store_format.specs.declared.segment_log.LastSegment.{LastSegment}
 use Rattle.segment_store.specs.declared.fault.StoreFault.{StoreFault}
 use Rattle.segment_store.specs.declared.load_fault.LoadFault.{LoadFault}
-use Rattle.segment_store.specs.declared.load_fault.LoadFault.TheVariants.{NoMemory, DiskFault}
+use Rattle.segment_store.specs.declared.load_fault.LoadFault.TheVariants as fault
+use Rattle.dq_base.proofs.FaultLaws.{Rose-earlier}
+use Rattle.segment_store.specs.Faults.{DiskCause}
+use Rattle.segment_store.proofs.LoadEnds.{cause_store}
 use Rattle.segment_store.specs.Keeps.{folder}
 use Rattle.segment_store.specs.LoadFaults.{of_store}
 use Rattle.segment_store.specs.Loading.{Sees, IsPlain, LooksAt, LoadCause}
@@ -23,13 +27,16 @@ use Rattle.folder_tail.specs.declared.tail.Tail.TheVariants as tails
 use Rattle.folder_tail.specs.declared.folder.SegmentBytes.{SegmentBytes}
 use Rattle.folder_tail.specs.Last.{IsLast, IsLastRead}
 use Rattle.folder_tail.specs.Search.{is_misread, Later}
-use Rattle.folder_tail.specs.Tails.{next_in, IsNext, Views, IsTorn, OfBytes, IsTailOf, OfSegment, TailShows}
+use Rattle.folder_tail.specs.Tails.{next_in, IsNext, Views, IsTorn, OfBytes, IsTailOf, OfSegment, OfFound, TailShows}
 
 -- ---- how far the bytes read
 
-pub walked_is : (f : Numbered) (s : SegmentsRead) → s ≡ with_segment node_format f none_read → s.last ≡ Some (last_of node_format f)
+pub walked_is : (f : Numbered) (old r : FilesRead) (last : LastSegment) → old ≡ nothing_read → r ≡ with_segment_read (with_segment node_format f old.segments) old → Some last ≡ r.segments.last → last ≡ last_of node_format f
 unfolding with_segment
-walked_is f s e = ap (λ (x : SegmentsRead). x.last) e
+walked_is f old r last none e found = some_is last (last_of node_format f) (found ∙ ap (λ (x : FilesRead). x.segments.last) e)
+  where
+    some_is : (a b : LastSegment) → Some a ≡ Some b → a ≡ b
+    some_is a b q = cc
 
 good_low : (bytes : List ℕ) → good_end node_format bytes ≤ length bytes
 unfolding good_end
@@ -38,33 +45,34 @@ good_low bytes = elim (cases_Bool (opens node_format bytes)) [
   | inr f ↦ subst (λ (n : ℕ). n ≤ length bytes) (sym (cond-false _ _ 0 f)) (omega arith)
 ]
 
+less_or_all : (good size : ℕ) → good ≤ size → (good < size) ⊎ (good ≡ size)
+less_or_all good size h = elim (cases_Bool (nat_lt good size)) [
+  | inl t ↦ inl (ltb-true good size t)
+  | inr f ↦ inr (let l : size ≤ good = ltb-false good size f in omega (arith, l, h))
+]
+
+not_whole : (good size : ℕ) → 0 < good → good ≡ size → (nat_lt 0 good && (good == size)) ≡ false → ⊥
+not_whole good size some same e =
+    let one : nat_lt 0 good ≡ true = lt-ltb 0 good some in
+    let two : (good == size) ≡ true = eq-eqb good size same in
+    let both : (nat_lt 0 good && (good == size)) ≡ true = λ i. one i && two i in
+    let z : true ≡ false = sym both ∙ e in
+    absurd cc
+
+before_end : (good size : ℕ) → good ≤ size → (nat_lt 0 good && (good == size)) ≡ false → (good ≡ 0) ⊎ (good < size)
+before_end zero size h e = inl refl
+before_end (suc n) size h e = elim (less_or_all (suc n) size h) [
+  | inl less ↦ inr less
+  | inr all ↦ absurd (not_whole (suc n) size (omega arith) all e)
+]
+
 -- bytes that don't read to their end read to a place before it, or not at all
 pub ends_before : (f : Numbered) (last : LastSegment) → last ≡ last_of node_format f → reads_whole last ≡ false → (last.good ≡ 0) ⊎ (last.good < length f.bytes)
-ends_before f last e not_whole = which last.good refl
-  where
-    size : last.size ≡ length f.bytes
-    size = ap (λ (x : LastSegment). x.size) e
-
-    low : last.good ≤ length f.bytes
-    low = subst (λ (n : ℕ). n ≤ length f.bytes) (sym (ap (λ (x : LastSegment). x.good) e)) (good_low f.bytes)
-
-    which : (n : ℕ) → last.good ≡ n → (last.good ≡ 0) ⊎ (last.good < length f.bytes)
-    which zero z = inl z
-    which (suc n) z = elim (last_cases (length f.bytes) last.good low) [
-      | inl less ↦ inr less
-      | inr all ↦
-          let some : nat_lt 0 last.good ≡ true = lt-ltb 0 last.good (omega (arith, z)) in
-          let same : (last.good == last.size) ≡ true = eq-eqb last.good last.size (all ∙ sym size) in
-          let whole : reads_whole last ≡ true = λ i. some i && same i in
-          let bad : true ≡ false = sym whole ∙ not_whole in
-          absurd cc
-    ]
-
-    last_cases : (n g : ℕ) → g ≤ n → (g < n) ⊎ (g ≡ n)
-    last_cases n g h = elim (cases_Bool (nat_lt g n)) [
-      | inl t ↦ inl (ltb-true g n t)
-      | inr f ↦ inr (let l = ltb-false g n f in omega (arith, l, h))
-    ]
+ends_before f last e not =
+    let size : last.size ≡ length f.bytes = ap (λ (x : LastSegment). x.size) e in
+    let good : last.good ≡ good_end node_format f.bytes = ap (λ (x : LastSegment). x.good) e in
+    let low : last.good ≤ last.size = let l : good_end node_format f.bytes ≤ length f.bytes = good_low f.bytes in omega (arith, l, good, size) in
+    subst (λ (n : ℕ). (last.good ≡ 0) ⊎ (last.good < n)) size (before_end last.good last.size low not)
 
 -- ---- the end of the bytes
 
@@ -131,25 +139,50 @@ tail_seen old new n next bytes last (Err f) e views of_bytes = record { each = �
 
 -- ---- the whole
 
-pub no_segment : (old new : Disk Text → Type 0) → Sees {T = Option SegmentBytes} {E = StoreFault} old new (Ok None) (λ d found. IsLastRead found (folder d).read) → Views {E = LoadFault} old new (Ok tails.Whole) (λ d tail. TailShows tail (folder d).read)
-no_segment old new sees = record { each = λ d y plain. let z = sees.each d y in (z.0, λ n small is_last. absurd (z.1 n small is_last.there)) }
+pub found_none : (states : Disk Text → Type 0) (found : Option SegmentBytes) → found ≡ None → Views {E = LoadFault} states states (Ok tails.Whole) (OfFound found)
+found_none states found e = record { each = λ d y plain. (y, λ read n small is_last. absurd (subst (λ (f : Option SegmentBytes). IsLastRead f (folder d).read) e read n small is_last.there)) }
+
+pub found_some : (old new : Disk Text → Type 0) (found : Option SegmentBytes) (last : SegmentBytes) (bytes : List ℕ) (result : Result Tail LoadFault) → found ≡ Some last → bytes ≡ last.bytes.items → Views old new result (OfSegment last.number bytes) → Views old new result (OfFound found)
+found_some old new found last bytes (Ok tail) e same views = record {
+  each = λ d y plain.
+      let z = views.each d y plain in
+      (z.0, λ read. let r = subst (λ (f : Option SegmentBytes). IsLastRead f (folder d).read) e read in z.1 r.0 (same ∙ r.1));
+}
+found_some old new found last bytes (Err f) e same views = record { each = λ d y plain. ((views.each d y plain).0, tt) }
 
 pub unread : (old new : Disk Text → Type 0) (x : StoreFault) (y : LoadFault) → Sees {T = Option SegmentBytes} {E = StoreFault} old new (Err x) (λ d found. IsLastRead found (folder d).read) → Views old new (Err y) (λ d tail. TailShows tail (folder d).read)
 unread old new x y sees = record { each = λ d a plain. ((sees.each d a).0, tt) }
 
-pub judged_last : (old mid new : Disk Text → Type 0) (last : SegmentBytes) (bytes : List ℕ) (result : Result Tail LoadFault) → bytes ≡ last.bytes.items → Sees {E = StoreFault} old mid (Ok (Some last)) (λ d found. IsLastRead found (folder d).read) → Views mid new result (OfSegment last.number bytes) → Views old new result (λ d tail. TailShows tail (folder d).read)
-judged_last old mid new last bytes (Ok tail) same sees views = record { each = λ d y plain. let z = sees.each d y in let w = views.each d z.0 plain in (w.0, w.1 z.1.0 (same ∙ z.1.1)) }
-judged_last old mid new last bytes (Err f) same sees views = record { each = λ d y plain. let z = sees.each d y in ((views.each d z.0 plain).0, tt) }
+pub read_then : (old mid new : Disk Text → Type 0) (found : Option SegmentBytes) (result : Result Tail LoadFault) → Sees {E = StoreFault} old mid (Ok found) (λ d f. IsLastRead f (folder d).read) → Views mid new result (OfFound found) → Views old new result (λ d tail. TailShows tail (folder d).read)
+read_then old mid new found (Ok tail) sees views = record { each = λ d y plain. let z = sees.each d y in let w = views.each d z.0 plain in (w.0, w.1 z.1) }
+read_then old mid new found (Err f) sees views = record { each = λ d y plain. let z = sees.each d y in ((views.each d z.0 plain).0, tt) }
 
 -- ---- causes
 
 pub cause_pass : {S T : Type 0} (before now : ℕ) (f : LoadFault) → LoadCause {T = S} before now (Err f) → LoadCause {T = T} before now (Err f)
-cause_pass before now f h = record { never_falls = h.never_falls; failed = λ q. h.failed (ap (λ (x : LoadFault). Err x) (fault_is _ _ q)) }
-  where
-    fault_is : {T : Type 0} (a b : LoadFault) → Err {A = T} a ≡ Err b → a ≡ b
-    fault_is a b q = cc
+cause_pass before now fault.NoMeta h = record { never_falls = h.never_falls; failed = λ q. absurd cc }
+cause_pass before now (fault.Damaged segment at) h = record { never_falls = h.never_falls; failed = λ q. absurd cc }
+cause_pass before now (fault.Gap first last) h = record { never_falls = h.never_falls; failed = λ q. absurd cc }
+cause_pass before now fault.DiskFault h = record { never_falls = h.never_falls; failed = λ q. h.failed refl }
+cause_pass before now fault.NoMemory h = record { never_falls = h.never_falls; failed = λ q. absurd cc }
 
 -- without a fault of the disk afterwards
-pub cause_end : {S T : Type 0} (before now : ℕ) (x : S) (result : Result T LoadFault) → LoadCause before now (Ok x) → IfErr result (λ f. f ≡ NoMemory) → LoadCause before now result
+pub cause_end : {S T : Type 0} (before now : ℕ) (x : S) (result : Result T LoadFault) → LoadCause before now (Ok x) → IfErr result (λ f. f ≡ fault.NoMemory) → LoadCause before now result
 cause_end before now x (Ok y) h memory = record { never_falls = h.never_falls; failed = λ q. absurd cc }
-cause_end before now x (Err f) h memory = record { never_falls = h.never_falls; failed = λ q. let z : Err {A = T} NoMemory ≡ Err DiskFault = ap (λ (g : LoadFault). Err g) (sym memory) ∙ q in absurd cc }
+cause_end before now x (Err fault.NoMeta) h memory = record { never_falls = h.never_falls; failed = λ q. absurd cc }
+cause_end before now x (Err (fault.Damaged segment at)) h memory = record { never_falls = h.never_falls; failed = λ q. absurd cc }
+cause_end before now x (Err (fault.Gap first last)) h memory = record { never_falls = h.never_falls; failed = λ q. absurd cc }
+cause_end before now x (Err fault.DiskFault) h memory = let z : fault.DiskFault ≡ fault.NoMemory = memory in absurd cc
+cause_end before now x (Err fault.NoMemory) h memory = record { never_falls = h.never_falls; failed = λ q. absurd cc }
+
+pub cause_read : {S T : Type 0} (before now : ℕ) (x : StoreFault) (y : LoadFault) → y ≡ of_store x → DiskCause {T = S} before now (Err x) → LoadCause {T = T} before now (Err y)
+cause_read before now x y e h = subst (λ (f : LoadFault). LoadCause before now (Err f)) (sym e) (cause_store before now x h)
+
+pub cause_both : {S T : Type 0} (before mid now : ℕ) (x : S) (result : Result T LoadFault) → DiskCause before mid (Ok x) → LoadCause mid now result → LoadCause before now result
+cause_both before mid now x result first second = record { never_falls = omega (arith, first.never_falls, second.never_falls); failed = λ q. Rose-earlier before mid now first.never_falls (second.failed q) }
+
+pub cause_none : {T : Type 0} (count : ℕ) (x : T) → LoadCause count count (Ok x)
+cause_none count x = record { never_falls = omega arith; failed = λ q. absurd cc }
+
+pub cause_memory : {T : Type 0} (count : ℕ) → LoadCause {T = T} count count (Err fault.NoMemory)
+cause_memory count = record { never_falls = omega arith; failed = λ q. absurd cc }

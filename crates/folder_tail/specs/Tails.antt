@@ -13,7 +13,8 @@ use Rattle.segment_store.specs.Loading.{kept_in, IsPlain}
 use Rattle.segment_store.specs.Reads.{at}
 use Rattle.folder_tail.specs.declared.tail.Tail.{Tail}
 use Rattle.folder_tail.specs.declared.tail.Tail.TheVariants as tails
-use Rattle.folder_tail.specs.Last.{IsLast}
+use Rattle.folder_tail.specs.declared.folder.SegmentBytes.{SegmentBytes}
+use Rattle.folder_tail.specs.Last.{IsLast, IsLastRead}
 use Rattle.folder_tail.specs.Search.{is_misread, Later}
 
 -- the index after the last entry that is kept
@@ -62,3 +63,7 @@ TailShows (tails.Unknown number format) g = IsTailOf (tails.Unknown number forma
 -- the same if the last segment is this one, with these bytes
 abbrev pub OfSegment : ℕ → List ℕ → Disk Text → Tail → Type 0
 OfSegment n bytes d tail = IsLast n (folder d).read → bytes ≡ ((folder d).read (Segment n)).bytes → TailShows tail (folder d).read
+
+-- the same if this was read of the last segment, or there is none
+abbrev pub OfFound : Option SegmentBytes → Disk Text → Tail → Type 0
+OfFound found d tail = IsLastRead found (folder d).read → TailShows tail (folder d).read

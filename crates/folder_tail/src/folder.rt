@@ -1,5 +1,5 @@
 //! The last segment of a folder.
-ghost use Rattle.std.specs.Prelude.{◌≡◌, ◌<◌, ◌≤◌, ◌++◌, [], length, take, OnOk, IfOk};
+ghost use Rattle.std.specs.Prelude.{◌≡◌, ◌<◌, ◌++◌, [], length, take, Some, OnOk, IfOk};
 ghost use Rattle.dq_base.specs.Names.{IsName};
 ghost use Rattle.store_laws.specs.Names.{Segment};
 ghost use Rattle.segment_store.specs.FileNames.{file_name};
@@ -7,7 +7,7 @@ ghost use Rattle.segment_store.specs.Faults.{DiskCause};
 ghost use Rattle.segment_store.specs.Keeps.{folder};
 ghost use Rattle.segment_store.specs.Loading.{Sees};
 ghost use Rattle.segment_store.specs.Reads.{ReadsOn};
-ghost use Rattle.folder_tail.specs.Last.{is_after, TakesName, IsGreatest, IsLastFile, IsNamed, IsLastRead, HasDigits};
+ghost use Rattle.folder_tail.specs.Last.{IsNumberOf, is_after, TakesName, IsGreatest, IsLastFile, IsNamed, IsLastRead, HasDigits};
 
 use crate::names::segment_number;
 use disk_model::Disk;
@@ -37,6 +37,24 @@ fn is_after(number: u64, best: &Option<SegmentFile>) -> bool
     }
 }
 
+/// The file of the greater number: the one before, or the segment of this number and name.
+fn later_of(
+    alloc: Global,
+    best: Option<SegmentFile>,
+    number: u64,
+    name: &Name,
+) -> Result<Option<SegmentFile>, AllocError>
+    requires { IsNumberOf name.now (Some number) }
+    ensures { IfOk result (λ now. TakesName name.now best now) }
+{
+    let after = is_after(number, &best);
+    if !after {
+        return Ok(best);
+    }
+    let name = name.try_clone(alloc)?;
+    Ok(Some(SegmentFile { number, name }))
+}
+
 /// The file of the greater number: the one before, or the one of this name, if that is a segment's.
 fn later(
     alloc: Global,
@@ -46,11 +64,8 @@ fn later(
     ensures { IfOk result (λ now. TakesName name.now best now) }
 {
     match segment_number(name.as_str()) {
-        Some(number) if is_after(number, &best) => Ok(Some(SegmentFile {
-            number,
-            name: name.try_clone(alloc)?,
-        })),
-        _ => Ok(best),
+        Some(number) => later_of(alloc, best, number, name),
+        None => Ok(best),
     }
 }
 

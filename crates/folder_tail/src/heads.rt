@@ -1,11 +1,11 @@
 //! The head of a batch: its numbers and the heads of its entries, without what the entries say.
-ghost use Rattle.std.specs.Prelude.{◌≡◌, ◌≤◌, cond, ◌==◌, length, IfOk};
+ghost use Rattle.std.specs.Prelude.{◌≡◌, ◌≤◌, ◌+◌, cond, ◌==◌, length, IfOk};
 ghost use Rattle.std.specs.Str.{bytes_eq};
 ghost use Rattle.byteorder.specs.Endian.{little_bytes};
 ghost use Rattle.wire_words.specs.Reading.{Finds};
 ghost use Rattle.store_format.specs.Sums.{sum8_of, word_sum_of};
 ghost use Rattle.store_format.specs.Batches.{sum_size, sums_size, batch_sum};
-ghost use Rattle.folder_tail.specs.Heads.{contents_end, batch_head_at, has_head_sum, head_in};
+ghost use Rattle.folder_tail.specs.Heads.{padded, contents_end, batch_head_at, has_head_sum, head_in};
 
 use byteorder::{ByteOrder, LittleEndian};
 use raft_messages::{EntryHead, read_entry_heads};
@@ -65,7 +65,7 @@ fn has_sum(format: u64, bytes: &[u8], sum: &[u8]) -> bool
 fn padded(size: u32) -> u64
     ensures { result ≡ padded size }
 {
-    u64::from(size).div_ceil(8) * 8
+    (u64::from(size) + 7) / 8 * 8
 }
 
 /// Where the bytes of entries with these heads end.
@@ -97,8 +97,8 @@ fn has_head_sum(format: u64, bytes: &[u8], header: u64) -> bool
     ensures { result ≡ has_head_sum format bytes.now header }
 {
     let size = sum_size(format);
-    let (sum, _) = bytes.split_at(size);
-    let (_, rest) = bytes.split_at(2 * size);
+    let (sum, behind) = bytes.split_at(size);
+    let (_, rest) = behind.split_at(size);
     let (head, _) = rest.split_at(header as usize);
     has_sum(format, head, sum)
 }
@@ -113,7 +113,7 @@ pub(crate) fn head_in(
 ) -> Result<Option<BatchHead>, AllocError>
     ensures { IfOk result (λ head. head ≡ head_in format bytes.now) }
 {
-    let size = 2 * sum_size(format);
+    let size = sum_size(format) * 2;
     if bytes.len() < size {
         return Ok(None);
     }

@@ -4,15 +4,17 @@ ghost use Rattle.store_format.specs.NodeFormat.{node_format};
 ghost use Rattle.store_format.specs.SegmentLog.{last_of};
 ghost use Rattle.segment_store.specs.declared.load_fault.LoadFault.TheVariants.{NoMemory};
 ghost use Rattle.segment_store.specs.Keeps.{folder};
+ghost use Rattle.segment_store.specs.LoadFaults.{of_store};
 ghost use Rattle.segment_store.specs.Loading.{LoadCause};
-ghost use Rattle.folder_tail.specs.Tails.{Views, IsNext, next_in, OfBytes, OfSegment, TailShows};
+ghost use Rattle.folder_tail.specs.Last.{HasDigits};
+ghost use Rattle.folder_tail.specs.Tails.{Views, IsNext, next_in, OfBytes, OfSegment, OfFound, TailShows};
 
-use crate::folder::last_bytes;
+use crate::folder::{SegmentBytes, last_bytes};
 use crate::search::{is_misread, later_batch};
 use crate::tail::Tail;
 use byteorder::{ByteOrder, LittleEndian};
 use disk_model::Disk;
-use segment_store::{Kept, LoadFault, Store};
+use segment_store::{Kept, LoadFault, Store, StoreFault};
 use std::alloc::{AllocError, Global};
 use store_format::{FilesRead, LastSegment, format_in};
 
@@ -23,7 +25,10 @@ fn walked(alloc: Global, number: u64, bytes: &[u8]) -> Result<LastSegment, Alloc
 {
     let mut read = FilesRead::new(alloc);
     read.add_segment(number, bytes)?;
-    read.last_segment().ok_or(AllocError)
+    match read.last_segment() {
+        Some(last) => Ok(last),
+        None => Err(AllocError),
+    }
 }
 
 /// The index after that of the last entry that is kept. Memory can't hold as many entries as would give it none.
@@ -106,6 +111,29 @@ fn next_of<D: Disk>(alloc: Global, disk: &mut D) -> Result<u64, LoadFault>
     }
 }
 
+/// Judges the segment of a number, whose bytes these are and read so far.
+fn tail_after<D: Disk>(
+    alloc: Global,
+    disk: &mut D,
+    number: u64,
+    last: LastSegment,
+    bytes: &[u8],
+) -> Result<Tail, LoadFault>
+    requires digits { number < 10000000000000000 }
+    requires walked { last ≡ last_of node_format (record { number = number; bytes = bytes.now }) }
+    ensures told { Views (D.states disk.old) (D.states disk.new) result (OfSegment number bytes.now) }
+    ensures cause { LoadCause (D.faults disk.old) (D.faults disk.new) result }
+{
+    let whole = last.reads_whole();
+    if whole {
+        return Ok(Tail::Whole);
+    }
+    match next_of(alloc, disk) {
+        Ok(next) => judged(alloc, last, bytes, next),
+        Err(fault) => Err(fault),
+    }
+}
+
 /// Judges the segment of a number, whose bytes these are.
 fn tail_of<D: Disk>(
     alloc: Global,
@@ -117,15 +145,35 @@ fn tail_of<D: Disk>(
     ensures told { Views (D.states disk.old) (D.states disk.new) result (OfSegment number bytes.now) }
     ensures cause { LoadCause (D.faults disk.old) (D.faults disk.new) result }
 {
-    let Ok(last) = walked(alloc, number, bytes) else {
-        return Err(LoadFault::NoMemory);
-    };
-    if last.reads_whole() {
-        return Ok(Tail::Whole);
+    match walked(alloc, number, bytes) {
+        Ok(last) => tail_after(alloc, disk, number, last, bytes),
+        Err(_) => Err(LoadFault::NoMemory),
     }
-    match next_of(alloc, disk) {
-        Ok(next) => judged(alloc, last, bytes, next),
-        Err(fault) => Err(fault),
+}
+
+/// Judges the last segment, if there is one.
+fn found_tail<D: Disk>(
+    alloc: Global,
+    disk: &mut D,
+    found: Option<SegmentBytes>,
+) -> Result<Tail, LoadFault>
+    requires { HasDigits found }
+    ensures told { Views (D.states disk.old) (D.states disk.new) result (OfFound found) }
+    ensures cause { LoadCause (D.faults disk.old) (D.faults disk.new) result }
+{
+    match found {
+        Some(last) => tail_of(alloc, disk, last.number, last.bytes.as_slice()),
+        None => Ok(Tail::Whole),
+    }
+}
+
+/// The fault of a load for one of the store.
+fn load_fault(fault: StoreFault) -> LoadFault
+    ensures { result ≡ of_store fault }
+{
+    match fault {
+        StoreFault::DiskFault => LoadFault::DiskFault,
+        StoreFault::NoMemory => LoadFault::NoMemory,
     }
 }
 
@@ -143,8 +191,7 @@ pub fn look_at_tail<D: Disk>(alloc: Global, disk: &mut D) -> Result<Tail, LoadFa
     ensures cause { LoadCause (D.faults disk.old) (D.faults disk.new) result }
 {
     match last_bytes(alloc, disk) {
-        Ok(Some(last)) => tail_of(alloc, disk, last.number, last.bytes.as_slice()),
-        Ok(None) => Ok(Tail::Whole),
-        Err(fault) => Err(LoadFault::from(fault)),
+        Ok(found) => found_tail(alloc, disk, found),
+        Err(fault) => Err(load_fault(fault)),
     }
 }
