@@ -16,5 +16,3 @@ mod loading;
 mod stops;
 #[cfg(test)]
 mod stores;
-#[cfg(test)]
-mod tails;

@@ -4,10 +4,9 @@ use disk_model::{Disk, DiskFault, MemDisk};
 use folder_tail::{Tail, look_at_tail};
 use segment_store::{LoadFault, Store};
 use std::alloc::{AllocError, Global};
-use std::test::Fail;
 use wire_words::Writer;
 
-// The batches are those of `loading.rt`, whose sums were computed in Python.
+// The files were computed in Python, the sums of formats 1 and 2 with its zlib and hashlib.
 
 /// Metadata of version 5 with term 3 and vote 2, in format 1.
 const METADATA: &[u64] = &[1, 5, 3, 2, 0x6b1e_18f0];
@@ -153,7 +152,7 @@ fn changed(alloc: Global, words: &[u64], change: Change) -> Result<Vec<u8>, Allo
             }
         }
         Change::Cut(length) => bytes.truncate(length),
-        Change::Zeros(count) => bytes.resize(bytes.len() + count, 0)?,
+        Change::Zeros(count) => bytes.resize(bytes.len().saturating_add(count), 0)?,
     }
     Ok(bytes)
 }
