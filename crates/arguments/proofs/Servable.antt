@@ -13,7 +13,7 @@ use Rattle.arguments.specs.declared.invocation.Peer.{Peer}
 use Rattle.arguments.specs.declared.invocation.Serve.{Serve}
 use Rattle.arguments.specs.declared.serving.ServeOptions.{ServeOptions}
 use Rattle.arguments.specs.Values.{engine_named, is_set, is_at_host, is_at_brackets, is_address, is_within, within, number_in}
-use Rattle.arguments.specs.Serving.{is_mark, peer_with, peer_of, has_id, is_new, new_peer, peers_behind, with_peer, peers_of, events_of, words_of, options_with, options_in, serve_with_peers, serve_with, serve_found, IsNodeId, IsAddress, IsPeer, AreDistinct, IsServable}
+use Rattle.arguments.specs.Serving.{is_mark, peer_with, peer_of, has_id, is_new, new_peer, peers_behind, with_peer, peers_of, events_of, idle_of, words_of, options_with, options_in, serve_with_peers, serve_with, serve_found, IsNodeId, IsAddress, IsPeer, AreDistinct, IsServable}
 
 -- ---- numbers and addresses
 
@@ -140,17 +140,19 @@ events_fit : (o : Option Text) → IfSome (events_of o) (λ n. (1 ≤ n) × (n �
 events_fit None = (omega arith, omega arith)
 events_fit (Some word) = number_fits 1 4294967295 (Some word)
 
-options_fit : (engine : Option EngineKind) (events : Option ℕ) (new : Bool) → IfSome events (λ n. (1 ≤ n) × (n ≤ 4294967295))
-    → IfSome (options_with engine events new) (λ given. 1 ≤ given.events)
-options_fit None events new h = tt
-options_fit (Some engine) None new h = tt
-options_fit (Some engine) (Some events) new h = h.0
+options_fit : (engine : Option EngineKind) (events idle : Option ℕ) (new : Bool) → IfSome events (λ n. (1 ≤ n) × (n ≤ 4294967295))
+    → IfSome (options_with engine events idle new) (λ given. 1 ≤ given.events)
+options_fit None events idle new h = tt
+options_fit (Some engine) None idle new h = tt
+options_fit (Some engine) (Some events) None new h = tt
+options_fit (Some engine) (Some events) (Some idle) new h = h.0
 
 pub serve_fits : (o : Option (List Row)) → IfSome (serve_found o) IsServable
 serve_fits None = tt
 serve_fits (Some rows) = node_fits (number_in 1 9 (first_of (codes "ID") rows)) (first_of (codes "LISTEN") rows) (words_of (all_of (codes "PEER") rows))
     (options_in rows) (number_fits 1 9 (first_of (codes "ID") rows))
-    (options_fit (engine_named (first_of (codes "engine") rows)) (events_of (first_of (codes "events") rows)) (is_set (first_of (codes "new") rows)) (events_fit (first_of (codes "events") rows)))
+    (options_fit (engine_named (first_of (codes "engine") rows)) (events_of (first_of (codes "events") rows)) (idle_of (first_of (codes "idle-transaction") rows))
+    (is_set (first_of (codes "new") rows)) (events_fit (first_of (codes "events") rows)))
 
 pub served_fits : (o : Option (List Row)) (r : Result (Option Serve) AllocError) → IfOk r (λ (served : Option Serve). served ≡ serve_found o) → IfOk r (λ (served : Option Serve). IfSome served IsServable)
 served_fits o (Err f) h = tt

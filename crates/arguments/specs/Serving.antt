@@ -55,24 +55,30 @@ abbrev pub events_of : Option Text → Option ℕ
 events_of None = Some 4294967295
 events_of (Some word) = number_in 1 4294967295 (Some word)
 
+-- for how many seconds a transaction may be idle; 60 where no number is named
+abbrev pub idle_of : Option Text → Option ℕ
+idle_of None = Some 60
+idle_of (Some word) = number_in 0 86400 (Some word)
+
 -- the arguments after the address; none if there are none
 abbrev pub words_of : Option (List Text) → List Text
 words_of None = []
 words_of (Some words) = words
 
-abbrev pub options_with : Option EngineKind → Option ℕ → Bool → Option ServeOptions
-options_with (Some engine) (Some events) new = Some (record { engine = engine; events = events; new = new })
-options_with engine events new = None
+abbrev pub options_with : Option EngineKind → Option ℕ → Option ℕ → Bool → Option ServeOptions
+options_with (Some engine) (Some events) (Some idle) new = Some (record { engine = engine; events = events; idle = idle; new = new })
+options_with engine events idle new = None
 
 -- what the options say
 abbrev pub options_in : List Row → Option ServeOptions
 options_in rows =
-    options_with (engine_named (first_of (codes "engine") rows)) (events_of (first_of (codes "events") rows)) (is_set (first_of (codes "new") rows))
+    options_with (engine_named (first_of (codes "engine") rows)) (events_of (first_of (codes "events") rows))
+    (idle_of (first_of (codes "idle-transaction") rows)) (is_set (first_of (codes "new") rows))
 
 abbrev pub serve_with_peers : ℕ → Text → ServeOptions → Option (List Peer) → Option Serve
 serve_with_peers id listen options None = None
 serve_with_peers id listen options (Some peers) =
-    Some (record { id = id; listen = listen; peers = peers; engine = options.engine; events = options.events; new = options.new })
+    Some (record { id = id; listen = listen; peers = peers; engine = options.engine; events = options.events; idle_transaction = options.idle; new = options.new })
 
 abbrev pub serve_with : Option ℕ → Option Text → List Text → Option ServeOptions → Option Serve
 serve_with (Some id) (Some listen) words (Some options) = cond (is_address listen) (serve_with_peers id listen options (peers_of id words)) None

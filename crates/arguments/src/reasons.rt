@@ -6,7 +6,7 @@ use crate::commands::{
     values,
 };
 use crate::reading::{Line, engine_named, line_of, number_in};
-use crate::serving::{MAX_EVENTS, MAX_PEERS, has_id, peer_of};
+use crate::serving::{MAX_EVENTS, MAX_IDLE, MAX_PEERS, has_id, peer_of};
 use clap::error::ErrorKind;
 use clap::{ArgMatches, Command, Error};
 use std::alloc::{AllocError, Global};
@@ -112,6 +112,11 @@ fn node_reason(
     if let Some(events) = value(matches, "events") {
         if number_in(1, MAX_EVENTS, Some(events)).is_none() {
             return Ok(Some("K is 1 to 4294967295, in decimal without leading zeros"));
+        }
+    }
+    if let Some(idle) = value(matches, "idle-transaction") {
+        if number_in(0, MAX_IDLE, Some(idle)).is_none() {
+            return Ok(Some("S is 0 to 86400, in decimal without leading zeros"));
         }
     }
     if let Some(listen) = value(matches, "LISTEN") {

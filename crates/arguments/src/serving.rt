@@ -6,7 +6,7 @@ ghost use Rattle.std.specs.List.{before_first, after_first};
 ghost use Rattle.clap.specs.Words.{found_of, rows_of};
 ghost use Rattle.arguments.specs.Commands.{serve_app, read_by};
 ghost use Rattle.arguments.specs.Values.{is_address};
-ghost use Rattle.arguments.specs.Serving.{is_mark, peer_with, peer_of, has_id, is_new, new_peer, peers_behind, peers_of, events_of, words_of, options_with, options_in, serve_with_peers, serve_with, serve_in, serve_found, secret_found, IsServable};
+ghost use Rattle.arguments.specs.Serving.{is_mark, peer_with, peer_of, has_id, is_new, new_peer, peers_behind, peers_of, events_of, idle_of, words_of, options_with, options_in, serve_with_peers, serve_with, serve_in, serve_found, secret_found, IsServable};
 
 use crate::addresses::{is_address, text};
 use crate::commands::{matches_by, serve_command, value, values};
@@ -24,11 +24,17 @@ pub(crate) const MAX_PEERS: usize = 6;
 /// The number of events where none is named.
 pub(crate) const MAX_EVENTS: u32 = 4_294_967_295;
 
+/// For how many seconds a client with a transaction may say nothing at most, and where no number is named.
+pub(crate) const MAX_IDLE: u32 = 86_400;
+
+const USUAL_IDLE: u32 = 60;
+
 /// The options of a node that is to be served.
 #[derive(Clone, Copy, Debug, PartialEq, Eq)]
 pub(crate) struct ServeOptions {
     engine: EngineKind,
     events: u32,
+    idle: u32,
     new: bool,
 }
 
@@ -120,16 +126,28 @@ fn events_of(word: Option<&str>) -> Option<u32>
     }
 }
 
+/// For how many seconds a transaction may be idle, by a word; 60 where none is there.
+fn idle_of(word: Option<&str>) -> Option<u32>
+    ensures { result ≡ idle_of (option_map (λ word. word.now) word.entry) }
+{
+    match word {
+        Some(word) => number_in(0, MAX_IDLE, Some(word)),
+        None => Some(USUAL_IDLE),
+    }
+}
+
 /// What the options say.
 fn options_in(matches: &ArgMatches<'_>) -> Option<ServeOptions>
     ensures { result ≡ options_in (rows_of (found_of matches.now)) }
 {
     let engine = engine_named(value(matches, "engine"))?;
     let events = events_of(value(matches, "events"))?;
+    let idle = idle_of(value(matches, "idle-transaction"))?;
     let new = is_set(value(matches, "new"));
     Some(ServeOptions {
         engine,
         events,
+        idle,
         new,
     })
 }
@@ -155,6 +173,7 @@ fn with_peers(
             peers,
             engine: options.engine,
             events: options.events as u64,
+            idle_transaction: options.idle as u64,
             new: options.new,
         })),
         None => Ok(None),
@@ -183,8 +202,9 @@ fn serve_in(alloc: Global, matches: &ArgMatches<'_>) -> Result<Option<Serve>, Al
 ///
 /// The id is a number of 1 to 9. An address is a host and a port; a peer is named as `N=ADDRESS`, with an N of 1 to 9. No two of
 /// the node and its peers have one number, and there are at most six peers. `--engine E` is as after `script`, and `--events K` with
-/// a number of 1 to 4,294,967,295, the greatest where it isn't there. `--new` makes a new node. `--secret FILE` names a file of the cluster's secret,
-/// at which `read_secret` looks.
+/// a number of 1 to 4,294,967,295, the greatest where it isn't there. `--idle-transaction S`, with a number of 0 to 86,400, closes the
+/// connection of a client that has a transaction and says nothing for S seconds; it is 60 without the option, and 0 is for any time.
+/// `--new` makes a new node. `--secret FILE` names a file of the cluster's secret, at which `read_secret` looks.
 #[tactic(auto, using(crate::proofs::Found::serve_simple))]
 pub fn read_serve(alloc: Global, words: &[String]) -> Result<Option<Serve>, AllocError>
     ensures found { IfOk result (λ served. served ≡ serve_found (read_by serve_app (map string_bytes words.now))) }

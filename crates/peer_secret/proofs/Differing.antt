@@ -28,21 +28,21 @@ differing_at left right i d e within other =
     ap (λ (n : ℕ). differing (take n left) (take n right)) on ∙ differing_suc left right i d e within other
 
 pub all_looked_at : (left right : List ℕ) (n : ℕ) → n ≡ length left → n ≡ length right → differing (take n left) (take n right) ≡ differing left right
-all_looked_at left right n l r = ap (λ (x : List ℕ). differing x (take n right)) (take_all left n l) ∙ ap (differing left) (take_all right n r)
+all_looked_at left right n l r = ap (λ (x : List ℕ). differing x (take n right)) (take_all n left (omega arith)) ∙ ap (differing left) (take_all n right (omega arith))
+
+joins : (x y : ℕ) (left right : List ℕ) (b : Bool) → (x == y) ≡ b → cond b 0 1 + differing left right ≡ 0 → (differing left right ≡ 0 → left ≡ right) →
+    x ∷ left ≡ y ∷ right
+joins x y left right true e none tails =
+    let rest : left ≡ right = tails (omega arith) in
+    λ i. eqb-true x y e i ∷ rest i
+joins x y left right false e none tails = absurd (omega arith)
 
 equal_texts : (left right : List ℕ) → length left ≡ length right → differing left right ≡ 0 → left ≡ right
 unfolding differing
 equal_texts [] [] long none = refl
 equal_texts [] (y ∷ right) long none = absurd cc
 equal_texts (x ∷ left) [] long none = absurd cc
-equal_texts (x ∷ left) (y ∷ right) long none = by (x == y) refl
-  where
-    by : (b : Bool) → (x == y) ≡ b → x ∷ left ≡ y ∷ right
-    by true e =
-        let rest : differing left right ≡ 0 = sym (ap (λ (b : Bool). cond b 0 1 + differing left right) e) ∙ none in
-        let tails : left ≡ right = equal_texts left right (omega arith) rest in
-        (λ i. eqb-true x y e i ∷ tails i)
-    by false e = let some : 1 + differing left right ≡ 0 = sym (ap (λ (b : Bool). cond b 0 1 + differing left right) e) ∙ none in absurd (omega arith)
+equal_texts (x ∷ left) (y ∷ right) long none = joins x y left right (x == y) refl none (equal_texts left right (omega arith))
 
 -- texts that count as the same are equal
 pub same_text : (left right : List ℕ) → same_bytes left right ≡ true → left ≡ right

@@ -1,7 +1,7 @@
 //! The text with which a node makes itself known to a peer.
 
-ghost use Rattle.std.specs.Prelude.{◌≡◌, IfOk};
-ghost use Rattle.peer_secret.specs.Passes.{coded_bytes, pass_bytes};
+ghost use Rattle.std.specs.Prelude.{◌≡◌, string_bytes, IfOk};
+ghost use Rattle.peer_secret.specs.Passes.{coded_bytes, joined_bytes, pass_bytes};
 
 use crate::hmac::hmac_sha256;
 use std::alloc::{AllocError, Global};
@@ -27,6 +27,19 @@ fn coded_bytes(
     Ok(bytes)
 }
 
+/// An address, two ids and a code, with a space between each two.
+fn joined(
+    alloc: Global,
+    address: &str,
+    sender: u64,
+    receiver: u64,
+    code: &str,
+) -> Result<String, AllocError>
+    ensures { IfOk result (λ text. string_bytes text ≡ joined_bytes address.now sender receiver code.now) }
+{
+    format!(in alloc; "{address} {sender} {receiver} {code}")
+}
+
 /// The text of a node's CONNECT to a peer: its address, its id, the peer's id and the code of these and of the cluster's name by the secret,
 /// 64 hexadecimal digits, with a space between each two.
 pub fn pass_text(
@@ -41,7 +54,7 @@ pub fn pass_text(
 {
     let bytes = coded_bytes(alloc, cluster, address, sender, receiver)?;
     let code = hmac_sha256(alloc, secret, bytes.as_slice())?;
-    let code = hex::encode(alloc, code)?;
-    let text = format!(in alloc; "{address} {sender} {receiver} {code}")?;
+    let digits = hex::encode(alloc, code)?;
+    let text = joined(alloc, address, sender, receiver, digits.as_str())?;
     Ok(WireText::new(text))
 }

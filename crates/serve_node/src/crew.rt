@@ -183,7 +183,7 @@ pub(crate) fn crew<E: Engine + Send + Drop + 'static, H: Host<Read>>(
     ensures cause { IfErr result (λ f. f ≡ crew.Host → Rose (H.faults host.old) (H.faults host.new)) }
 {
     let rt = host.rt();
-    let heard = LeaderContact::new(alloc)?;
+    let heard = host.contact()?;
     let replies = host.replies()?;
     let peers = reach_all::<E, H>(alloc, host, words)?;
     tick::<E, H>(alloc, host, &heard)?;

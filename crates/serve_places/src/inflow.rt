@@ -105,6 +105,11 @@ impl Inflow {
         Ok(())
     }
 
+    /// Whether the next bytes are the first ones of a message.
+    pub(crate) fn is_at_head(&self) -> bool {
+        self.left == 0
+    }
+
     /// Whether bytes of a message can be handed on.
     pub(crate) fn has_piece(&self) -> bool
         ensures { result ≡ has_piece self.now }

@@ -8,11 +8,13 @@ mod laws;
 mod limits;
 mod numbering;
 mod outflow;
+mod peer_sign;
 mod place;
 mod places;
 mod refused;
 mod rooms;
 mod stream;
+mod transaction;
 
 pub use laws::each_number_lives_once;
 pub use limits::{
@@ -20,6 +22,7 @@ pub use limits::{
     MAX_UNDER_WAY_BYTES,
 };
 pub use outflow::CutCause;
+pub use peer_sign::PeerSign;
 pub use places::{Places, Readiness};
 pub use refused::Refused;
 pub use stream::{ReadOutcome, ReadyStream};

@@ -11,6 +11,7 @@ use crate::limits::{
 };
 use crate::outflow::{CutCause, Flushed, Outflow};
 use crate::stream::{ReadOutcome, ReadyStream};
+use crate::transaction::TransactionState;
 use dq_base::Bytes;
 use std::alloc::Global;
 use wire_words::WireBytes;
@@ -29,6 +30,7 @@ pub(crate) struct Place<S: ReadyStream> {
     is_closing: bool,
     speaker: Speaker,
     message: u64,
+    transaction: TransactionState,
     heard_at: u64,
     moved_at: u64,
 }
@@ -46,6 +48,7 @@ impl<S: ReadyStream> Place<S> {
             is_closing: false,
             speaker: Speaker::Unknown,
             message: 0,
+            transaction: TransactionState::Absent,
             heard_at: 0,
             moved_at: 0,
         }
@@ -59,6 +62,7 @@ impl<S: ReadyStream> Place<S> {
         self.is_closing = false;
         self.speaker = Speaker::Unknown;
         self.message = 0;
+        self.transaction = TransactionState::Absent;
         self.heard_at = now;
         self.moved_at = now;
     }
@@ -107,6 +111,24 @@ impl<S: ReadyStream> Place<S> {
             return self.is_readable && !self.has_front();
         }
         self.may_hand_on() && (self.is_readable || self.inflow.has_piece())
+    }
+
+    /// Whether the next bytes are the first ones of a message.
+    pub(crate) fn is_at_head(&self) -> bool {
+        self.inflow.is_at_head()
+    }
+
+    /// Notes a whole message of a client.
+    pub(crate) fn note_request(&mut self, message: &[u8]) {
+        self.transaction = self.transaction.after_message(message);
+    }
+
+    /// Whether a client with a transaction has said nothing for this time, in milliseconds, and nothing waits for it.
+    pub(crate) fn has_idle_transaction(&self, now: u64, most: u64) -> bool {
+        self.stream.is_some()
+            && self.transaction.is_open()
+            && self.outflow.is_empty()
+            && now.saturating_sub(self.heard_at) > most
     }
 
     /// Whether a message of the connection may be handed on: not while a reply waits, nor before it is closed.
@@ -282,6 +304,7 @@ impl<S: ReadyStream> Place<S> {
         if self.outflow.is_empty() {
             self.moved_at = now;
         }
+        self.transaction = self.transaction.after_reply(reply.as_slice());
         self.outflow.add(reply)?;
         self.flush(now)
     }

@@ -7,6 +7,7 @@ use crate::gate::{Gate, Speaker};
 use crate::limits::{MAX_CLIENTS, MAX_READ_BYTES, MAX_SOCKETS, MAX_UNDER_WAY_BYTES};
 use crate::numbering::Numbering;
 use crate::outflow::CutCause;
+use crate::peer_sign::{PeerSign, sign_of};
 use crate::place::Place;
 use crate::refused::Refused;
 use crate::rooms::Rooms;
@@ -45,6 +46,11 @@ pub struct Places<S: ReadyStream> {
     rooms: Rooms,
     ready: VecDeque<usize>,
     last: usize,
+    sign: Option<PeerSign>,
+    /// For how long a client with a transaction may say nothing, in milliseconds; 0 for any time.
+    idle_ms: u64,
+    idle_count: u64,
+    are_clients_held: bool,
     now: u64,
     buffer: Vec<u8>,
 }
@@ -67,6 +73,10 @@ impl<S: ReadyStream> Places<S> {
             rooms: Rooms::new(alloc)?,
             ready: VecDeque::with_capacity(alloc, MAX_SOCKETS)?,
             last: 0,
+            sign: None,
+            idle_ms: 0,
+            idle_count: 0,
+            are_clients_held: false,
             now: 0,
             buffer: vec![in alloc; 0u8; MAX_READ_BYTES]?,
         })
@@ -117,7 +127,12 @@ impl<S: ReadyStream> Places<S> {
     pub fn next<T>(&mut self) -> Option<Event<T>>
         ensures numbers { ChangesNumbersIfAny self.old.numbers self.new.numbers result }
     {
+        self.sign = None;
         let at = self.ready.pop_front()?;
+        if self.is_held(at) {
+            let _ = self.ready.push_back(at);
+            return None;
+        }
         if let Some(place) = self.places.get_mut(at) {
             place.is_queued = false;
         }
@@ -150,8 +165,49 @@ impl<S: ReadyStream> Places<S> {
         if !place.may_hand_on() {
             return None;
         }
+        let is_at_head = place.is_at_head();
         let piece = place.next_piece(alloc, &mut self.buffer, room, now)?;
+        if is_at_head && place.is_at_head() {
+            self.note_message(at, piece.as_slice());
+        }
         Some(Event::Bytes(number, piece))
+    }
+
+    /// Notes a whole message of a connection.
+    fn note_message(&mut self, at: usize, message: &[u8])
+        ensures numbers { self.new.numbers ≡ self.old.numbers }
+    {
+        let Some(place) = self.places.get_mut(at) else {
+            return;
+        };
+        if place.is_peer() {
+            self.sign = sign_of(message);
+        } else {
+            place.note_request(message);
+        }
+    }
+
+    /// Has no client's messages handed on from here on, or has them handed on again.
+    pub fn hold_clients(&mut self, are_held: bool)
+        ensures numbers { self.new.numbers ≡ self.old.numbers }
+    {
+        self.are_clients_held = are_held;
+    }
+
+    /// Whether no client's messages are handed on.
+    pub fn holds_clients(&self) -> bool {
+        self.are_clients_held
+    }
+
+    /// Whether a socket is a client's whose messages are held.
+    fn is_held(&self, at: usize) -> bool {
+        if !self.are_clients_held {
+            return false;
+        }
+        match self.places.get(at) {
+            Some(place) => self.numbers.at(at) != 0 && place.has_stream() && !place.is_peer(),
+            None => false,
+        }
     }
 
     /// How many bytes a large message of the peer at a socket may have, beside those of other peers that are under way.
@@ -223,6 +279,27 @@ impl<S: ReadyStream> Places<S> {
             Some(place) => place.is_of(speaker),
             None => false,
         }
+    }
+
+    /// Has a client's connection closed that has a transaction and says nothing for this time, in milliseconds; 0 for any time.
+    pub fn limit_idle_transactions(&mut self, most_ms: u64)
+        ensures numbers { self.new.numbers ≡ self.old.numbers }
+    {
+        self.idle_ms = most_ms;
+    }
+
+    /// How many connections were closed since the last call because of an idle transaction.
+    pub fn take_idle_count(&mut self) -> u64
+        ensures numbers { self.new.numbers ≡ self.old.numbers }
+    {
+        let count = self.idle_count;
+        self.idle_count = 0;
+        count
+    }
+
+    /// What the message of a peer says that the last call of `next` brought whole, if it matters to the time of the node.
+    pub fn peer_sign(&self) -> Option<PeerSign> {
+        self.sign
     }
 
     /// The socket is a connection of this speaker from now on, if there are not too many others.
@@ -418,9 +495,23 @@ impl<S: ReadyStream> Places<S> {
     {
         self.now = now;
         for at in 0..self.places.len() {
-            if self.is_late(at) {
+            if self.has_idle_transaction(at) {
+                self.idle_count = self.idle_count.saturating_add(1);
+                self.end(at);
+            } else if self.is_late(at) {
                 self.end(at);
             }
+        }
+    }
+
+    /// Whether a client with a transaction has said nothing for too long.
+    fn has_idle_transaction(&self, at: usize) -> bool {
+        if self.idle_ms == 0 {
+            return false;
+        }
+        match self.places.get(at) {
+            Some(place) => place.has_idle_transaction(self.now, self.idle_ms),
+            None => false,
         }
     }
 

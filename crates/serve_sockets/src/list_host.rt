@@ -5,7 +5,7 @@ ghost use Rattle.std.specs.Prelude.{◌≡◌, Some};
 use crate::mem_dialer::MemPeerDialer;
 use crate::mem_host::MemHost;
 use dq_base::Failed;
-use serve_threads::{ChannelPost, Host, NoReplies};
+use serve_threads::{ChannelPost, Host, LeaderContact, NoReplies};
 use serve_traits::{Event, Inbox, MemInbox};
 use std::alloc::{AllocError, Global};
 use std::sync::Wait;
@@ -62,6 +62,10 @@ impl<R: Threads + Wait + Clock + Copy + Drop + Send + 'static, T: Drop> Host<T> 
 
     fn replies(&self) -> Result<NoReplies, AllocError> {
         Ok(NoReplies)
+    }
+
+    fn contact(&self) -> Result<LeaderContact, AllocError> {
+        self.host.contact.again()
     }
 
     fn post(&self) -> Result<ChannelPost<R, T>, AllocError> {

@@ -6,7 +6,9 @@ ghost use Rattle.serve_threads.specs.Counts.{Does, one_listen, one_worker};
 
 use crate::mem_dialer::MemPeerDialer;
 use dq_base::{Calls, Failed};
-use serve_threads::{ChannelInbox, ChannelPost, Host, HostCounts, NoReplies, event_channel};
+use serve_threads::{
+    ChannelInbox, ChannelPost, Host, HostCounts, LeaderContact, NoReplies, event_channel,
+};
 use serve_traits::{Event, Inbox};
 use std::alloc::{AllocError, Global};
 use std::sync::Wait;
@@ -23,6 +25,7 @@ pub struct MemHost<R: Wait + Copy + Drop, T: Drop> {
     pub(crate) rt: R,
     inbox: ChannelInbox<R, T>,
     pub(crate) post: ChannelPost<R, T>,
+    pub(crate) contact: LeaderContact,
     asked: u64,
     pub(crate) done: HostCounts,
     pub(crate) calls: Calls,
@@ -36,6 +39,7 @@ impl<R: Wait + Copy + Drop, T: Drop> MemHost<R, T> {
             rt,
             inbox,
             post,
+            contact: LeaderContact::new(alloc)?,
             asked: 0,
             done: HostCounts::new(),
             calls: Calls::new(fails),
@@ -139,6 +143,10 @@ impl<R: Threads + Wait + Clock + Copy + Drop + Send + 'static, T: Drop> Host<T> 
 
     fn replies(&self) -> Result<NoReplies, AllocError> {
         Ok(NoReplies)
+    }
+
+    fn contact(&self) -> Result<LeaderContact, AllocError> {
+        self.contact.again()
     }
 
     fn post(&self) -> Result<ChannelPost<R, T>, AllocError> {

@@ -9,8 +9,10 @@ use crate::refusal_lines::RefusalLines;
 use crate::tcp_peer::TcpPeerDialer;
 use crate::tcp_replies::TcpReplies;
 use dq_base::Failed;
-use serve_places::Places;
-use serve_threads::{ChannelInbox, ChannelPost, Host, HostCounts, event_channel};
+use serve_places::{PeerSign, Places};
+use serve_threads::{
+    ChannelInbox, ChannelPost, Host, HostCounts, LeaderContact, LineQueue, event_channel,
+};
 use serve_traits::{Event, Inbox};
 use std::alloc::{AllocError, Global};
 use std::io;
@@ -57,12 +59,16 @@ pub struct HostFault {
 ///
 /// The thread that takes its events reads and writes all connections that come. It takes what other threads post first, then what happens at
 /// the sockets that are ready, one after the other; it asks the system again once each of them had its turn, and waits there if none is.
+///
+/// It notes which peers acknowledge. An AskVote is lost if the node hears a leader, except one whose sender was handed the leadership.
 #[derive(Drop)]
 pub struct TcpHost<R: Wait + Copy + Drop, T: Drop> {
     rt: R,
     sockets: HostRuntime,
     inbox: ChannelInbox<R, T>,
     post: ChannelPost<R, T>,
+    contact: LeaderContact,
+    lines: LineQueue,
     places: Arc<Mutex<Places<ReadySocket>>, Global>,
     bound: Option<io::Result<TcpListener>>,
     poller: Option<Poller>,
@@ -79,22 +85,31 @@ impl<R: Wait + Copy + Drop, T: Drop> TcpHost<R, T> {
     /// A host that did nothing yet. The runtime is passed twice, once for threads and once for sockets.
     pub fn new(rt: R, sockets: HostRuntime, alloc: Global) -> Result<TcpHost<R, T>, AllocError> {
         let (inbox, post) = event_channel(rt, alloc)?;
+        let lines = LineQueue::new(alloc)?;
+        let refusals = RefusalLines::new(sockets, lines.again()?);
         Ok(TcpHost {
             rt,
             sockets,
             inbox,
             post,
+            contact: LeaderContact::new(alloc)?,
+            lines,
             places: Arc::new(alloc, Mutex::new(Places::new(alloc)?))?,
             bound: None,
             poller: None,
             greetings: Vec::new(alloc),
-            refusals: RefusalLines::new(sockets),
+            refusals,
             turns: 0,
             taken: 0,
             done: HostCounts::new(),
             faults: 0,
             last_fault: None,
         })
+    }
+
+    /// An end of the lines that the host has for the error stream.
+    pub fn lines(&self) -> Result<LineQueue, AllocError> {
+        self.lines.again()
     }
 
     /// The bytes with which a connection to the peer of each id begins, in place of the version and a CONNECT with the node's address; and
@@ -158,6 +173,7 @@ impl<R: Wait + Copy + Drop, T: Drop> TcpHost<R, T> {
             let now = moment_of(&self.sockets);
             let mut places = self.places.lock(&self.rt);
             places.tick(now);
+            self.refusals.say_idle(places.take_idle_count());
             poller.accept(&mut places);
             if self.refusals.may_say(now) {
                 self.refusals.say(places.take_refused(), now);
@@ -173,6 +189,7 @@ impl<R: Wait + Copy + Drop, T: Drop> TcpHost<R, T> {
     {
         let poller = self.poller.as_mut()?;
         let mut places = self.places.lock(&self.rt);
+        places.hold_clients(self.contact.holds_clients());
         if self.turns == 0 {
             poller.look(&mut places);
             self.turns = places.ready_count();
@@ -184,7 +201,32 @@ impl<R: Wait + Copy + Drop, T: Drop> TcpHost<R, T> {
             return None;
         }
         self.turns -= 1;
-        places.next()
+        let event = places.next();
+        let sign = places.peer_sign();
+        drop(places);
+        if self.is_lost(sign) {
+            return None;
+        }
+        event
+    }
+
+    /// Has the connection of a client closed that has a transaction and says nothing for this time, in seconds; 0 for any time.
+    pub fn limit_idle_transactions(&mut self, seconds: u64) {
+        self.places
+            .lock(&self.rt)
+            .limit_idle_transactions(seconds.saturating_mul(1_000));
+    }
+
+    /// Notes what a message of a peer says, and says whether the message is lost.
+    fn is_lost(&self, sign: Option<PeerSign>) -> bool {
+        match sign {
+            Some(PeerSign::Ack(from)) => {
+                self.contact.note_ack(from);
+                false
+            }
+            Some(PeerSign::AskVote) => self.contact.is_settled(),
+            None => false,
+        }
     }
 
     /// Counts a call that failed, and keeps it.
@@ -243,6 +285,10 @@ impl<R: Threads + Wait + Clock + Copy + Drop + Send + 'static, T: Drop> Host<T> 
         })
     }
 
+    fn contact(&self) -> Result<LeaderContact, AllocError> {
+        self.contact.again()
+    }
+
     fn listen(&mut self, address: &str) -> Result<(), Failed> {
         let Some(listens) = self.done.listens.checked_add(1) else {
             return Err(self.fail("listen", None));
@@ -268,7 +314,10 @@ impl<R: Threads + Wait + Clock + Copy + Drop + Send + 'static, T: Drop> Host<T> 
     }
 
     fn dialer(&mut self) -> Result<TcpPeerDialer, Failed> {
-        Ok(TcpPeerDialer::new(self.sockets))
+        let Ok(lines) = self.lines.again() else {
+            return Err(self.fail("start a thread", None));
+        };
+        Ok(TcpPeerDialer::new(self.sockets, lines))
     }
 
     fn moment(&mut self) -> u64 {

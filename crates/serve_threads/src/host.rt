@@ -1,6 +1,7 @@
 //! What a node is served by.
 
 use crate::channel::ChannelPost;
+use crate::leader_contact::LeaderContact;
 use crate::replies::Replies;
 use dq_base::Failed;
 use serve_traits::{Inbox, PeerDialer};
@@ -41,6 +42,10 @@ pub trait Host<T: Drop>: Inbox<T> {
 
     /// An end at which replies go out.
     fn replies(&self) -> Result<Self::Replies, AllocError>;
+
+    /// An end of what the threads of the node know of its leadership. The host notes there which peers acknowledge, and may look there
+    /// whether the node hears a leader.
+    fn contact(&self) -> Result<LeaderContact, AllocError>;
 
     /// Listens at an address, as `localhost:9001`. What comes there are events from then on.
     fn listen(&mut self, address: &str) -> Result<(), Failed>

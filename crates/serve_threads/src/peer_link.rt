@@ -1,5 +1,8 @@
 //! A connection to a peer with what was written on it.
 
+ghost use Rattle.std.specs.Prelude.{◌≡◌, ◌<◌, ◌-◌, ◌×◌, IsSome, None, true};
+ghost use Rattle.serve_threads.specs.Repeating.{install_in, mark_after};
+
 use raft_messages::{MessageBody, RaftMessage};
 use serve_traits::PeerConnection;
 
@@ -21,7 +24,9 @@ struct InstallMark {
 }
 
 /// Which Install a message is, if it is one.
-fn install_of(message: &RaftMessage) -> Option<InstallMark> {
+fn install_of(message: &RaftMessage) -> Option<InstallMark>
+    ensures { result ≡ install_in message.now.term message.now.what }
+{
     match &message.what {
         MessageBody::Install { snapshot } => Some(InstallMark {
             term: message.term,
@@ -43,7 +48,9 @@ pub(crate) struct PeerLink<C: PeerConnection> {
 
 impl<C: PeerConnection> PeerLink<C> {
     /// A connection on which nothing but the greeting was written.
-    pub(crate) fn new(connection: C, now: u64) -> PeerLink<C> {
+    pub(crate) fn new(connection: C, now: u64) -> PeerLink<C>
+        ensures { result.install ≡ None }
+    {
         PeerLink {
             connection,
             written_at: now,
@@ -68,11 +75,15 @@ impl<C: PeerConnection> PeerLink<C> {
     }
 
     /// Whether a message is the Install that was written last, and too little time has passed to write it again.
-    pub(crate) fn has_just_sent(&self, message: &RaftMessage, now: u64) -> bool {
-        let install = install_of(message);
-        install.is_some()
-            && install == self.install
-            && now.saturating_sub(self.installed_at) < MIN_INSTALL_MS
+    pub(crate) fn has_just_sent(&self, message: &RaftMessage, now: u64) -> bool
+        ensures install { result ≡ true → IsSome (install_in message.now.term message.now.what) }
+        ensures same { result ≡ true → self.now.install ≡ install_in message.now.term message.now.what }
+        ensures time { result ≡ true → now - self.now.installed_at < 5000 }
+    {
+        let Some(mark) = install_of(message) else {
+            return false;
+        };
+        self.install == Some(mark) && now.saturating_sub(self.installed_at) < MIN_INSTALL_MS
     }
 
     /// Writes bytes, and says whether all of them were.
@@ -86,10 +97,11 @@ impl<C: PeerConnection> PeerLink<C> {
     }
 
     /// This message was written by this moment.
-    pub(crate) fn note_message(&mut self, message: &RaftMessage, now: u64) {
-        let install = install_of(message);
-        if install.is_some() {
-            self.install = install;
+    pub(crate) fn note_message(&mut self, message: &RaftMessage, now: u64)
+        ensures { self.new.install ≡ mark_after self.old.install (install_in message.now.term message.now.what) }
+    {
+        if let Some(mark) = install_of(message) {
+            self.install = Some(mark);
             self.installed_at = now;
         }
     }

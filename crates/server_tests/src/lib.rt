@@ -23,6 +23,8 @@ mod secrets;
 #[cfg(test)]
 mod served;
 #[cfg(test)]
+mod signs;
+#[cfg(test)]
 mod taps;
 #[cfg(test)]
 mod workers;

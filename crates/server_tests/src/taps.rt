@@ -41,6 +41,18 @@ impl Deeds {
         self.word.store(now, Ordering::SeqCst);
     }
 
+    /// Whether these are the last deeds, at most eight.
+    pub(crate) fn end_with(&self, wanted: &[u8]) -> bool {
+        let mut word = self.word.load(Ordering::SeqCst);
+        for deed in wanted.iter().rev() {
+            if word % 256 != *deed as u64 {
+                return false;
+            }
+            word /= 256;
+        }
+        true
+    }
+
     /// Whether these deeds were done, at most eight.
     pub(crate) fn are(&self, wanted: &[u8]) -> bool {
         let mut word: u64 = 0;

@@ -50,6 +50,7 @@ Status:
 
 pub(crate) const SERVE_USAGE: &str = "\
 Usage: dqnode serve [--new] [--secret FILE] [--engine E] [--events K]
+                    [--idle-transaction S]
                     ID LISTEN [N=ADDRESS]..
 ";
 
@@ -71,6 +72,9 @@ Options:
               16 to 4096 bytes that only its owner may read
   --engine E  sqlite, which is the default, or cells
   --events K  end after K events, 1 to 4294967295, which is the default
+  --idle-transaction S
+              close the connection of a client that has a transaction and says
+              nothing for S seconds, 0 to 86400; 60 is the default, 0 is never
   -h, --help  print this page
 
 Status:

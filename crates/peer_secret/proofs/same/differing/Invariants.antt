@@ -1,4 +1,4 @@
-use Rattle.std.proofs.Common.{◌≡◌, ◌≤◌, ◌×◌, take}
+use Rattle.std.proofs.Common.{◌≡◌, ◌≤◌, take}
 use Rattle.peer_secret.specs.Same.{differing}
 use Rattle.peer_secret.proofs.same.differing.Given as goal
 
