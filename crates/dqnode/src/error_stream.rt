@@ -102,7 +102,7 @@ impl ErrorStream {
     }
 
     /// Has a line written.
-    fn say(&self, line: Result<String, AllocError>) {
+    pub fn say(&self, line: Result<String, AllocError>) {
         let Ok(line) = line else {
             return;
         };

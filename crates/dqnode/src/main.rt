@@ -17,6 +17,7 @@ mod secret;
 mod serving;
 mod statements;
 mod status;
+mod tails;
 mod words;
 
 use arguments::{Invocation, Serve, read_secret, read_words};
@@ -40,6 +41,7 @@ use std::process::ExitCode;
 use std::sync::Wait;
 use std::thread::Threads;
 use std::time::Clock;
+use tails::{FolderUse, refused_tail};
 
 /// The node that the arguments name, if they ask for one to be served.
 fn served(rt: &HostRuntime, words: &[String]) -> Option<Serve> {
@@ -135,6 +137,18 @@ fn prepare<R: Wait + Copy + Drop>(
     Ok(true)
 }
 
+/// The status with which a start ends over the folder that it has taken, if its last segment is damaged.
+fn refused_start(
+    rt: &HostRuntime,
+    disk: &mut DirDisk<HostRuntime>,
+    errors: &ErrorStream,
+) -> Option<Status> {
+    if disk.is_refused() {
+        return None;
+    }
+    refused_tail(rt, FolderUse::Start, disk, errors)
+}
+
 /// The status with which the program ends before it serves the node that the arguments name, if it does.
 fn begin_serving<R: Threads + Wait + Clock + Copy + Drop + Send + 'static>(
     waits: R,
@@ -149,7 +163,7 @@ fn begin_serving<R: Threads + Wait + Clock + Copy + Drop + Send + 'static>(
         return Some(Status::HostFault);
     }
     let ended = match prepare(rt, words, serve, disk, host, errors) {
-        Ok(true) => return None,
+        Ok(true) => refused_start(rt, disk, errors)?,
         Ok(false) => Status::Words,
         Err(_) => {
             errors.tell_memory();
@@ -158,6 +172,19 @@ fn begin_serving<R: Threads + Wait + Clock + Copy + Drop + Send + 'static>(
     };
     errors.finish(&waits);
     Some(ended)
+}
+
+/// The status with which a check ends before it reads the folder, if its last segment is damaged.
+fn refused_check(
+    rt: &HostRuntime,
+    words: &[String],
+    disk: &mut DirDisk<HostRuntime>,
+    errors: &ErrorStream,
+) -> Option<Status> {
+    match read_words(rt.alloc(), words) {
+        Ok(Some(Invocation::Check)) => refused_tail(rt, FolderUse::Check, disk, errors),
+        _ => None,
+    }
 }
 
 /// Says why a served node ended, unless the error stream says it already.
@@ -201,6 +228,9 @@ fn main(rt: HostRuntime) -> ExitCode {
         if let Some(status) = ended {
             return ExitCode::from(status.code());
         }
+    }
+    if let Some(status) = refused_check(&rt, words, &mut disk, &errors) {
+        return ExitCode::from(status.code());
     }
     let mut input = ReadSource::new(rt.stdin());
     let mut output = WriteSink::new(io::writer(&rt));
