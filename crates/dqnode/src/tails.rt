@@ -32,7 +32,7 @@ fn tell_torn(rt: &HostRuntime, purpose: FolderUse, last: LastSegment) {
     };
 }
 
-/// Says where a segment is damaged: a start on the error stream, a check on the output.
+/// Says at which place a segment is damaged: a start on the error stream, a check on the output.
 fn tell_damage(rt: &HostRuntime, purpose: FolderUse, last: LastSegment, place: u64) -> Status {
     let LastSegment { number, good, .. } = last;
     let said = match purpose {

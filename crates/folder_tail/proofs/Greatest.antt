@@ -98,13 +98,6 @@ takes_less name n (Some x) is after names greatest = (
 
 -- ---- all names, one after the other
 
-pub greatest_none : (names : List Text) → IsGreatest (take 0 names) None
-greatest_none names = λ n digits a. absurd (none names a)
-  where
-    none : {t : Text} (names : List Text) → Among t (take 0 names) → ⊥
-    none [] a = a
-    none (x ∷ xs) a = a
-
 pub greatest_next : (names : List Text) (i : ℕ) (name : Text) (old new : Option SegmentFile) → i < length names → name ≡ get_or names i name → IsGreatest (take i names) old → TakesName name old new → IsGreatest (take (i + 1) names) new
 greatest_next names i name old new lt is greatest takes =
     let one : take i names ++ name ∷ [] ≡ take (i + 1) names = ap (λ (x : Text). take i names ++ x ∷ []) is ∙ sym (take_more names i name lt) in

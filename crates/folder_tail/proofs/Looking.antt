@@ -176,7 +176,7 @@ cause_end before now x (Err fault.DiskFault) h memory = let z : fault.DiskFault 
 cause_end before now x (Err fault.NoMemory) h memory = record { never_falls = h.never_falls; failed = λ q. absurd cc }
 
 pub cause_read : {S T : Type 0} (before now : ℕ) (x : StoreFault) (y : LoadFault) → y ≡ of_store x → DiskCause {T = S} before now (Err x) → LoadCause {T = T} before now (Err y)
-cause_read before now x y e h = subst (λ (f : LoadFault). LoadCause before now (Err f)) (sym e) (cause_store before now x h)
+cause_read {S} {T} before now x y e h = subst (λ (f : LoadFault). LoadCause {T = T} before now (Err f)) (sym e) (cause_store before now x h)
 
 pub cause_both : {S T : Type 0} (before mid now : ℕ) (x : S) (result : Result T LoadFault) → DiskCause before mid (Ok x) → LoadCause mid now result → LoadCause before now result
 cause_both before mid now x result first second = record { never_falls = omega (arith, first.never_falls, second.never_falls); failed = λ q. Rose-earlier before mid now first.never_falls (second.failed q) }
