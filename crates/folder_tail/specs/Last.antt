@@ -34,12 +34,12 @@ pub record IsLast (n : ℕ) (g : NodeFiles) : Type 0 where
   pub there : (g (Segment n)).there ≡ true
   pub last : (m : ℕ) → m < 10000000000000000 → (g (Segment m)).there ≡ true → m ≤ n
 
--- the last segment is this one, or there is none
+-- the last segment is this one, or no segment exists
 abbrev pub IsLastFile : Option SegmentFile → NodeFiles → Type 0
 IsLastFile None g = (n : ℕ) → n < 10000000000000000 → (g (Segment n)).there ≡ true → ⊥
 IsLastFile (Some file) g = IsLast file.number g
 
--- the last segment was read, or there is none
+-- the last segment was read, or no segment exists
 abbrev pub IsLastRead : Option SegmentBytes → NodeFiles → Type 0
 IsLastRead None g = (n : ℕ) → n < 10000000000000000 → (g (Segment n)).there ≡ true → ⊥
 IsLastRead (Some x) g = IsLast x.number g × (x.bytes.items ≡ (g (Segment x.number)).bytes)

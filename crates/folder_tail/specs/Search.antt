@@ -20,7 +20,7 @@ is_misread next at bytes = cond (at == 8) (reads_in_any next (drop at bytes)) fa
 abbrev pub continues_at : ℕ → ℕ → ℕ → List ℕ → ℕ → Bool
 continues_at format next at bytes place = continues format next ((place - at) / 16) (drop place bytes)
 
--- one is at this place, and at none of the words from the first place on, if none is found
+-- one is at this place, a whole number of words after the first one; or no word from the first place on has one
 abbrev pub LaterFrom : ℕ → ℕ → ℕ → ℕ → List ℕ → Option ℕ → Type 0
 LaterFrom format next at from bytes None = (k : ℕ) → continues_at format next at bytes (from + 8 * k) ≡ false
 LaterFrom format next at from bytes (Some place) = (k : ℕ) × ((place ≡ from + 8 * k) × (continues_at format next at bytes place ≡ true))
