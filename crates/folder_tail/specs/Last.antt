@@ -8,7 +8,9 @@ use Rattle.folder_tail.specs.declared.folder.SegmentBytes.{SegmentBytes}
 
 -- the number of the segment whose file has this name, if one has
 abbrev pub IsNumberOf : List ℕ → Option ℕ → Type 0
-IsNumberOf text number = MatchOption number ((n : ℕ) → n < 10000000000000000 → text ≡ file_name (Segment n) → ⊥) (λ n. (n < 10000000000000000) × (text ≡ file_name (Segment n)))
+IsNumberOf text number =
+    MatchOption number ((n : ℕ) → n < 10000000000000000 → text ≡ file_name (Segment n) → ⊥)
+    (λ n. (n < 10000000000000000) × (text ≡ file_name (Segment n)))
 
 abbrev pub is_after : ℕ → Option SegmentFile → Bool
 is_after n None = true
