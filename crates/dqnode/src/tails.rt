@@ -1,10 +1,11 @@
 //! The look at the last segment of a folder, before anything else is done with the folder.
 
-use crate::error_stream::{tell_disk, tell_memory};
+use crate::error_stream::ErrorStream;
 use crate::status::Status;
 use folder_disk::DirDisk;
 use folder_tail::{Tail, look_at_tail};
 use segment_store::LoadFault;
+use std::alloc::AllocError;
 use store_format::LastSegment;
 
 /// What the folder is wanted for.
@@ -17,47 +18,35 @@ pub enum FolderUse {
 }
 
 /// Says by which bytes a start truncates the segment.
-fn tell_torn(rt: &HostRuntime, purpose: FolderUse, last: LastSegment) {
-    let LastSegment { number, size, good } = last;
+fn tell_torn(rt: &HostRuntime, purpose: FolderUse, errors: &ErrorStream, last: LastSegment) {
+    let (alloc, LastSegment { number, size, good }) = (rt.alloc(), last);
     let torn = size.saturating_sub(good);
-    let _ = match purpose {
-        FolderUse::Start => {
-            eprintln!(rt;
-                "truncated the torn end of segment-{number:016}: {torn} bytes from byte {good} on"
-            )
-        }
-        FolderUse::Check => eprintln!(rt;
+    errors.say(match purpose {
+        FolderUse::Start => format!(in alloc;
+            "truncated the torn end of segment-{number:016}: {torn} bytes from byte {good} on"
+        ),
+        FolderUse::Check => format!(in alloc;
             "a start truncates the torn end of segment-{number:016}: {torn} bytes from byte {good} on"
         ),
-    };
+    });
 }
 
-/// Says at which place a segment is damaged: a start on the error stream, a check on the output.
-fn tell_damage(rt: &HostRuntime, purpose: FolderUse, last: LastSegment, place: u64) -> Status {
-    let LastSegment { number, good, .. } = last;
-    let said = match purpose {
-        FolderUse::Start => eprintln!(rt;
-            "status 8: what is kept is damaged: segment {number} is damaged at byte {good}: a whole batch follows at byte {place}"
-        ),
-        FolderUse::Check => println!(rt; "damaged {number} {good}"),
-    };
-    match said {
-        Err(_) if purpose == FolderUse::Check => Status::WriteFault,
-        _ => Status::Files,
+/// Says why the folder is refused: a start on the error stream, a check on the output.
+fn tell_refusal(
+    rt: &HostRuntime,
+    purpose: FolderUse,
+    errors: &ErrorStream,
+    start: Result<String, AllocError>,
+    check: Result<String, AllocError>,
+) -> Status {
+    if purpose == FolderUse::Start {
+        errors.say(start);
+        return Status::Files;
     }
-}
-
-/// Says that a segment has an unknown format: a start on the error stream, a check on the output.
-fn tell_unknown(rt: &HostRuntime, purpose: FolderUse, number: u64, format: u64) -> Status {
-    let said = match purpose {
-        FolderUse::Start => eprintln!(rt;
-            "status 8: what is kept can't be read: segment {number} has the unknown format {format}"
-        ),
-        FolderUse::Check => println!(rt; "unknown format {number} {format}"),
-    };
-    match said {
-        Err(_) if purpose == FolderUse::Check => Status::WriteFault,
-        _ => Status::Files,
+    match check {
+        Ok(line) if println!(rt; "{line}").is_ok() => Status::Files,
+        Ok(_) => Status::WriteFault,
+        Err(_) => Status::NoMemory,
     }
 }
 
@@ -68,24 +57,38 @@ pub fn refused_tail(
     rt: &HostRuntime,
     purpose: FolderUse,
     disk: &mut DirDisk<HostRuntime>,
+    errors: &ErrorStream,
 ) -> Option<Status> {
-    match look_at_tail(rt.alloc(), disk) {
+    let alloc = rt.alloc();
+    match look_at_tail(alloc, disk) {
         Ok(Tail::Whole) => None,
         Ok(Tail::Torn(last)) => {
-            tell_torn(rt, purpose, last);
+            tell_torn(rt, purpose, errors, last);
             None
         }
-        Ok(Tail::Damaged(last, place)) => Some(tell_damage(rt, purpose, last, place)),
-        Ok(Tail::Unknown(number, format)) => Some(tell_unknown(rt, purpose, number, format)),
+        Ok(Tail::Damaged(LastSegment { number, good, .. }, place)) => {
+            let start = format!(in alloc;
+                "status 8: what is kept is damaged: segment {number} is damaged at byte {good}: a whole batch follows at byte {place}"
+            );
+            let check = format!(in alloc; "damaged {number} {good}");
+            Some(tell_refusal(rt, purpose, errors, start, check))
+        }
+        Ok(Tail::Unknown(number, format)) => {
+            let start = format!(in alloc;
+                "status 8: what is kept can't be read: segment {number} has the unknown format {format}"
+            );
+            let check = format!(in alloc; "unknown format {number} {format}");
+            Some(tell_refusal(rt, purpose, errors, start, check))
+        }
         Err(LoadFault::DiskFault) => {
             if purpose == FolderUse::Start {
-                tell_disk(rt, disk);
+                errors.tell_disk(disk);
             }
             Some(Status::DiskFault)
         }
         Err(LoadFault::NoMemory) => {
             if purpose == FolderUse::Start {
-                tell_memory(rt);
+                errors.tell_memory();
             }
             Some(Status::NoMemory)
         }

@@ -1,5 +1,5 @@
 -- The head of a batch, and the batch itself.
-use Rattle.std.proofs.Common.{◌≡◌, ℕ, ◌+◌, ◌-◌, ◌<◌, ◌≤◌, List, [], ◌∷◌, ◌++◌, length, take, drop, get_or, Result, Ok, Err, refl, sym, ap, ◌∙◌, subst, arith, length-drop}
+use Rattle.std.proofs.Common.{◌≡◌, ℕ, ◌+◌, ◌-◌, ◌<◌, ◌≤◌, List, [], ◌∷◌, ◌++◌, length, take, drop, get_or, Result, Ok, refl, sym, ap, ◌∙◌, subst, arith, length-drop}
 use Rattle.std.specs.Prelude.{min}
 use Rattle.std.proofs.lemmas.List.{take_more}
 use Rattle.wire_words.specs.declared.fault.WordFault.{WordFault}
@@ -9,7 +9,7 @@ use Rattle.raft_messages.specs.declared.entries.EntryHead.{EntryHead}
 use Rattle.raft_messages.specs.Entries.{heads_at, contents_at}
 use Rattle.store_format.specs.declared.batch_reading.Body.{Body}
 use Rattle.store_format.specs.Batches.{body_at}
-use Rattle.store_format.proofs.Local.{Local, word_local, heads_local}
+use Rattle.store_format.proofs.Local.{word_local, heads_local}
 use Rattle.folder_tail.specs.declared.heads.BatchHead.{BatchHead}
 use Rattle.folder_tail.specs.Heads.{padded, contents_end, batch_head_at}
 

@@ -1,19 +1,18 @@
 -- A batch that reads has a head that is whole.
-use Rattle.std.proofs.Common.{◌≡◌, ◌≢◌, inl, inr, ℕ, zero, suc, ◌+◌, ◌-◌, ◌<◌, ◌≤◌, Bool, true, false, cond, List, length, take, drop, Option, Some, None, Result, Ok, Err, refl, sym, ap, ◌∙◌, subst, arith}
+use Rattle.std.proofs.Common.{◌≡◌, ◌≢◌, inl, inr, ℕ, zero, suc, ◌+◌, ◌-◌, ◌<◌, ◌≤◌, Bool, true, false, List, length, take, drop, Option, Some, None, Result, Ok, Err, refl, sym, ap, ◌∙◌, arith}
 use Rattle.std.specs.Prelude.{◌&&◌, nat_lt, nat_le, MatchOption, is_some}
 use Rattle.std.specs.Str.{bytes_eq}
 use Rattle.std.proofs.lemmas.Bool.{cases_Bool, cond-true, cond-false, and_parts, lt-ltb, ltb-true, le-leb, leb-true}
 use Rattle.wire_words.specs.declared.fault.WordFault.{WordFault}
 use Rattle.wire_words.specs.Reading.{Unread, unread}
 use Rattle.store_laws.specs.Store.{Read}
-use Rattle.store_laws.proofs.Fronts.{not_zero}
 use Rattle.store_format.specs.declared.batch_reading.Body.{Body}
 use Rattle.store_format.specs.declared.batch_reading.FoundBatch.{FoundBatch}
 use Rattle.store_format.specs.Batches.{body_at, sum_size, sums_size, batch_sum, is_sound, no_read, read_of, batch_in, read_of_found}
 use Rattle.folder_tail.specs.declared.heads.BatchHead.{BatchHead}
 use Rattle.folder_tail.specs.Heads.{batch_head_at, has_head_sum, head_of, head_in}
 use Rattle.folder_tail.specs.Search.{continues}
-use Rattle.folder_tail.proofs.HeadEnds.{HeadOf, body_head}
+use Rattle.folder_tail.proofs.HeadEnds.{body_head}
 
 -- the head of a batch, with its first index
 pub record HasHead (head : Option BatchHead) (first : ℕ) : Type 0 where

@@ -1,16 +1,16 @@
 -- From what was read to what a look says.
-use Rattle.std.proofs.Common.{◌≡◌, ◌⊎◌, inl, inr, ℕ, zero, suc, ◌+◌, ◌-◌, ◌<◌, ◌≤◌, Bool, true, false, cond, List, length, drop, Option, Some, None, Result, Ok, Err, refl, sym, ap, ◌∙◌, subst, arith}
+use Rattle.std.proofs.Common.{◌≡◌, ◌⊎◌, inl, inr, ℕ, zero, suc, ◌<◌, ◌≤◌, true, false, List, length, Option, Some, None, Result, Ok, Err, refl, sym, ap, ◌∙◌, subst, arith}
 use Rattle.std.specs.Prelude.{◌&&◌, ◌==◌, nat_lt, IfOk, IfErr}
 use Rattle.std.proofs.lemmas.Bool.{cases_Bool, cond-true, cond-false, lt-ltb, ltb-true, ltb-false, eq-eqb}
 use Rattle.disk_model.specs.Disk.{Disk}
 use Rattle.disk_model.specs.Trait.{Text}
 use Rattle.store_laws.specs.Names.{Segment, NodeFiles}
-use Rattle.store_laws.specs.Store.{Kept, Loaded, opens, reader, torn}
+use Rattle.store_laws.specs.Store.{Kept, opens}
 use Rattle.store_laws.specs.Damage.{Numbered, good_end}
 use Rattle.store_format.specs.Words.{format_in}
 use Rattle.store_format.specs.NodeFormat.{node_format}
 use Rattle.store_format.specs.FilesRead.{FilesRead, nothing_read, with_segment_read}
-use Rattle.store_format.specs.SegmentLog.{none_read, last_of, reads_whole, with_segment}
+use Rattle.store_format.specs.SegmentLog.{last_of, reads_whole, with_segment}
 use Rattle.store_format.specs.declared.segment_log.LastSegment.{LastSegment}
 use Rattle.segment_store.specs.declared.fault.StoreFault.{StoreFault}
 use Rattle.segment_store.specs.declared.load_fault.LoadFault.{LoadFault}
@@ -20,7 +20,7 @@ use Rattle.segment_store.specs.Faults.{DiskCause}
 use Rattle.segment_store.proofs.LoadEnds.{cause_store}
 use Rattle.segment_store.specs.Keeps.{folder}
 use Rattle.segment_store.specs.LoadFaults.{of_store}
-use Rattle.segment_store.specs.Loading.{Sees, IsPlain, LooksAt, LoadCause}
+use Rattle.segment_store.specs.Loading.{Sees, LooksAt, LoadCause}
 use Rattle.segment_store.specs.Reads.{at}
 use Rattle.folder_tail.specs.declared.tail.Tail.{Tail}
 use Rattle.folder_tail.specs.declared.tail.Tail.TheVariants as tails

@@ -1,8 +1,8 @@
 -- The last segment of a folder, by the names that the folder lists.
-use Rattle.std.specs.Prelude.{◌≡◌, ℕ, ◌<◌, ◌≤◌, Bool, true, nat_lt, List, ◌++◌, ◌∷◌, [], codes, Option, Some, None, MatchOption}
+use Rattle.std.specs.Prelude.{◌≡◌, ℕ, ◌<◌, ◌≤◌, Bool, true, nat_lt, List, ◌++◌, ◌∷◌, [], Option, Some, None, MatchOption}
 use Rattle.disk_model.specs.SyncAll.{Among}
 use Rattle.store_laws.specs.Names.{Segment, NodeFiles}
-use Rattle.segment_store.specs.FileNames.{file_name, number_text}
+use Rattle.segment_store.specs.FileNames.{file_name}
 use Rattle.folder_tail.specs.declared.folder.SegmentFile.{SegmentFile}
 use Rattle.folder_tail.specs.declared.folder.SegmentBytes.{SegmentBytes}
 

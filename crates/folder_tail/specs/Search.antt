@@ -1,5 +1,5 @@
 -- A whole batch after the place at which none reads.
-use Rattle.std.specs.Prelude.{◌≡◌, ℕ, ◌+◌, ◌-◌, ◌*◌, ◌/◌, Bool, true, false, ◌&&◌, ◌||◌, ◌==◌, cond, nat_lt, nat_le, List, length, drop, Option, Some, None}
+use Rattle.std.specs.Prelude.{◌≡◌, ℕ, ◌+◌, ◌-◌, ◌*◌, ◌/◌, Bool, true, false, ◌&&◌, ◌||◌, ◌==◌, cond, nat_lt, nat_le, List, drop, Option, Some, None}
 use Rattle.store_format.specs.Batches.{batch_in, sums_size}
 use Rattle.folder_tail.specs.declared.heads.BatchHead.{BatchHead}
 use Rattle.folder_tail.specs.Heads.{head_in}

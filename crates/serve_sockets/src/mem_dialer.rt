@@ -18,6 +18,10 @@ impl PeerConnection for MemPeerConnection {
 
     ghost faults = { λ _. 0 };
 
+    fn is_ended(&mut self) -> bool {
+        false
+    }
+
     fn write_all(&mut self, _bytes: &[u8]) -> Result<(), Failed> {
         Ok(())
     }

@@ -4,20 +4,22 @@ ghost use Rattle.std.specs.Prelude.{◌≡◌, None};
 ghost use Rattle.serve_threads.specs.Counts.{IsCounted};
 
 use crate::stream;
-use crate::stream::write_whole;
+use crate::stream::{is_at_end, write_on};
 use dq_base::Failed;
+use serve_threads::LineQueue;
 use serve_traits::{PeerConnection, PeerDialer};
+use std::alloc::AllocError;
 use std::io;
 use std::net::TcpStream;
 use std::time::Duration;
 
-/// How long a write to a peer may take, in seconds.
+/// How long a write to a peer may move no byte, in seconds.
 const PEER_SECONDS: u64 = 10;
 
-/// A connection over a TCP socket that was dialed. It says nothing of content. A message is written in one write, and goes out at once; a
-/// write of which only a front was taken has failed, since its time was over. An interrupted call is tried again, up to 1,000 times in a row.
+/// A connection over a TCP socket that was dialed. It says nothing of content. A message goes out at once; a large one over a slow network is
+/// written as long as some bytes of it are taken every ten seconds. What the peer says is dropped.
 ///
-/// The error stream gets a line when the connection is up, and one when a write fails.
+/// The error stream gets a line when the connection is up, and one when a write fails or the peer has ended the connection.
 #[derive(Drop)]
 pub struct TcpPeerConnection {
     stream: TcpStream,
@@ -29,23 +31,32 @@ pub struct TcpPeerConnection {
 #[derive(Drop)]
 struct Announced {
     rt: HostRuntime,
+    lines: LineQueue,
     address: String,
 }
 
 impl Announced {
-    /// Says that the connection is up. A line that can't be written is left out.
-    fn up(rt: HostRuntime, address: String) -> Announced {
-        let _ = eprintln!(rt; "link to {address} up");
-        Announced { rt, address }
+    /// Says that a connection to this address is up.
+    fn up(rt: HostRuntime, lines: &LineQueue, address: &str) -> Result<Announced, AllocError> {
+        let announced = Announced {
+            rt,
+            lines: lines.again()?,
+            address: String::from_str(rt.alloc(), address)?,
+        };
+        announced.say("up");
+        Ok(announced)
     }
 
-    /// Says that the connection is down.
-    fn down(&self) {
-        let _ = eprintln!(self.rt; "link to {} down", self.address);
+    /// Says that the connection is up or down. If memory runs out the line is left out.
+    fn say(&self, state: &str) {
+        let address = self.address.as_str();
+        if let Ok(line) = format!(in self.rt.alloc(); "link to {address} {state}") {
+            self.lines.put(line);
+        }
     }
 }
 
-/// A connection to an address, of which a write takes at most ten seconds.
+/// A connection to an address, of which a write fails that moves nothing for ten seconds.
 fn open(rt: &HostRuntime, address: &str) -> io::Result<TcpStream> {
     let stream = stream::connect(rt, address)?;
     stream.set_nodelay(true)?;
@@ -55,15 +66,16 @@ fn open(rt: &HostRuntime, address: &str) -> io::Result<TcpStream> {
 
 impl TcpPeerConnection {
     /// A connection that was dialed, which the error stream says is up. If memory runs out, it says nothing of it.
-    fn new(rt: HostRuntime, address: &str, stream: TcpStream) -> TcpPeerConnection {
-        let announced = match String::from_str(rt.alloc(), address) {
-            Ok(address) => Some(Announced::up(rt, address)),
-            Err(_) => None,
-        };
+    fn new(
+        rt: HostRuntime,
+        lines: &LineQueue,
+        address: &str,
+        stream: TcpStream,
+    ) -> TcpPeerConnection {
         TcpPeerConnection {
             stream,
             faults: 0,
-            announced,
+            announced: Announced::up(rt, lines, address).ok(),
         }
     }
 
@@ -72,7 +84,7 @@ impl TcpPeerConnection {
         ensures { self.new.faults ≡ self.old.faults }
     {
         if let Some(announced) = self.announced.take() {
-            announced.down();
+            announced.say("down");
         }
     }
 
@@ -90,8 +102,16 @@ impl PeerConnection for TcpPeerConnection {
 
     ghost faults = { λ connection. connection.faults };
 
+    fn is_ended(&mut self) -> bool {
+        let is_ended = is_at_end(&self.stream);
+        if is_ended {
+            self.announce_end();
+        }
+        is_ended
+    }
+
     fn write_all(&mut self, bytes: &[u8]) -> Result<(), Failed> {
-        match write_whole(&mut &self.stream, bytes) {
+        match write_on(&mut &self.stream, bytes) {
             Ok(()) => Ok(()),
             Err(_) => {
                 self.announce_end();
@@ -105,13 +125,18 @@ impl PeerConnection for TcpPeerConnection {
 #[derive(Drop)]
 pub struct TcpPeerDialer {
     rt: HostRuntime,
+    lines: LineQueue,
     faults: u64,
 }
 
 impl TcpPeerDialer {
-    /// A dialer that did nothing yet.
-    pub(crate) fn new(rt: HostRuntime) -> TcpPeerDialer {
-        TcpPeerDialer { rt, faults: 0 }
+    /// A dialer that did nothing yet. The lines of its connections go to this queue.
+    pub(crate) fn new(rt: HostRuntime, lines: LineQueue) -> TcpPeerDialer {
+        TcpPeerDialer {
+            rt,
+            lines,
+            faults: 0,
+        }
     }
 
     /// Counts a call that failed.
@@ -130,7 +155,7 @@ impl PeerDialer for TcpPeerDialer {
 
     fn dial(&mut self, address: &str) -> Result<TcpPeerConnection, Failed> {
         match open(&self.rt, address) {
-            Ok(stream) => Ok(TcpPeerConnection::new(self.rt, address, stream)),
+            Ok(stream) => Ok(TcpPeerConnection::new(self.rt, &self.lines, address, stream)),
             Err(_) => Err(self.fail()),
         }
     }

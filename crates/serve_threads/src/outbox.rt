@@ -42,6 +42,13 @@ impl<R: Wait + Copy + Drop, L: Replies, J: Drop> Queues<R, L, J> {
         self.replies.cut(conn);
     }
 
+    /// Notes for the threads of peers that the node has made one step more. It is called before what the step says is handed on.
+    pub fn note_step(&self) {
+        for (_, queue) in &self.peers {
+            queue.note_step();
+        }
+    }
+
     /// Sends a message to the peer that it is for. It gets lost if too many wait, and if no peer has the id.
     pub fn send(&self, message: RaftMessage) {
         self.heard.note(&message);

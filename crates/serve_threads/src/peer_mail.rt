@@ -66,6 +66,11 @@ impl PeerMail {
         self.bulk.take()
     }
 
+    /// Whether nothing waits, and more may come.
+    pub(crate) fn is_waiting(&self) -> bool {
+        self.bulk.is_none() && self.others.is_empty() && !self.is_closed
+    }
+
     /// No message is taken any more.
     pub(crate) fn close(&mut self) {
         self.is_closed = true;

@@ -6,7 +6,7 @@ use dq_base::Failed;
 ///
 /// It counts its faults. What was written is described by connections that know it; clauses on content hold if it is known.
 pub trait PeerConnection: Send + Drop + Sized {
-    ghost use Rattle.std.specs.Prelude.{ℕ, List, Option};
+    ghost use Rattle.std.specs.Prelude.{◌≡◌, ℕ, List, Option};
     ghost use Rattle.dq_base.specs.Faults.{HasCause};
     ghost use Rattle.dq_base.specs.Sink.{WriteAppends};
 
@@ -15,6 +15,11 @@ pub trait PeerConnection: Send + Drop + Sized {
 
     /// How many times a call failed.
     ghost faults: { Self → ℕ };
+
+    /// Whether the other side has ended the connection, by a look that does not wait. What it said is dropped.
+    fn is_ended(&mut self) -> bool
+        ensures bytes { written self.new ≡ written self.old }
+        ensures faults { faults self.new ≡ faults self.old };
 
     /// Writes all of the bytes. After `Failed` some front of them was written, and the rest was not.
     fn write_all(&mut self, bytes: &[u8]) -> Result<(), Failed>

@@ -41,6 +41,18 @@ impl Deeds {
         self.word.store(now, Ordering::SeqCst);
     }
 
+    /// Whether these are the last deeds, at most eight.
+    pub(crate) fn end_with(&self, wanted: &[u8]) -> bool {
+        let mut word = self.word.load(Ordering::SeqCst);
+        for deed in wanted.iter().rev() {
+            if word % 256 != *deed as u64 {
+                return false;
+            }
+            word /= 256;
+        }
+        true
+    }
+
     /// Whether these deeds were done, at most eight.
     pub(crate) fn are(&self, wanted: &[u8]) -> bool {
         let mut word: u64 = 0;
@@ -74,6 +86,10 @@ impl PeerConnection for Tap {
     ghost written = { λ _. None };
 
     ghost faults = { λ tap. tap.calls.faults };
+
+    fn is_ended(&mut self) -> bool {
+        false
+    }
 
     fn write_all(&mut self, bytes: &[u8]) -> Result<(), Failed> {
         if self.calls.start().is_err() {

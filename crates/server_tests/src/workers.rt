@@ -10,7 +10,11 @@ use serve_threads::{
 };
 use serve_traits::{Event, Inbox};
 use std::alloc::Global;
+use std::io::Read;
+use std::net::TcpListener;
 use std::test::*;
+use std::thread;
+use std::time::Duration;
 use wire_words::WireText;
 
 /// What a connection begins with here.
@@ -68,6 +72,16 @@ fn heard_of<H: Host<u8>>(host: &mut H, alloc: Global) -> Option<Vec<u8>> {
     Some(heard)
 }
 
+/// The message of `MESSAGE`.
+fn timeout_now() -> RaftMessage {
+    RaftMessage {
+        from: 1,
+        to: 2,
+        term: 3,
+        what: MessageBody::TimeoutNow,
+    }
+}
+
 /// Whether a peer's thread dials, greets, and sends a message.
 fn sends<H: Host<u8>>(host: &mut H, alloc: Global, address: String) -> Option<bool> {
     let rt = host.rt();
@@ -82,15 +96,42 @@ fn sends<H: Host<u8>>(host: &mut H, alloc: Global, address: String) -> Option<bo
         queue: queue.again().ok()?,
     };
     beside::<Next, H>(host, Worker::Peer(peer)).ok()?;
-    let message = RaftMessage {
-        from: 1,
-        to: 2,
-        term: 3,
-        what: MessageBody::TimeoutNow,
-    };
-    queue.put(&rt, message);
+    queue.put(&rt, timeout_now());
     let heard = heard_of(host, alloc)?;
     Some(heard.as_slice().starts_with(GREETING) && heard.as_slice().ends_with(MESSAGE))
+}
+
+/// Whether the next connection brings the greeting and the message.
+fn brings_message(listener: &TcpListener) -> Option<bool> {
+    let (mut stream, _) = listener.accept().ok()?;
+    let mut heard = [0; 40];
+    stream.read_exact(&mut heard).ok()?;
+    Some(heard.starts_with(GREETING) && heard.ends_with(MESSAGE))
+}
+
+/// Whether a peer's thread dials again after its connection was closed, and no message is lost.
+fn dials_again<H: Host<u8>>(host: &mut H, sockets: HostRuntime, address: String) -> Option<bool> {
+    let (alloc, rt) = (sockets.alloc(), host.rt());
+    let listener = TcpListener::bind(&sockets, address.as_str()).ok()?;
+    let queue = PeerQueue::new(alloc).ok()?;
+    let peer = Peer {
+        alloc,
+        rt,
+        dialer: host.dialer().ok()?,
+        address: WireText::new(address),
+        greeting: Items::new(Vec::from_slice(alloc, GREETING).ok()?),
+        queue: queue.again().ok()?,
+    };
+    beside::<Next, H>(host, Worker::Peer(peer)).ok()?;
+    for _ in 0..3 {
+        queue.put(&rt, timeout_now());
+        if !brings_message(&listener)? {
+            return Some(false);
+        }
+        // The end of the connection has to reach the other side.
+        thread::sleep(&rt, Duration::from_millis(50));
+    }
+    Some(true)
 }
 
 #[test]
@@ -101,5 +142,7 @@ fn workers_work_in_threads_of_their_own(rt: HostRuntime) -> Result<(), Fail> {
     assert!(rt; matches!(beats(&mut quiet, alloc), Some(10..=20)));
     let mut host: TcpHost<_, u8> = TcpHost::new(rt, rt, alloc)?;
     assert_eq!(rt; sends(&mut host, alloc, free_address(rt)?), Some(true));
+    let mut host: TcpHost<_, u8> = TcpHost::new(rt, rt, alloc)?;
+    assert_eq!(rt; dials_again(&mut host, rt, free_address(rt)?), Some(true));
     Ok(())
 }
