@@ -1,6 +1,6 @@
 //! A connection to a peer with what was written on it.
 
-ghost use Rattle.std.specs.Prelude.{◌≡◌, ◌<◌, ◌-◌, ◌×◌, IsSome, None, true};
+ghost use Rattle.std.specs.Prelude.{◌≡◌, ◌<◌, ◌-◌, IsSome, None, true};
 ghost use Rattle.serve_threads.specs.Repeating.{install_in, mark_after};
 
 use raft_messages::{MessageBody, RaftMessage};
