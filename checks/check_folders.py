@@ -204,6 +204,44 @@ def read_folder(files):
     return term, vote, index, of_term, state, first, log
 
 
+def head_end(form, data, at):
+    """Where the batch ends whose head is whole at a place, by its head."""
+    size = 4 if form == 1 else 8
+    head = at + 2 * size
+    if len(data) < head + 16:
+        return None
+    count = struct.unpack_from("<Q", data, head + 8)[0]
+    body = head + 16 + 16 * count
+    if len(data) < body or short_total(form, data[head:body]) != data[at:at + size]:
+        return None
+    heads = [struct.unpack_from("<B3sI", data, head + 24 + 16 * number) for number in range(count)]
+    if any(kind not in (COMMAND, BARRIER, SERVERS) or zeros != b"\0\0\0" for kind, zeros, _ in heads):
+        return None
+    return body + sum(length + -length % 8 for _, _, length in heads)
+
+
+def tail_fault(files, following):
+    """The line of a last segment whose end isn't torn, if the log's next index is this one."""
+    segments = numbered(files, "segment")
+    if not segments:
+        return None
+    number, data = segments[-1]
+    at = read_segment(data)[1]
+    if at is None or at == 0 and len(data) <= 8:
+        return None
+    form = struct.unpack_from("<Q", data)[0]
+    if at == 0:
+        return "unknown format %d %d\n" % (number, form)
+    others = [read_batch(other, data, 8) for other in FORMATS] if at == 8 else []
+    if any(found and found[0] <= following for found in others):
+        return "damaged %d %d\n" % (number, at)
+    for place in range(head_end(form, data, at) or at + 8, len(data), 8):
+        found = read_batch(form, data, place)
+        if found and found[0] <= following + (place - at) // 16:
+            return "damaged %d %d\n" % (number, at)
+    return None
+
+
 def applied(databases, data):
     """What one of the commands that are written here does; other bytes do nothing."""
     if data[:8] == struct.pack("<BB6x", 1, 1):
@@ -238,6 +276,9 @@ def wanted(files):
     if isinstance(found, str):
         return 8, found
     term, vote, index, of_term, state, first, log = found
+    fault = tail_fault(files, first + len(log))
+    if fault:
+        return 8, fault
     databases = {}
     # The snapshots that are written here have a configuration without servers, and no database, with a format word or without.
     if state is not None and state.removeprefix(word(258)) != word(0) + word(1) + word(0):

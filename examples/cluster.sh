@@ -49,14 +49,14 @@ free_port() {
     echo "$port"
 }
 
-# serve N starts node N in its folder. What the node says goes to its file `lines`.
+# serve N [OPTION] starts node N in its folder. What the node says goes to its file `lines`.
 serve() {
-    local node=$1 other peers=()
+    local node=$1 option=("${@:2}") other peers=()
     for other in 1 2 3; do
         if [ "$other" -ne "$node" ]; then peers+=("$other=${address[other]}"); fi
     done
     mkdir -p "$folder/node$node"
-    (cd "$folder/node$node" && exec "$dqnode" serve "$node" "${address[node]}" "${peers[@]}" </dev/null >/dev/null 2>>lines) &
+    (cd "$folder/node$node" && exec "$dqnode" serve "${option[@]}" "$node" "${address[node]}" "${peers[@]}" </dev/null >/dev/null 2>>lines) &
     nodes[node]=$!
     # (without the shell's own line once it is killed)
     disown $!
@@ -100,7 +100,7 @@ began=$SECONDS
 
 address=()
 for node in 1 2 3; do address[node]=localhost:$(free_port "$node"); done
-for node in 1 2 3; do serve "$node"; done
+for node in 1 2 3; do serve "$node" --new; done
 first=$(wait_leader) || fail "no node became leader"
 say "three nodes run at ${address[*]}, and node $first is their leader"
 

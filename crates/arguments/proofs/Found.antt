@@ -12,8 +12,8 @@ use Rattle.clap.specs.declared.error.kind.ErrorKind.{ErrorKind}
 use Rattle.clap.specs.declared.error.kind.ErrorKind.TheVariants as kind
 use Rattle.clap.specs.declared.parser.matches.ArgMatches.{ArgMatches}
 use Rattle.arguments.specs.Commands.{script_app, statement_app, check_app, generate_app, serve_app, unless_refused, read_by}
-use Rattle.arguments.specs.Values.{engine_named, number_in}
-use Rattle.arguments.specs.Asking.{are_addresses, is_askable, statement_with, script_found, statement_found, check_found, is_set, generate_with, generate_found, asked_by, CanBeSent, IsAskable}
+use Rattle.arguments.specs.Values.{engine_named, is_set, number_in}
+use Rattle.arguments.specs.Asking.{are_addresses, is_askable, statement_with, script_found, statement_found, check_found, generate_with, generate_found, asked_by, CanBeSent, IsAskable}
 use Rattle.arguments.specs.declared.invocation.Invocation.{Invocation}
 use Rattle.arguments.specs.declared.invocation.Serve.{Serve}
 use Rattle.arguments.specs.Serving.{serve_found, IsServable}

@@ -11,8 +11,9 @@ use Rattle.sql_engine.specs.declared.kind.EngineKind.{EngineKind}
 use Rattle.std.specs.declared.alloc.AllocError.{AllocError}
 use Rattle.arguments.specs.declared.invocation.Peer.{Peer}
 use Rattle.arguments.specs.declared.invocation.Serve.{Serve}
-use Rattle.arguments.specs.Values.{engine_named, is_address, is_within, within, number_in}
-use Rattle.arguments.specs.Serving.{is_mark, peer_with, peer_of, has_id, is_new, new_peer, peers_behind, with_peer, peers_of, events_of, words_of, serve_with_peers, serve_with, serve_found, IsNodeId, IsAddress, IsPeer, AreDistinct, IsServable}
+use Rattle.arguments.specs.declared.serving.ServeOptions.{ServeOptions}
+use Rattle.arguments.specs.Values.{engine_named, is_set, is_at_host, is_at_brackets, is_address, is_within, within, number_in}
+use Rattle.arguments.specs.Serving.{is_mark, peer_with, peer_of, has_id, is_new, new_peer, peers_behind, with_peer, peers_of, events_of, idle_of, words_of, options_with, options_in, serve_with_peers, serve_with, serve_found, IsNodeId, IsAddress, IsPeer, AreDistinct, IsServable}
 
 -- ---- numbers and addresses
 
@@ -30,9 +31,9 @@ number_fits low high (Some word) = within_fits low high (number_below (2 ^ 32) w
 
 address_fits : (text : Text) → is_address text ≡ true → IsAddress text
 address_fits text e =
-    let rest = (and_parts (nat_le 1 (length text)) (nat_le (length text) 255 && not (has_nul text)) e).1 in
-    let parts = and_parts (nat_le (length text) 255) (not (has_nul text)) rest in
-    record { short = leb-true (length text) 255 parts.0; plain = not-true (has_nul text) parts.1 }
+    let parts = and_parts (nat_le (length text) 255) (not (has_nul text) && (is_at_host text || is_at_brackets text)) e in
+    let more = and_parts (not (has_nul text)) (is_at_host text || is_at_brackets text) parts.1 in
+    record { short = leb-true (length text) 255 parts.0; plain = not-true (has_nul text) more.0 }
 
 peer_fits : (o : Option ℕ) (address : Text) → IfSome o (λ n. (1 ≤ n) × (n ≤ 9)) → IfSome (peer_with o address) IsPeer
 peer_fits None address h = tt
@@ -108,42 +109,50 @@ peers_fit id count before (word ∷ words) so_far =
 
 -- ---- a node
 
-with_fit : (id : ℕ) (listen : Text) (engine : EngineKind) (events : ℕ) (count : ℕ) (o : Option (List Peer)) → IsNodeId id → IsAddress listen → 1 ≤ events → count ≤ 6
-    → IfSome o (Fits id count) → IfSome (serve_with_peers id listen engine events o) IsServable
-with_fit id listen engine events count None i l some few h = tt
-with_fit id listen engine events count (Some peers) i l some few h =
+with_fit : (id : ℕ) (listen : Text) (options : ServeOptions) (count : ℕ) (o : Option (List Peer)) → IsNodeId id → IsAddress listen → 1 ≤ options.events → count ≤ 6
+    → IfSome o (Fits id count) → IfSome (serve_with_peers id listen options o) IsServable
+with_fit id listen options count None i l some few h = tt
+with_fit id listen options count (Some peers) i l some few h =
     let counted : length peers ≡ count = h.count_is in
     record { id = i; listen = l; each = h.each; other = h.other; distinct = h.distinct; few = omega arith; some = some }
 
-peers_fit_of : (id : ℕ) (listen : Text) (engine : EngineKind) (events : ℕ) (words : List Text) → IsNodeId id → IsAddress listen → 1 ≤ events
-    → IfSome (serve_with_peers id listen engine events (peers_of id words)) IsServable
-peers_fit_of id listen engine events words i l some = by (nat_le (length words) 6) refl
+peers_fit_of : (id : ℕ) (listen : Text) (options : ServeOptions) (words : List Text) → IsNodeId id → IsAddress listen → 1 ≤ options.events
+    → IfSome (serve_with_peers id listen options (peers_of id words)) IsServable
+peers_fit_of id listen options words i l some = by (nat_le (length words) 6) refl
   where
-    by : (b : Bool) → nat_le (length words) 6 ≡ b → IfSome (serve_with_peers id listen engine events (cond b (peers_behind id [] words) None)) IsServable
-    by true e = with_fit id listen engine events (length words) (peers_behind id [] words) i l some (leb-true (length words) 6 e)
+    by : (b : Bool) → nat_le (length words) 6 ≡ b → IfSome (serve_with_peers id listen options (cond b (peers_behind id [] words) None)) IsServable
+    by true e = with_fit id listen options (length words) (peers_behind id [] words) i l some (leb-true (length words) 6 e)
         (subst (λ n. IfSome (peers_behind id [] words) (Fits id n)) (omega arith) (peers_fit id 0 [] words (record { each = tt; other = refl; distinct = tt; count_is = refl })))
     by false e = tt
 
-node_fits : (o : Option ℕ) (listen : Option Text) (words : List Text) (engine : Option EngineKind) (events : Option ℕ)
-    → IfSome o (λ n. (1 ≤ n) × (n ≤ 9)) → IfSome events (λ n. (1 ≤ n) × (n ≤ 4294967295)) → IfSome (serve_with o listen words engine events) IsServable
-node_fits None listen words engine events h some = tt
-node_fits (Some id) None words engine events h some = tt
-node_fits (Some id) (Some listen) words None events h some = tt
-node_fits (Some id) (Some listen) words (Some engine) None h some = tt
-node_fits (Some id) (Some listen) words (Some engine) (Some events) h some = by (is_address listen) refl
+node_fits : (o : Option ℕ) (listen : Option Text) (words : List Text) (options : Option ServeOptions)
+    → IfSome o (λ n. (1 ≤ n) × (n ≤ 9)) → IfSome options (λ given. 1 ≤ given.events) → IfSome (serve_with o listen words options) IsServable
+node_fits None listen words options h some = tt
+node_fits (Some id) None words options h some = tt
+node_fits (Some id) (Some listen) words None h some = tt
+node_fits (Some id) (Some listen) words (Some options) h some = by (is_address listen) refl
   where
-    by : (b : Bool) → is_address listen ≡ b → IfSome (cond b (serve_with_peers id listen engine events (peers_of id words)) None) IsServable
-    by true e = peers_fit_of id listen engine events words (record { low = h.0; high = h.1 }) (address_fits listen e) some.0
+    by : (b : Bool) → is_address listen ≡ b → IfSome (cond b (serve_with_peers id listen options (peers_of id words)) None) IsServable
+    by true e = peers_fit_of id listen options words (record { low = h.0; high = h.1 }) (address_fits listen e) some
     by false e = tt
 
 events_fit : (o : Option Text) → IfSome (events_of o) (λ n. (1 ≤ n) × (n ≤ 4294967295))
 events_fit None = (omega arith, omega arith)
 events_fit (Some word) = number_fits 1 4294967295 (Some word)
 
+options_fit : (engine : Option EngineKind) (events idle : Option ℕ) (new : Bool) → IfSome events (λ n. (1 ≤ n) × (n ≤ 4294967295))
+    → IfSome (options_with engine events idle new) (λ given. 1 ≤ given.events)
+options_fit None events idle new h = tt
+options_fit (Some engine) None idle new h = tt
+options_fit (Some engine) (Some events) None new h = tt
+options_fit (Some engine) (Some events) (Some idle) new h = h.0
+
 pub serve_fits : (o : Option (List Row)) → IfSome (serve_found o) IsServable
 serve_fits None = tt
 serve_fits (Some rows) = node_fits (number_in 1 9 (first_of (codes "ID") rows)) (first_of (codes "LISTEN") rows) (words_of (all_of (codes "PEER") rows))
-    (engine_named (first_of (codes "engine") rows)) (events_of (first_of (codes "events") rows)) (number_fits 1 9 (first_of (codes "ID") rows)) (events_fit (first_of (codes "events") rows))
+    (options_in rows) (number_fits 1 9 (first_of (codes "ID") rows))
+    (options_fit (engine_named (first_of (codes "engine") rows)) (events_of (first_of (codes "events") rows)) (idle_of (first_of (codes "idle-transaction") rows))
+    (is_set (first_of (codes "new") rows)) (events_fit (first_of (codes "events") rows)))
 
 pub served_fits : (o : Option (List Row)) (r : Result (Option Serve) AllocError) → IfOk r (λ (served : Option Serve). served ≡ serve_found o) → IfOk r (λ (served : Option Serve). IfSome served IsServable)
 served_fits o (Err f) h = tt

@@ -9,7 +9,7 @@ use Rattle.wire_words.specs.Items.{HasNoNul}
 use Rattle.arguments.specs.declared.invocation.Invocation.{Invocation}
 use Rattle.arguments.specs.declared.invocation.Invocation.TheVariants as asks
 use Rattle.arguments.specs.declared.invocation.Statement.{Statement as StatementAsked}
-use Rattle.arguments.specs.Values.{engine_named, is_address, number_in}
+use Rattle.arguments.specs.Values.{engine_named, is_set, is_address, number_in}
 use Rattle.arguments.specs.Serving.{serve_found, IsServable}
 use Rattle.arguments.specs.declared.reading.Line.{Line}
 use Rattle.arguments.specs.declared.reading.Line.TheVariants as line
@@ -34,11 +34,6 @@ statement_with query name sql addresses = None
 -- after `exec` and `query`
 abbrev pub statement_in : Bool → List Row → Option Invocation
 statement_in query rows = statement_with query (first_of (codes "NAME") rows) (first_of (codes "SQL") rows) (all_of (codes "ADDRESS") rows)
-
--- an option without a value is there
-abbrev pub is_set : Option Text → Bool
-is_set None = false
-is_set (Some word) = bytes_eq word (codes "true")
 
 abbrev pub generate_with : Option ℕ → Option ℕ → Bool → Option Invocation
 generate_with (Some number) (Some count) run = Some (asks.Generate number count run)

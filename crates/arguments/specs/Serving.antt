@@ -6,7 +6,8 @@ use Rattle.wire_words.specs.Items.{HasNoNul}
 use Rattle.sql_engine.specs.declared.kind.EngineKind.{EngineKind}
 use Rattle.arguments.specs.declared.invocation.Serve.{Serve}
 use Rattle.arguments.specs.declared.invocation.Peer.{Peer}
-use Rattle.arguments.specs.Values.{engine_named, is_address, number_in}
+use Rattle.arguments.specs.declared.serving.ServeOptions.{ServeOptions}
+use Rattle.arguments.specs.Values.{engine_named, is_set, is_address, number_in}
 
 -- ---- peers
 
@@ -54,23 +55,43 @@ abbrev pub events_of : Option Text → Option ℕ
 events_of None = Some 4294967295
 events_of (Some word) = number_in 1 4294967295 (Some word)
 
+-- for how many seconds a transaction may be idle; 60 where no number is named
+abbrev pub idle_of : Option Text → Option ℕ
+idle_of None = Some 60
+idle_of (Some word) = number_in 0 86400 (Some word)
+
 -- the arguments after the address; none if there are none
 abbrev pub words_of : Option (List Text) → List Text
 words_of None = []
 words_of (Some words) = words
 
-abbrev pub serve_with_peers : ℕ → Text → EngineKind → ℕ → Option (List Peer) → Option Serve
-serve_with_peers id listen engine events None = None
-serve_with_peers id listen engine events (Some peers) = Some (record { id = id; listen = listen; peers = peers; engine = engine; events = events })
+abbrev pub options_with : Option EngineKind → Option ℕ → Option ℕ → Bool → Option ServeOptions
+options_with (Some engine) (Some events) (Some idle) new = Some (record { engine = engine; events = events; idle = idle; new = new })
+options_with engine events idle new = None
 
-abbrev pub serve_with : Option ℕ → Option Text → List Text → Option EngineKind → Option ℕ → Option Serve
-serve_with (Some id) (Some listen) words (Some engine) (Some events) =
-    cond (is_address listen) (serve_with_peers id listen engine events (peers_of id words)) None
-serve_with id listen words engine events = None
+-- what the options say
+abbrev pub options_in : List Row → Option ServeOptions
+options_in rows =
+    options_with (engine_named (first_of (codes "engine") rows)) (events_of (first_of (codes "events") rows))
+    (idle_of (first_of (codes "idle-transaction") rows)) (is_set (first_of (codes "new") rows))
+
+abbrev pub serve_with_peers : ℕ → Text → ServeOptions → Option (List Peer) → Option Serve
+serve_with_peers id listen options None = None
+serve_with_peers id listen options (Some peers) =
+    Some (record { id = id; listen = listen; peers = peers; engine = options.engine; events = options.events; idle_transaction = options.idle; new = options.new })
+
+abbrev pub serve_with : Option ℕ → Option Text → List Text → Option ServeOptions → Option Serve
+serve_with (Some id) (Some listen) words (Some options) = cond (is_address listen) (serve_with_peers id listen options (peers_of id words)) None
+serve_with id listen words options = None
 
 abbrev pub serve_in : List Row → Option Serve
-serve_in rows = serve_with (number_in 1 9 (first_of (codes "ID") rows)) (first_of (codes "LISTEN") rows) (words_of (all_of (codes "PEER") rows))
-    (engine_named (first_of (codes "engine") rows)) (events_of (first_of (codes "events") rows))
+serve_in rows =
+    serve_with (number_in 1 9 (first_of (codes "ID") rows)) (first_of (codes "LISTEN") rows) (words_of (all_of (codes "PEER") rows)) (options_in rows)
+
+-- the file of the cluster's secret, if a command found it
+abbrev pub secret_found : Option (List Row) → Option Text
+secret_found None = None
+secret_found (Some rows) = first_of (codes "secret") rows
 
 -- what a command found, unless it refused the arguments
 abbrev pub serve_found : Option (List Row) → Option Serve

@@ -100,7 +100,10 @@ fn served_options<'a>(alloc: Global) -> Result<Command<'a>, AllocError>
 {
     plain(alloc, "serve")
         .arg(option(alloc, "engine"))?
-        .arg(option(alloc, "events"))
+        .arg(option(alloc, "events"))?
+        .arg(option(alloc, "idle-transaction"))?
+        .arg(flag(alloc, "new"))?
+        .arg(option(alloc, "secret"))
 }
 
 /// The command of the arguments after `serve`.

@@ -44,6 +44,10 @@ pub struct Serve {
     pub engine: EngineKind,
     /// How many events it takes before it ends, 1 to 4,294,967,295.
     pub events: u64,
+    /// For how many seconds a client with a transaction may say nothing, 0 to 86,400; 0 for any time.
+    pub idle_transaction: u64,
+    /// Whether it is a new node, over a folder that is no node's.
+    pub new: bool,
 }
 
 /// Another node of a cluster.

@@ -11,4 +11,4 @@ mod serving;
 pub use invocation::{Invocation, Peer, Serve, Statement};
 pub use reading::read_words;
 pub use reasons::refusal_reason;
-pub use serving::read_serve;
+pub use serving::{read_secret, read_serve};

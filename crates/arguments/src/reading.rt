@@ -4,8 +4,8 @@ ghost use Rattle.clap.specs.Words.{found_of, rows_of};
 ghost use Rattle.arguments.specs.Commands.{script_app, statement_app, check_app, generate_app, serve_app, read_by};
 ghost use Rattle.arguments.specs.declared.invocation.Invocation.TheVariants as asks;
 ghost use Rattle.arguments.specs.Serving.{serve_found};
-ghost use Rattle.arguments.specs.Values.{engine_named, is_within, number_in};
-ghost use Rattle.arguments.specs.Asking.{script_in, statement_with, statement_in, script_found, statement_found, check_found, is_set, generate_in, generate_found, line_of, asked_by, asked_of, IsAskable};
+ghost use Rattle.arguments.specs.Values.{engine_named, is_set, is_within, number_in};
+ghost use Rattle.arguments.specs.Asking.{script_in, statement_with, statement_in, script_found, statement_found, check_found, generate_in, generate_found, line_of, asked_by, asked_of, IsAskable};
 
 use crate::addresses::{is_askable, text, texts};
 use crate::commands::{
@@ -185,7 +185,7 @@ pub(crate) fn number_in(least: u32, most: u32, word: Option<&str>) -> Option<u32
 }
 
 /// Whether an option without a value is there.
-fn is_set(word: Option<&str>) -> bool
+pub(crate) fn is_set(word: Option<&str>) -> bool
     ensures { result ≡ is_set (option_map (λ word. word.now) word.entry) }
 {
     match word {
@@ -241,7 +241,7 @@ fn read_by(alloc: Global, line: Line, words: &[String]) -> Result<Option<Invocat
 ///
 /// The first word is `script`, `exec`, `query`, `check`, `gen` or `serve`. After `script` an engine may be named once, as `--engine E` or
 /// `--engine=E`, where E is `sqlite`, which is taken if none is named, or `cells`. After `exec` and `query` come the name of a
-/// database, a text of SQL and 1 to 9 addresses of 1 to 255 bytes. After `check` comes nothing. After `gen`
+/// database, a text of SQL and 1 to 9 addresses, each a host and a port. After `check` comes nothing. After `gen`
 /// stand a number of 0 to 2,147,483,647 and one of 1 to 2,000, in decimal without sign or leading zeros, and `--run` where the script is
 /// to be run. What follows `serve` is told at `read_serve`. No text may hold a NUL. The word `--` ends the options, and before it a
 /// longer word that begins with `-` is an option; there is no help.

@@ -6,7 +6,7 @@ use crate::commands::{
     values,
 };
 use crate::reading::{Line, engine_named, line_of, number_in};
-use crate::serving::{MAX_EVENTS, MAX_PEERS, has_id, peer_of};
+use crate::serving::{MAX_EVENTS, MAX_IDLE, MAX_PEERS, has_id, peer_of};
 use clap::error::ErrorKind;
 use clap::{ArgMatches, Command, Error};
 use std::alloc::{AllocError, Global};
@@ -15,7 +15,8 @@ use std::alloc::{AllocError, Global};
 const ENGINE: &str = "an engine is `sqlite` or `cells`";
 
 /// What is wrong with an address, if something is.
-const ADDRESS: &str = "an address has 1 to 255 bytes";
+const ADDRESS: &str =
+    "an address is HOST:PORT or [IPV6]:PORT, with a port of 1 to 65535, in at most 255 bytes";
 
 /// The first paragraph of what `clap` says of arguments, in one line, without the `error: ` before it.
 fn paragraph_of(alloc: Global, error: &Error) -> Result<String, AllocError> {
@@ -88,7 +89,9 @@ fn peers_reason(alloc: Global, id: u64, peers: &[&str]) -> Result<Option<String>
     let mut before = Vec::new(alloc);
     for named in peers {
         let Some(peer) = peer_of(alloc, named)? else {
-            return Ok(Some(format!(in alloc; "{named:?} is not N=ADDRESS, with N of 1 to 9")?));
+            return Ok(Some(format!(in alloc;
+                "{named:?} is not N=ADDRESS, with N of 1 to 9; {ADDRESS}"
+            )?));
         };
         if peer.id == id || has_id(before.as_slice(), peer.id) {
             return Ok(Some(format!(in alloc; "two nodes have the number {}", peer.id)?));
@@ -109,6 +112,11 @@ fn node_reason(
     if let Some(events) = value(matches, "events") {
         if number_in(1, MAX_EVENTS, Some(events)).is_none() {
             return Ok(Some("K is 1 to 4294967295, in decimal without leading zeros"));
+        }
+    }
+    if let Some(idle) = value(matches, "idle-transaction") {
+        if number_in(0, MAX_IDLE, Some(idle)).is_none() {
+            return Ok(Some("S is 0 to 86400, in decimal without leading zeros"));
         }
     }
     if let Some(listen) = value(matches, "LISTEN") {

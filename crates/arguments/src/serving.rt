@@ -6,22 +6,37 @@ ghost use Rattle.std.specs.List.{before_first, after_first};
 ghost use Rattle.clap.specs.Words.{found_of, rows_of};
 ghost use Rattle.arguments.specs.Commands.{serve_app, read_by};
 ghost use Rattle.arguments.specs.Values.{is_address};
-ghost use Rattle.arguments.specs.Serving.{is_mark, peer_with, peer_of, has_id, is_new, new_peer, peers_behind, peers_of, events_of, words_of, serve_with_peers, serve_with, serve_in, serve_found, IsServable};
+ghost use Rattle.arguments.specs.Serving.{is_mark, peer_with, peer_of, has_id, is_new, new_peer, peers_behind, peers_of, events_of, idle_of, words_of, options_with, options_in, serve_with_peers, serve_with, serve_in, serve_found, secret_found, IsServable};
 
 use crate::addresses::{is_address, text};
 use crate::commands::{matches_by, serve_command, value, values};
 use crate::invocation::{Peer, Serve};
-use crate::reading::{engine_named, number_in};
+use crate::reading::{engine_named, is_set, number_in};
 use clap::ArgMatches;
 use dq_base::Items;
 use sql_engine::EngineKind;
 use std::alloc::{AllocError, Global};
+use wire_words::WireText;
 
 /// How many peers a node has at most.
 pub(crate) const MAX_PEERS: usize = 6;
 
 /// The number of events where none is named.
 pub(crate) const MAX_EVENTS: u32 = 4_294_967_295;
+
+/// For how many seconds a client with a transaction may say nothing at most, and where no number is named.
+pub(crate) const MAX_IDLE: u32 = 86_400;
+
+const USUAL_IDLE: u32 = 60;
+
+/// The options of a node that is to be served.
+#[derive(Clone, Copy, Debug, PartialEq, Eq)]
+pub(crate) struct ServeOptions {
+    engine: EngineKind,
+    events: u32,
+    idle: u32,
+    new: bool,
+}
 
 /// The peer of an id at an address, if the word is an address.
 fn peer_with(alloc: Global, id: u32, word: &str) -> Result<Option<Peer>, AllocError>
@@ -111,16 +126,41 @@ fn events_of(word: Option<&str>) -> Option<u32>
     }
 }
 
+/// For how many seconds a transaction may be idle, by a word; 60 where none is there.
+fn idle_of(word: Option<&str>) -> Option<u32>
+    ensures { result ≡ idle_of (option_map (λ word. word.now) word.entry) }
+{
+    match word {
+        Some(word) => number_in(0, MAX_IDLE, Some(word)),
+        None => Some(USUAL_IDLE),
+    }
+}
+
+/// What the options say.
+fn options_in(matches: &ArgMatches<'_>) -> Option<ServeOptions>
+    ensures { result ≡ options_in (rows_of (found_of matches.now)) }
+{
+    let engine = engine_named(value(matches, "engine"))?;
+    let events = events_of(value(matches, "events"))?;
+    let idle = idle_of(value(matches, "idle-transaction"))?;
+    let new = is_set(value(matches, "new"));
+    Some(ServeOptions {
+        engine,
+        events,
+        idle,
+        new,
+    })
+}
+
 /// A node with the peers of these words, if they name peers.
 fn with_peers(
     alloc: Global,
     id: u32,
     listen: &str,
     words: &[&str],
-    engine: EngineKind,
-    events: u32,
+    options: ServeOptions,
 ) -> Result<Option<Serve>, AllocError>
-    ensures { IfOk result (λ asked. asked ≡ serve_with (Some id) (Some listen.now) (map (λ word. word.now) words.now) (Some engine) (Some events)) }
+    ensures { IfOk result (λ asked. asked ≡ serve_with (Some id) (Some listen.now) (map (λ word. word.now) words.now) (Some options)) }
 {
     let listen = text(alloc, listen)?;
     if !is_address(&listen) {
@@ -131,8 +171,10 @@ fn with_peers(
             id: id as u64,
             listen,
             peers,
-            engine,
-            events: events as u64,
+            engine: options.engine,
+            events: options.events as u64,
+            idle_transaction: options.idle as u64,
+            new: options.new,
         })),
         None => Ok(None),
     }
@@ -147,23 +189,22 @@ fn serve_in(alloc: Global, matches: &ArgMatches<'_>) -> Result<Option<Serve>, Al
     let Some(listen) = value(matches, "LISTEN") else {
         return Ok(None);
     };
-    let Some(engine) = engine_named(value(matches, "engine")) else {
-        return Ok(None);
-    };
-    let Some(events) = events_of(value(matches, "events")) else {
+    let Some(options) = options_in(matches) else {
         return Ok(None);
     };
     match values(matches, "PEER") {
-        Some(words) => with_peers(alloc, id, listen, words, engine, events),
-        None => with_peers(alloc, id, listen, &[], engine, events),
+        Some(words) => with_peers(alloc, id, listen, words, options),
+        None => with_peers(alloc, id, listen, &[], options),
     }
 }
 
 /// Reads the arguments after `serve`: the node that they name, or nothing if they name none.
 ///
-/// The id is a number of 1 to 9. An address has 1 to 255 bytes and no NUL; a peer is named as `N=ADDRESS`, with an N of 1 to 9. No two of
+/// The id is a number of 1 to 9. An address is a host and a port; a peer is named as `N=ADDRESS`, with an N of 1 to 9. No two of
 /// the node and its peers have one number, and there are at most six peers. `--engine E` is as after `script`, and `--events K` with
-/// a number of 1 to 4,294,967,295, the greatest where it isn't there.
+/// a number of 1 to 4,294,967,295, the greatest where it isn't there. `--idle-transaction S`, with a number of 0 to 86,400, closes the
+/// connection of a client that has a transaction and says nothing for S seconds; it is 60 without the option, and 0 is for any time.
+/// `--new` makes a new node. `--secret FILE` names a file of the cluster's secret, at which `read_secret` looks.
 #[tactic(auto, using(crate::proofs::Found::serve_simple))]
 pub fn read_serve(alloc: Global, words: &[String]) -> Result<Option<Serve>, AllocError>
     ensures found { IfOk result (λ served. served ≡ serve_found (read_by serve_app (map string_bytes words.now))) }
@@ -171,6 +212,20 @@ pub fn read_serve(alloc: Global, words: &[String]) -> Result<Option<Serve>, Allo
 {
     match matches_by(serve_command(alloc)?, words)? {
         Some(matches) => serve_in(alloc, &matches),
+        None => Ok(None),
+    }
+}
+
+/// The file of the cluster's secret that the arguments after `serve` name, if they name one.
+#[tactic(auto, using(crate::proofs::Found::serve_simple))]
+pub fn read_secret(alloc: Global, words: &[String]) -> Result<Option<WireText>, AllocError>
+    ensures { IfOk result (λ file. file ≡ secret_found (read_by serve_app (map string_bytes words.now))) }
+{
+    let Some(matches) = matches_by(serve_command(alloc)?, words)? else {
+        return Ok(None);
+    };
+    match value(&matches, "secret") {
+        Some(file) => Ok(Some(text(alloc, file)?)),
         None => Ok(None),
     }
 }

@@ -3,6 +3,7 @@ ghost use Rattle.dq_base.specs.Names.{IsName};
 use disk_model::{Disk, DiskFault};
 use folder_disk::DirDisk;
 use std::fs;
+use std::os::unix::fs::{PermissionsExt, symlink};
 use std::test::Fail;
 
 const FOLDER: &str = "dir_disk_test";
@@ -104,5 +105,49 @@ fn a_folder_is_one_disk_at_a_time(rt: HostRuntime) -> Result<(), Fail> {
     drop(first);
     assert_eq!(rt; make(&mut second, Step::Lists(0)), Ok(true));
     fs::remove_dir_all(&rt, LOCKED)?;
+    Ok(())
+}
+
+const LINKED: &str = "dir_disk_linked";
+
+/// Calls that a symlink refuses.
+const ON_FILES: &[Step] = &[
+    Step::Reads(Place::A, 0, b"kept"),
+    Step::Write(Place::A, 0, b"x"),
+    Step::Cut(Place::A, 0),
+    Step::Sync(Place::A),
+];
+
+/// A symlink is listed, and no call reads, writes, truncates or syncs the file that it leads to.
+#[test]
+fn a_link_is_not_a_file(rt: HostRuntime) -> Result<(), Fail> {
+    let _ = fs::remove_dir_all(&rt, LINKED);
+    fs::create_dir(&rt, LINKED)?;
+    fs::write(&rt, "dir_disk_linked/kept", "kept")?;
+    symlink(&rt, "kept", "dir_disk_linked/a")?;
+    let mut disk = DirDisk::in_folder(rt.clone()?, LINKED)?;
+    assert_eq!(rt; make(&mut disk, Step::Lists(2)), Ok(true));
+    for step in ON_FILES {
+        assert_eq!(rt; make(&mut disk, *step), Err(DiskFault::Failed));
+    }
+    let kept = fs::read_to_string(&rt, "dir_disk_linked/kept")?;
+    assert!(rt; kept.as_str() == "kept");
+    fs::remove_dir_all(&rt, LINKED)?;
+    Ok(())
+}
+
+const PRIVATE: &str = "dir_disk_private";
+
+#[test]
+fn a_new_file_is_its_owner_alone(rt: HostRuntime) -> Result<(), Fail> {
+    let _ = fs::remove_dir_all(&rt, PRIVATE);
+    fs::create_dir(&rt, PRIVATE)?;
+    let mut disk = DirDisk::in_folder(rt.clone()?, PRIVATE)?;
+    assert_eq!(rt; make(&mut disk, Step::Write(Place::A, 0, b"x")), Ok(true));
+    let mode = fs::metadata(&rt, "dir_disk_private/a")?
+        .permissions()
+        .mode();
+    assert_eq!(rt; mode & 0o777, 0o600);
+    fs::remove_dir_all(&rt, PRIVATE)?;
     Ok(())
 }

@@ -21,7 +21,10 @@ use Rattle.script_whole_nodes.specs.Turns.{Knows}
 use Rattle.script_whole_nodes.proofs.Guarding.{places_tell}
 use Rattle.script_falls.proofs.Falls.{unfallen_fair}
 use Rattle.dqnode.specs.Program.{SafeTurns, Gives, BreaksOff, RunsSafely, RunsAreSafe}
-use Rattle.dqnode.specs.Status.{status_for, OutcomeEnds, ScriptEnds}
+use Rattle.dqnode.specs.declared.status.Status.{Status}
+use Rattle.dqnode.specs.declared.status.Status.TheVariants as status
+use Rattle.dqnode.specs.Status.{status_code, status_for, IsBrokenOff, OutcomeEnds, ScriptEnds}
+use Rattle.dqnode.proofs.Made.{not_broken}
 
 -- ---- a run that whole nodes made is safe
 
@@ -102,6 +105,25 @@ status_ends kind outcome.ReadFault journal left left' a b e = e
 status_ends kind outcome.WriteFault journal left left' a b e = e
 status_ends kind outcome.NoMemory journal left left' a b e = e
 status_ends kind outcome.Internal journal left left' a b e = e
+
+-- with a status after which what was written may end anywhere, it broke off
+pub script_broken : (kind : EngineKind) (journal : List Item) (s : Status) (left left' a b : Option (List ℕ)) → ScriptEnds kind journal s left left' a b
+    → IsBrokenOff (status_code s) → BreaksOff kind (MayFollow left') left left' a b
+script_broken kind journal status.Done left left' a b e off = absurd (not_broken 0 (λ f. cc) (λ f. cc) (λ f. cc) off)
+script_broken kind journal status.Script left left' a b e off = absurd (not_broken 2 (λ f. cc) (λ f. cc) (λ f. cc) off)
+script_broken kind journal status.ReadFault left left' a b e off = absurd (not_broken 3 (λ f. cc) (λ f. cc) (λ f. cc) off)
+script_broken kind journal status.Large left left' a b e off = absurd (not_broken 9 (λ f. cc) (λ f. cc) (λ f. cc) off)
+script_broken kind journal status.WriteFault left left' a b e off = e
+script_broken kind journal status.NoMemory left left' a b e off = e
+script_broken kind journal status.Internal left left' a b e off = e
+script_broken kind journal status.Words left left' a b e off = absurd e
+script_broken kind journal status.DiskFault left left' a b e off = absurd e
+script_broken kind journal status.HostFault left left' a b e off = absurd e
+script_broken kind journal status.Files left left' a b e off = absurd e
+script_broken kind journal status.Spent left left' a b e off = absurd e
+script_broken kind journal status.Refused left left' a b e off = absurd e
+script_broken kind journal status.NoLeader left left' a b e off = absurd e
+script_broken kind journal status.Unknown left left' a b e off = absurd e
 
 -- ---- however it ended, it is safe
 

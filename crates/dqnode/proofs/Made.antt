@@ -51,7 +51,7 @@ runs_made number writes fault journal text a b p told = record {
   safe = p.safe;
 }
 
-not_broken : (code : ℕ) → code ≢ 4 → code ≢ 7 → code ≢ 15 → IsBrokenOff code → ⊥
+pub not_broken : (code : ℕ) → code ≢ 4 → code ≢ 7 → code ≢ 15 → IsBrokenOff code → ⊥
 not_broken code four seven fifteen (inl (inl e)) = four e
 not_broken code four seven fifteen (inl (inr e)) = seven e
 not_broken code four seven fifteen (inr e) = fifteen e

@@ -1,7 +1,6 @@
 -- What a call shows if there was not enough memory to read its arguments, so that nothing was done.
-use Rattle.std.proofs.Common.{◌≡◌, ◌⊎◌, inl, inr, ℕ, Bool, List, [], Option, Some, None, refl, sym, subst, ◌∙◌, le_refl}
+use Rattle.std.proofs.Common.{◌≡◌, ◌⊎◌, inl, inr, ℕ, List, [], Option, Some, None, refl, sym, subst, ◌∙◌, le_refl}
 use Rattle.std.specs.Io.KnownBytes.{Keeps}
-use Rattle.dq_base.proofs.ContentLaws.{AppendsFront-nothing}
 use Rattle.script_cluster.specs.Outcomes.{Item}
 use Rattle.client.specs.Net.{Net}
 use Rattle.disk_model.specs.Disk.{Disk}

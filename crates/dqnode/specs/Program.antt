@@ -1,5 +1,5 @@
 -- What the program does: its words, its input, what it writes and the status that it ends with.
-use Rattle.std.specs.Prelude.{◌≡◌, ◌⊎◌, ◌++◌, ℕ, List, [], codes, Option, None}
+use Rattle.std.specs.Prelude.{◌≡◌, ◌⊎◌, ◌++◌, ℕ, List, codes, Option, None}
 use Rattle.std.specs.Io.KnownBytes.{Appends, Consumes, IsAtEnd}
 use Rattle.dq_base.specs.Sink.{AppendsFront}
 use Rattle.sql_engine.specs.declared.kind.EngineKind.{EngineKind}

@@ -1,5 +1,5 @@
 -- What a call of the program shows: a record for each thing that it may be asked for, for what it then leaves alone, and for its status.
-use Rattle.std.specs.Prelude.{◌≡◌, ◌≢◌, ◌≤◌, ◌⊎◌, ◌+◌, ◌*◌, ℕ, Bool, List, [], length, Option, Some}
+use Rattle.std.specs.Prelude.{◌≡◌, ◌≤◌, ◌⊎◌, ◌+◌, ◌*◌, ℕ, Bool, List, [], length, Option, Some}
 use Rattle.std.specs.Io.KnownBytes.{Appends, Keeps}
 use Rattle.dq_base.specs.Faults.{Rose}
 use Rattle.dq_base.specs.Sink.{AppendsFront}

@@ -1,4 +1,4 @@
-//! Which node a folder is of.
+//! Which node a folder is of, and how a new node takes one.
 
 ghost use Rattle.std.specs.Prelude.{◌≡◌, vec_len, IfOk};
 
@@ -12,12 +12,14 @@ const FILE: &str = "node";
 /// How many bytes of it are read: more than any file of this name has.
 const ROOM: usize = 4_096;
 
-/// Who owns a folder.
+/// Why a node that is to be served doesn't get its folder.
 #[derive(Drop)]
-pub enum FolderOwner {
-    /// The node that the arguments name, now that its file says so.
-    Ours,
-    /// Another node, or a node with other voters: what its file says.
+pub enum FolderRefusal {
+    /// No file says which node the folder is of, and the node isn't a new one.
+    NoNode,
+    /// A new node is to be made, and the folder has one: what its file says.
+    HasNode(String),
+    /// The folder is of another node, or of one with other voters: what its file says.
     Another(String),
 }
 
@@ -34,18 +36,23 @@ fn address_of(words: &Serve, id: u64) -> Option<&str> {
     None
 }
 
-/// What the file of a node says: its id, and all voters with their addresses, ascending by id.
-fn text_of(alloc: Global, words: &Serve) -> Result<String, AllocError> {
-    let mut text = format!(in alloc; "node {} of", words.id)?;
+/// The name of a cluster: all voters that the arguments name, with their addresses, ascending by id.
+pub fn cluster_name(alloc: Global, words: &Serve) -> Result<String, AllocError> {
+    let mut name = String::new(alloc);
     for before in 0..9 {
         let id = before + 1;
         if let Some(address) = address_of(words, id) {
             let voter = format!(in alloc; " {id}={address}")?;
-            text.push_str(voter.as_str())?;
+            name.push_str(voter.as_str())?;
         }
     }
-    text.push('\n')?;
-    Ok(text)
+    Ok(name)
+}
+
+/// What the file of a node says: its id, and all voters with their addresses, ascending by id.
+fn text_of(alloc: Global, words: &Serve) -> Result<String, AllocError> {
+    let cluster = cluster_name(alloc, words)?;
+    format!(in alloc; "node {} of{cluster}\n", words.id)
 }
 
 /// Room for `size` bytes.
@@ -70,39 +77,54 @@ fn write<D: Disk>(disk: &mut D, text: &str) -> Result<(), DiskFault> {
     disk.sync_names()
 }
 
-/// Whether a node keeps its term, its vote, its log or a snapshot in a file of this name.
-fn is_kept(name: &str) -> bool {
-    name.starts_with("metadata") || name.starts_with("segment-") || name.starts_with("snapshot-")
+/// Why a folder whose file says this is refused. A file that ends early was being written when a first start ended.
+fn refusal_of_named(
+    alloc: Global,
+    words: &Serve,
+    held: &[u8],
+) -> Result<Option<FolderRefusal>, AllocError> {
+    if words.new {
+        return Ok(Some(FolderRefusal::HasNode(String::from_utf8_lossy(alloc, held)?)));
+    }
+    if text_of(alloc, words)?.as_bytes().starts_with(held) {
+        return Ok(None);
+    }
+    Ok(Some(FolderRefusal::Another(String::from_utf8_lossy(alloc, held)?)))
 }
 
-/// Whether a node has kept anything in the folder.
-fn has_kept_files<D: Disk>(disk: &mut D) -> Result<bool, DiskFault> {
+/// Whether the folder has the file.
+fn has_file<D: Disk>(disk: &mut D) -> Result<bool, DiskFault> {
     let names = disk.list()?;
-    Ok(names.iter().any(|name| is_kept(name.as_str())))
+    Ok(names.iter().any(|name| name.as_str() == FILE))
 }
 
-/// Returns who owns a folder.
-///
-/// The file is written if it isn't there, or if an earlier write of it was not finished. It is replaced if no node has kept anything in
-/// the folder: the start that wrote it ended before its node promised anything, as one that can't listen.
-pub fn owner_of<D: Disk>(
+/// Returns why the node that the arguments name doesn't get the folder; nothing if it may have it. Changes no file.
+pub fn refusal_of<D: Disk>(
     alloc: Global,
     words: &Serve,
     disk: &mut D,
-) -> Result<FolderOwner, DiskFault> {
-    let text = text_of(alloc, words)?;
+) -> Result<Option<FolderRefusal>, DiskFault> {
+    if !has_file(disk)? {
+        return Ok(if words.new {
+            None
+        } else {
+            Some(FolderRefusal::NoNode)
+        });
+    }
     let held = held(alloc, disk)?;
-    if held.as_slice() == text.as_bytes() {
-        return Ok(FolderOwner::Ours);
+    Ok(refusal_of_named(alloc, words, held.as_slice())?)
+}
+
+/// Has the file say that the folder is of the node that the arguments name. It is written if it isn't there or ends early. A new node that
+/// can't write it removes what it wrote.
+pub fn claim<D: Disk>(alloc: Global, words: &Serve, disk: &mut D) -> Result<(), DiskFault> {
+    let text = text_of(alloc, words)?;
+    if held(alloc, disk)?.as_slice() == text.as_bytes() {
+        return Ok(());
     }
-    if text.as_bytes().starts_with(held.as_slice()) {
-        write(disk, text.as_str())?;
-        return Ok(FolderOwner::Ours);
+    let written = write(disk, text.as_str());
+    if words.new && written.is_err() {
+        let _ = disk.remove(FILE);
     }
-    if !has_kept_files(disk)? {
-        disk.cut(FILE, 0)?;
-        write(disk, text.as_str())?;
-        return Ok(FolderOwner::Ours);
-    }
-    Ok(FolderOwner::Another(String::from_utf8_lossy(alloc, held.as_slice())?))
+    written
 }

@@ -14,7 +14,20 @@ ghost use Rattle.arguments.specs.declared.invocation.Serve.{Serve};
 ghost use Rattle.arguments.specs.declared.invocation.Statement.{Statement};
 ghost use Rattle.arguments.specs.Asking.{IsAskable};
 ghost use Rattle.serve_node.specs.Rules.{GoesWell};
-ghost use Rattle.dqnode.specs.Asks.{asks_for, ForStatement, ForGenerated, ForRun, ForServed, IsScript, IsRun, IsStatement, IsServed, IsCheck, IsNothing, RunsWith};
+ghost use Rattle.dqnode.specs.Asks.{
+  asks_for,
+  ForStatement,
+  ForGenerated,
+  ForRun,
+  ForServed,
+  IsScript,
+  IsRun,
+  IsStatement,
+  IsServed,
+  IsCheck,
+  IsNothing,
+  RunsWith,
+};
 ghost use Rattle.dqnode.specs.Program.{words_error, Gives, Completes, BreaksOff, RunsSafely, RunsAreSafe};
 ghost use Rattle.dqnode.specs.Status.{IsStatus, IsBroken, IsBrokenOff, IsServeCode};
 ghost use Rattle.dqnode.specs.Statements.{StatementEnds, IsAnswered, IsOfStatement, HasLinked};
@@ -114,12 +127,15 @@ fn run<S: Source, K: Sink, D: Disk, N: Dialer, H: Host<Read>, W: Notes>(
     ensures of_spent { result ≡ 10 → IsServed asked }
     ensures of_internal { result ≡ 15 → IsScript asked ⊎ IsRun asked ⊎ IsServed asked }
     ensures serves { (served : Serve) → ForServed served asked → WasServed D.tells D.states D.faults H.done served network.old.host disk.old disk.new
-        (record { left = H.left network.old.host; count = H.taken network.old.host }) (record { left = H.left network.new.host; count = H.taken network.new.host }) result }
+        (record { left = H.left network.old.host; count = H.taken network.old.host })
+        (record { left = H.left network.new.host; count = H.taken network.new.host }) result }
     ensures spent { (served : Serve) → ForServed served asked → result ≡ 10 → H.taken network.new.host ≡ H.taken network.old.host + served.events }
-    ensures serves_well { IsServed asked → GoesWell (D.states disk.old) (D.faults disk.old) (D.faults disk.new) (H.faults network.old.host) (H.faults network.new.host) →
+    ensures serves_well { IsServed asked → GoesWell (D.states disk.old) (D.faults disk.old) (D.faults disk.new)
+        (H.faults network.old.host) (H.faults network.new.host) →
         (result ≡ 10) ⊎ (result ≡ 7) ⊎ (result ≡ 15) }
     ensures host { ¬ (IsServed asked) → network.new.host ≡ network.old.host }
-    ensures generated { (number writes : ℕ) → ForGenerated number writes asked → GenerateEnds number writes (K.written output.old) (K.written output.new) result }
+    ensures generated { (number writes : ℕ) → ForGenerated number writes asked →
+        GenerateEnds number writes (K.written output.old) (K.written output.new) result }
     ensures made { (number writes : ℕ) → ForRun number writes asked → RunEnds number writes journal.new (K.written output.old) (K.written output.new) result }
     ensures known { IsStatus result }
     ensures input_count { S.faults input.old ≤ S.faults input.new }
@@ -208,7 +224,8 @@ pub fn dqnode<S: Source, K: Sink, D: Disk, N: Dialer, H: Host<Read>, W: Notes>(
     // Words that ask for nothing are refused.
     ensures arguments { RefusesArguments (asks_for words.now) (K.written output.old) (K.written output.new) result }
     // A statement that was asked for was run by the leader of a cluster.
-    ensures statement { StatementRun (asks_for words.now) (N.net network.old.dialer) (N.net network.new.dialer) (K.written output.old) (K.written output.new) result }
+    ensures statement { StatementRun (asks_for words.now) (N.net network.old.dialer) (N.net network.new.dialer)
+        (K.written output.old) (K.written output.new) result }
     // A check: what the files represent was printed, or their fault.
     ensures check { CheckRun (asks_for words.now) (D.states disk.old) (D.states disk.new) K.written output.old output.new result }
     // The script of a number and a count of writes was made, or run.

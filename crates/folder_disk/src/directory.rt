@@ -9,9 +9,12 @@ use std::alloc::AllocError;
 use std::fs::{File, OpenOptions};
 use std::io::ErrorKind;
 use std::marker::Model;
-use std::os::unix::fs::FileExt;
+use std::os::unix::fs::{FileExt, OpenOptionsExt};
 use std::rt::Files;
 use std::{fs, io};
+
+/// The mode of a file that a disk makes: its owner alone reads and writes it.
+const FILE_MODE: u32 = 0o600;
 
 /// The file that was written last, by its name.
 #[derive(Drop)]
@@ -33,7 +36,8 @@ pub struct CallFault {
 ///
 /// It says nothing of what is on it: that real files follow what the trait says is trusted, and with it that an `Ok` of
 /// a sync after one that failed makes all sure, which some systems break. A name that has a `/`, or is `.` or `..`, is
-/// none of the folder: each call with it answers `Failed` and does nothing.
+/// none of the folder: each call with it answers `Failed` and does nothing. So does each read, write, truncation and sync of a
+/// name at which a symlink is, or another thing that isn't a file. A new file is read and written by its owner alone.
 ///
 /// The first call opens the folder and locks it, by a lock on the folder itself that ends with the disk: no file is made
 /// for it. While another disk has the folder that call answers `Failed` and does nothing, and so does each call until the
@@ -74,12 +78,32 @@ fn check_flat(name: &str) -> io::Result<()> {
     Ok(())
 }
 
+/// Refuses a path at which something is that isn't a file, as a symlink.
+fn check_file<R: Files + AllocGlobal>(rt: &R, path: &str) -> io::Result<()> {
+    let found = match fs::symlink_metadata(rt, path) {
+        Ok(found) => found,
+        Err(error) if error.kind() == ErrorKind::NotFound => return Ok(()),
+        Err(error) => return Err(error),
+    };
+    if found.is_file() {
+        return Ok(());
+    }
+    let what = if found.is_symlink() {
+        "a symbolic link"
+    } else {
+        "not a file"
+    };
+    let text = format!(in rt.alloc(); "{path} is {what}")?;
+    Err(io::Error::other(text.as_str()))
+}
+
 /// Opens a file where there is one.
-fn opened<R: Files<File = File>>(
+fn opened<R: Files<File = File> + AllocGlobal>(
     rt: &R,
     options: &OpenOptions,
     path: &str,
 ) -> io::Result<Option<File>> {
+    check_file(rt, path)?;
     match options.open(rt, path) {
         Ok(file) => Ok(Some(file)),
         Err(error) if error.kind() == ErrorKind::NotFound => Ok(None),
@@ -224,7 +248,8 @@ impl<R: Files<File = File> + AllocGlobal + Clone + Drop> DirDisk<R> {
                 Err(error) if is_other(&error) => continue,
                 entry => entry?,
             };
-            if !entry.metadata()?.is_file() {
+            let found = entry.metadata()?;
+            if !found.is_file() && !found.is_symlink() {
                 continue;
             }
             let text = String::from_str(self.rt.alloc(), entry.file_name())?;
@@ -263,11 +288,13 @@ impl<R: Files<File = File> + AllocGlobal + Clone + Drop> DirDisk<R> {
             return Ok(());
         }
         let path = self.path(name)?;
+        check_file(&self.rt, path.as_str())?;
         let own = String::from_str(self.rt.alloc(), name)?;
         let file = OpenOptions::new()
             .read(true)
             .write(true)
             .create(true)
+            .mode(FILE_MODE)
             .open(&self.rt, path.as_str())?;
         self.written = Some(Written { name: own, file });
         Ok(())
@@ -357,7 +384,8 @@ impl<R: Files<File = File> + AllocGlobal + Clone + Drop> Disk for DirDisk<R> {
 
     ghost made = { λ disk. disk.made };
 
-    /// The files of the folder whose names are names of a `Name`; folders, links and names that aren't UTF-8 aren't listed.
+    /// The files and symlinks of the folder whose names are names of a `Name`; folders and names that aren't UTF-8 aren't listed.
+    /// A symlink is listed so that a read of it fails, and the file isn't taken for one that isn't there.
     #[tactic(auto, using(crate::proofs::Telling::looks_untold))]
     fn list(&mut self) -> Result<Items<Name>, DiskFault> {
         self.count();

@@ -14,7 +14,6 @@ use Rattle.script_cluster.specs.Knowing.{outcomes_in, outcomes_over, with_over}
 use Rattle.script_cluster.specs.Outcomes.{Outcome, Turn}
 use Rattle.script_cluster.specs.Run as nodes
 use Rattle.script_cluster.specs.Run.{Fault, Line, Large, Untold, fault_by, fault_text}
-use Rattle.script_cluster.specs.World as world
 use Rattle.script_cluster.specs.World.{World, Halt, Went, shown, takes, opened}
 use Rattle.script_machines.specs.Machines.{Fleet}
 use Rattle.script_runner.specs.Ending.{IsBeside}

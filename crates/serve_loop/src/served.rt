@@ -10,7 +10,8 @@ use crate::step_report::StepReport;
 use crate::watch::{HeldBytes, piece_of};
 use disk_model::Disk;
 use node_core::Node;
-use serve_traits::{Core, Event, StepFault};
+use raft_messages::{Server, ServerRole};
+use serve_traits::{Core, Event, ServerSet, StepFault};
 use session_gateway::Read;
 use sql_engine::Engine;
 
@@ -22,6 +23,17 @@ pub(crate) struct ServedNode<'n, 'd, 'e, D: Disk, E: Engine> {
     pub(crate) engine: &'e mut E,
     pub(crate) watch: HeldBytes,
     pub(crate) telling: Telling,
+}
+
+/// The voters among servers.
+fn voters_among(servers: &[Server]) -> ServerSet {
+    let mut voters = ServerSet::new();
+    for server in servers {
+        if server.role == ServerRole::Voter {
+            voters = voters.with(server.id);
+        }
+    }
+    voters
 }
 
 impl<'n, 'd, 'e, D: Disk, E: Engine> Core for ServedNode<'n, 'd, 'e, D, E> {
@@ -65,6 +77,7 @@ impl<'n, 'd, 'e, D: Disk, E: Engine> Core for ServedNode<'n, 'd, 'e, D, E> {
             Ok(outs) => Ok(StepReport {
                 outs,
                 state: self.node.state(),
+                voters: voters_among(self.node.servers()),
                 shut: self.watch.shuts(&*self.node, piece),
             }),
             Err(fault) => Err(fault_of(fault)),

@@ -7,7 +7,7 @@ ghost use Rattle.serve_node.specs.declared.fault.CrewFault.TheVariants as crew;
 ghost use Rattle.serve_node.specs.Crew.{Hires};
 
 use crate::fault::CrewFault;
-use crate::greeting::greeting;
+use crate::greeting::peer_greeting;
 use crate::reader::QueryReader;
 use crate::voters::copied;
 use arguments::{Peer, Serve};
@@ -18,10 +18,26 @@ use serve_threads::{
 };
 use session_gateway::{Read, ReadJob};
 use sql_engine::Engine;
-use std::alloc::Global;
+use std::alloc::{AllocError, Global};
+use wire_words::WireBytes;
 
 /// How many readers answer queries concurrently with the node.
 const READERS: u64 = 4;
+
+/// The bytes with which a connection to the peer of this id begins.
+fn first_bytes<H: Host<Read>>(
+    alloc: Global,
+    host: &H,
+    words: &Serve,
+    peer: u64,
+) -> Result<WireBytes, AllocError>
+    requires { HasNoNul words.now.listen }
+{
+    match host.greeting(peer)? {
+        Some(bytes) => Ok(bytes),
+        None => peer_greeting(alloc, words.id, &words.listen),
+    }
+}
 
 /// Has a worker send to a peer, and answers its queue.
 #[tactic(auto, using(crate::proofs::Hiring::no_host))]
@@ -40,13 +56,14 @@ fn reach<E: Engine + Send + Drop + 'static, H: Host<Read>>(
 {
     let rt = host.rt();
     let queue = PeerQueue::new(alloc)?;
+    let greeting = first_bytes(alloc, host, words, peer.id)?;
     let dialer = host.dialer()?;
     let worker: Worker<H::Rt, H::Dialer, QueryReader<E>> = Worker::Peer(PeerWorker {
         alloc,
         rt,
         dialer,
         address: copied(alloc, &peer.address)?,
-        greeting: greeting(alloc, words.id, &words.listen)?,
+        greeting,
         queue: queue.again()?,
     });
     beside(host, worker)?;
@@ -166,7 +183,7 @@ pub(crate) fn crew<E: Engine + Send + Drop + 'static, H: Host<Read>>(
     ensures cause { IfErr result (λ f. f ≡ crew.Host → Rose (H.faults host.old) (H.faults host.new)) }
 {
     let rt = host.rt();
-    let heard = LeaderContact::new(alloc)?;
+    let heard = host.contact()?;
     let replies = host.replies()?;
     let peers = reach_all::<E, H>(alloc, host, words)?;
     tick::<E, H>(alloc, host, &heard)?;

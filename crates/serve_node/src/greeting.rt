@@ -14,7 +14,7 @@ use wire_words::{WireBytes, WireText};
 const VERSION_WORD: [u8; 8] = [1, 0, 0, 0, 0, 0, 0, 0];
 
 /// The word of the version, and CONNECT with the own id and address.
-pub(crate) fn greeting(alloc: Global, id: u64, address: &WireText) -> Result<WireBytes, AllocError>
+pub fn peer_greeting(alloc: Global, id: u64, address: &WireText) -> Result<WireBytes, AllocError>
     requires { HasNoNul address.now }
     ensures { IfOk result (λ bytes. bytes ≡ greeting_bytes id address.now) }
 {

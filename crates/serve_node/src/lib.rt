@@ -14,6 +14,7 @@ mod steps;
 mod voters;
 
 pub use end::ServeEnd;
+pub use greeting::peer_greeting;
 pub use notes::{Note, Notes};
 pub use reader::QueryReader;
 pub use serving::serve;

@@ -5,7 +5,7 @@ use node_core::{NodeState, StepOutputs};
 use raft_core::RaftRole;
 use serve_loop::StepReport;
 use serve_threads::{Queues, Replies};
-use serve_traits::Outbox;
+use serve_traits::{Outbox, ServerSet};
 use session_gateway::ReadJob;
 use std::sync::Wait;
 
@@ -68,6 +68,15 @@ impl<'a, R: Wait + Copy + Drop, L: Replies, W: Notes> Dispatcher<'a, R, L, W> {
         }
     }
 
+    /// Notes for the ticker and the host whether the node leads, and which voters.
+    fn note_contact(&self, state: &NodeState, voters: ServerSet) {
+        if state.role.leads() {
+            self.queues.heard.note_leads(self.id, voters);
+        } else {
+            self.queues.heard.note_follows(state.leader.is_some());
+        }
+    }
+
     /// Notes who leads, if that is new.
     fn note_leader(&mut self, state: &NodeState) {
         let Some(leader) = leader_of(state, self.id) else {
@@ -102,12 +111,18 @@ impl<'a, R: Wait + Copy + Drop, L: Replies, W: Notes> Outbox<StepReport>
     ghost said = { λ _. None };
 
     fn put(&mut self, said: StepReport) {
-        let StepReport { outs, state, shut } = said;
+        let StepReport {
+            outs,
+            state,
+            voters,
+            shut,
+        } = said;
         self.queues.note_step();
         self.hand_on(outs);
         if let Some(conn) = shut {
             self.queues.cut(conn);
         }
+        self.note_contact(&state, voters);
         self.note_leader(&state);
         self.note_end(state.last);
     }

@@ -7,14 +7,14 @@ use dq_base::Bytes;
 use std::alloc::{AllocError, Global};
 use std::marker::Model;
 
-/// How many bytes a socket has to say before it is a connection: the version, and the header of the first message.
+/// How many bytes a socket has to say at least before it is a connection: the version, and the header of the first message.
 pub(crate) const FRONT_SIZE: usize = 16;
 
 /// How many bytes the header of a message has.
 const HEADER_SIZE: usize = 8;
 
 /// The number of a CONNECT among the types of a client's messages.
-const CONNECT: u8 = 11;
+pub(crate) const CONNECT: u8 = 11;
 
 /// The bytes that were read and not handed on, from `at` on; and how many bytes of the message at their front are to come, 0 if a header
 /// is next.
@@ -36,7 +36,7 @@ impl Model for Inflow {
 }
 
 /// How many words a message has after this header.
-fn words_in(header: &[u8]) -> u64
+pub(crate) fn words_in(header: &[u8]) -> u64
     requires { 4 ≤ length header.now }
     ensures words { result ≡ words_in header.now }
     ensures bound { result < 4294967296 }
@@ -77,7 +77,7 @@ impl Inflow {
     }
 
     /// The bytes.
-    fn rest(&self) -> &[u8]
+    pub(crate) fn rest(&self) -> &[u8]
         ensures { result.now ≡ self.now.bytes }
     {
         &self.bytes[self.at..]
@@ -103,6 +103,11 @@ impl Inflow {
         self.at = 0;
         self.bytes.extend_from_slice(bytes)?;
         Ok(())
+    }
+
+    /// Whether the next bytes are the first ones of a message.
+    pub(crate) fn is_at_head(&self) -> bool {
+        self.left == 0
     }
 
     /// Whether bytes of a message can be handed on.
@@ -141,17 +146,33 @@ impl Inflow {
         self.left
     }
 
-    /// The first bytes are there, and the version comes with the first message. Says whether that is a CONNECT, so that a peer speaks.
-    pub(crate) fn begin(&mut self) -> bool
+    /// The first bytes are there, and the version comes with the first message.
+    pub(crate) fn begin(&mut self)
         requires { 16 ≤ length self.old.bytes }
         ensures bytes { self.new.bytes ≡ self.old.bytes }
         ensures left { self.new.left ≡ 16 + 8 * words_in (drop 8 self.old.bytes) }
-        ensures peer { result ≡ (slice_index self.old.bytes 12 == 11) }
     {
         let rest = self.rest();
-        let is_peer = rest[12] == CONNECT;
         let words = words_in(&rest[8..]);
         self.left = 16 + 8 * words;
-        is_peer
+    }
+
+    /// Whether bytes of the message whose front was taken are to come.
+    pub(crate) fn is_under_way(&self) -> bool {
+        self.left > 0
+    }
+
+    /// How many bytes the next message has, if its header is next.
+    pub(crate) fn next_message(&self) -> Option<u64> {
+        if self.left > 0 || !self.has_piece() {
+            return None;
+        }
+        Some(self.next_size())
+    }
+
+    /// Whether the next message is a CONNECT, as far as its header is there.
+    pub(crate) fn is_connect_next(&self) -> bool {
+        let rest = self.rest();
+        self.left == 0 && rest.len() >= HEADER_SIZE && rest[4] == CONNECT
     }
 }

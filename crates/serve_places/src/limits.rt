@@ -3,6 +3,9 @@
 /// How many connections there are at most, peers' included.
 pub const MAX_CONNECTIONS: usize = 72;
 
+/// How many of these clients have at most, so that 16 are left for peers, and 8 of a node's 64 sessions.
+pub const MAX_CLIENTS: usize = 56;
+
 /// How many sockets there are at most: the connections, and 256 that have not said their first bytes or wait for a place.
 pub const MAX_SOCKETS: usize = 328;
 
@@ -24,7 +27,17 @@ pub const MAX_COMMON_BYTES: u64 = 100_663_296;
 /// What a reply counts for in addition to its bytes.
 pub(crate) const REPLY_OVERHEAD: u64 = 256;
 
-/// How long a socket has for its first 16 bytes, in milliseconds.
+/// How many bytes the version and a CONNECT have at most. A node's own have 352 at most: an address of 255, two ids, and 64 digits.
+pub(crate) const MAX_GREETING_BYTES: u64 = 512;
+
+/// How many bytes a peer's message has at least to count as a large one: 1 MiB.
+pub(crate) const LARGE_BYTES: u64 = 1_048_576;
+
+/// How many bytes the large messages of all peers have together that are under way: 288 MiB, which is the greatest message that a peer may
+/// send, of 256 MiB, and some others.
+pub const MAX_UNDER_WAY_BYTES: u64 = 301_989_888;
+
+/// How long a socket has to say who speaks, in milliseconds: its first 16 bytes, and of a peer the whole CONNECT.
 pub(crate) const MAX_FRONT_MS: u64 = 5_000;
 
 /// How long a client may say nothing, in milliseconds.

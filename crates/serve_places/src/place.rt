@@ -3,12 +3,15 @@
 ghost use Rattle.std.specs.Prelude.{◌≡◌, ◌≤◌, [], true, None, length};
 ghost use Rattle.serve_places.specs.Pieces.{FillsWith, HandsFrontIfAny, TakesPiece};
 
-use crate::inflow::{FRONT_SIZE, Inflow};
+use crate::gate::{Gate, Speaker, has_front};
+use crate::inflow::Inflow;
 use crate::limits::{
-    MAX_CLIENT_SILENCE_MS, MAX_FRONT_MS, MAX_FRONT_READ_BYTES, MAX_PEER_SILENCE_MS, MAX_STUCK_MS,
+    LARGE_BYTES, MAX_CLIENT_SILENCE_MS, MAX_FRONT_MS, MAX_FRONT_READ_BYTES, MAX_PEER_SILENCE_MS,
+    MAX_STUCK_MS,
 };
 use crate::outflow::{CutCause, Flushed, Outflow};
 use crate::stream::{ReadOutcome, ReadyStream};
+use crate::transaction::TransactionState;
 use dq_base::Bytes;
 use std::alloc::Global;
 use wire_words::WireBytes;
@@ -25,7 +28,9 @@ pub(crate) struct Place<S: ReadyStream> {
     is_readable: bool,
     is_ended: bool,
     is_closing: bool,
-    is_peer: bool,
+    speaker: Speaker,
+    message: u64,
+    transaction: TransactionState,
     heard_at: u64,
     moved_at: u64,
 }
@@ -41,7 +46,9 @@ impl<S: ReadyStream> Place<S> {
             is_readable: false,
             is_ended: false,
             is_closing: false,
-            is_peer: false,
+            speaker: Speaker::Unknown,
+            message: 0,
+            transaction: TransactionState::Absent,
             heard_at: 0,
             moved_at: 0,
         }
@@ -53,7 +60,9 @@ impl<S: ReadyStream> Place<S> {
         self.is_readable = false;
         self.is_ended = false;
         self.is_closing = false;
-        self.is_peer = false;
+        self.speaker = Speaker::Unknown;
+        self.message = 0;
+        self.transaction = TransactionState::Absent;
         self.heard_at = now;
         self.moved_at = now;
     }
@@ -86,11 +95,11 @@ impl<S: ReadyStream> Place<S> {
         self.outflow.held()
     }
 
-    /// Whether it has said its first bytes, and so waits to be a connection.
+    /// Whether it has said who speaks, and so waits to be a connection.
     pub(crate) fn has_front(&self) -> bool
         ensures { result ≡ true → 16 ≤ length self.now.inflow.bytes }
     {
-        self.inflow.len() >= FRONT_SIZE
+        has_front(self.inflow.rest())
     }
 
     /// Whether something may come of a turn of it, as a connection or as none.
@@ -102,6 +111,24 @@ impl<S: ReadyStream> Place<S> {
             return self.is_readable && !self.has_front();
         }
         self.may_hand_on() && (self.is_readable || self.inflow.has_piece())
+    }
+
+    /// Whether the next bytes are the first ones of a message.
+    pub(crate) fn is_at_head(&self) -> bool {
+        self.inflow.is_at_head()
+    }
+
+    /// Notes a whole message of a client.
+    pub(crate) fn note_request(&mut self, message: &[u8]) {
+        self.transaction = self.transaction.after_message(message);
+    }
+
+    /// Whether a client with a transaction has said nothing for this time, in milliseconds, and nothing waits for it.
+    pub(crate) fn has_idle_transaction(&self, now: u64, most: u64) -> bool {
+        self.stream.is_some()
+            && self.transaction.is_open()
+            && self.outflow.is_empty()
+            && now.saturating_sub(self.heard_at) > most
     }
 
     /// Whether a message of the connection may be handed on: not while a reply waits, nor before it is closed.
@@ -121,7 +148,7 @@ impl<S: ReadyStream> Place<S> {
         if !self.outflow.is_empty() {
             return now.saturating_sub(self.moved_at) > MAX_STUCK_MS;
         }
-        let most = if self.is_peer {
+        let most = if self.is_peer() {
             MAX_PEER_SILENCE_MS
         } else {
             MAX_CLIENT_SILENCE_MS
@@ -164,23 +191,74 @@ impl<S: ReadyStream> Place<S> {
         self.fill(alloc, &mut buffer);
     }
 
-    /// It is a connection from now on.
-    pub(crate) fn meet(&mut self, now: u64)
+    /// Who speaks, as far as its first bytes say.
+    pub(crate) fn speaker_by(&self, gate: &Gate) -> Speaker {
+        gate.speaker(self.inflow.rest())
+    }
+
+    /// It is a connection of this speaker from now on.
+    pub(crate) fn meet(&mut self, speaker: Speaker, now: u64)
         requires { 16 ≤ length self.old.inflow.bytes }
     {
-        self.is_peer = self.inflow.begin();
+        self.inflow.begin();
+        self.speaker = speaker;
         self.heard_at = now;
     }
 
-    /// The next bytes of its messages, of one message at most. It reads if it has no bytes yet. None if no bytes came, or the stream
-    /// has ended.
+    /// Whether it is a connection of this speaker that is not closed.
+    pub(crate) fn is_of(&self, speaker: Speaker) -> bool {
+        self.stream.is_some() && self.speaker == speaker
+    }
+
+    /// Whether a peer speaks.
+    pub(crate) fn is_peer(&self) -> bool {
+        matches!(self.speaker, Speaker::Peer(_))
+    }
+
+    /// How many bytes the message has that is under way, if it is a large one of a peer.
+    pub(crate) fn large_bytes(&self) -> u64 {
+        if self.stream.is_some() && self.is_peer() && self.inflow.is_under_way() {
+            return self.message;
+        }
+        0
+    }
+
+    /// Whether the next message is a CONNECT of one who spoke as a client before. A CONNECT comes first or not at all.
+    fn is_late_greeting(&self) -> bool {
+        self.speaker == Speaker::Client && self.inflow.is_connect_next()
+    }
+
+    /// Whether the next message is a peer's, and a large one of more bytes than these.
+    fn is_too_large(&self, room: u64) -> bool {
+        let size = self.inflow.next_message().unwrap_or(0);
+        self.is_peer() && size >= LARGE_BYTES && size > room
+    }
+
+    /// The front of the next message is taken: notes how large it is, if it is a large one.
+    fn note_message(&mut self)
+        ensures stream { self.new.stream ≡ self.old.stream }
+        ensures inflow { self.new.inflow ≡ self.old.inflow }
+    {
+        if let Some(size) = self.inflow.next_message() {
+            self.message = if size >= LARGE_BYTES { size } else { 0 };
+        }
+    }
+
+    /// The next bytes of its messages, of one message at most, and of a peer's large message only if it fits in the room. It reads if it has
+    /// no bytes yet. None if no bytes came, or the stream has ended.
     #[tactic(auto, using(crate::proofs::Reading::hands))]
-    pub(crate) fn next_piece(&mut self, alloc: Global, buffer: &mut [u8], now: u64) -> Option<Bytes>
+    pub(crate) fn next_piece(
+        &mut self,
+        alloc: Global,
+        buffer: &mut [u8],
+        room: u64,
+        now: u64,
+    ) -> Option<Bytes>
         ensures front { HandsFrontIfAny S.left self.old.stream self.new.stream self.old.inflow.bytes self.new.inflow.bytes result }
         ensures buffer { length buffer.new ≡ length buffer.old }
     {
         self.refill(alloc, buffer, now);
-        self.take_piece(alloc)
+        self.take_piece(alloc, room)
     }
 
     /// Reads what is there if no bytes of a message can be handed on.
@@ -199,13 +277,19 @@ impl<S: ReadyStream> Place<S> {
         }
     }
 
-    /// Takes the next piece of what is held. The stream is ended if memory runs out.
-    fn take_piece(&mut self, alloc: Global) -> Option<Bytes>
+    /// Takes the next piece of what is held. The stream is ended if memory runs out, if a client says CONNECT, and if there is no room for a
+    /// peer's message.
+    fn take_piece(&mut self, alloc: Global, room: u64) -> Option<Bytes>
         ensures { TakesPiece self.old.stream self.new.stream self.old.inflow self.new.inflow result }
     {
         if !self.inflow.has_piece() {
             return None;
         }
+        if self.is_late_greeting() || self.is_too_large(room) {
+            self.end(alloc);
+            return None;
+        }
+        self.note_message();
         match self.inflow.take_piece(alloc) {
             Ok(piece) => Some(piece),
             Err(_) => {
@@ -220,6 +304,7 @@ impl<S: ReadyStream> Place<S> {
         if self.outflow.is_empty() {
             self.moved_at = now;
         }
+        self.transaction = self.transaction.after_reply(reply.as_slice());
         self.outflow.add(reply)?;
         self.flush(now)
     }

@@ -3,10 +3,13 @@
 ghost use Rattle.std.specs.Prelude.{◌≡◌, ◌≢◌, get_or, IfOk};
 ghost use Rattle.serve_places.specs.Numbers.{AreFresh, ChangesNumbersIfAny};
 
-use crate::limits::{MAX_READ_BYTES, MAX_SOCKETS};
+use crate::gate::{Gate, Speaker};
+use crate::limits::{MAX_CLIENTS, MAX_READ_BYTES, MAX_SOCKETS, MAX_UNDER_WAY_BYTES};
 use crate::numbering::Numbering;
 use crate::outflow::CutCause;
+use crate::peer_sign::{PeerSign, sign_of};
 use crate::place::Place;
+use crate::refused::Refused;
 use crate::rooms::Rooms;
 use crate::stream::ReadyStream;
 use serve_traits::Event;
@@ -27,8 +30,10 @@ pub struct Readiness {
 
 /// All sockets of a server, with the connections among them, and which of these have a turn.
 ///
-/// A socket is a connection once its first 16 bytes are there and fewer than 72 others are: it gets the next number then, from 1 on. Of a
-/// connection one message is handed on a turn, and none while a reply to it waits to be written. What waits counts for its bytes and 256
+/// A socket is a connection once it has said who speaks and fewer than 72 others are: it gets the next number then, from 1 on. It has said
+/// so with its first 16 bytes, or, if these begin a CONNECT, with the whole of it. A client is closed if 56 others are there; a peer is taken
+/// by the gate, and closes the connection that its node had. Of a connection one message is handed on a turn, and none while a reply to it
+/// waits to be written. What waits counts for its bytes and 256
 /// for each reply: 32 MiB for one connection at most, and 96 MiB for all, of which the first 1 MiB of each does not count. A connection
 /// without room is closed.
 #[derive(Drop)]
@@ -36,9 +41,16 @@ pub struct Places<S: ReadyStream> {
     alloc: Global,
     places: Vec<Place<S>>,
     numbers: Numbering,
+    gate: Gate,
+    refused: Refused,
     rooms: Rooms,
     ready: VecDeque<usize>,
     last: usize,
+    sign: Option<PeerSign>,
+    /// For how long a client with a transaction may say nothing, in milliseconds; 0 for any time.
+    idle_ms: u64,
+    idle_count: u64,
+    are_clients_held: bool,
     now: u64,
     buffer: Vec<u8>,
 }
@@ -56,12 +68,34 @@ impl<S: ReadyStream> Places<S> {
             alloc,
             places,
             numbers: Numbering::new(alloc)?,
+            gate: Gate::open(alloc),
+            refused: Refused::new(),
             rooms: Rooms::new(alloc)?,
             ready: VecDeque::with_capacity(alloc, MAX_SOCKETS)?,
             last: 0,
+            sign: None,
+            idle_ms: 0,
+            idle_count: 0,
+            are_clients_held: false,
             now: 0,
             buffer: vec![in alloc; 0u8; MAX_READ_BYTES]?,
         })
+    }
+
+    /// From now on only these CONNECTs are taken, each with the version before it.
+    pub fn guard(&mut self, greetings: Vec<WireBytes>)
+        ensures numbers { self.new.numbers ≡ self.old.numbers }
+    {
+        self.gate = Gate::guarded(greetings);
+    }
+
+    /// How many connections were not taken since this was asked last.
+    pub fn take_refused(&mut self) -> Refused
+        ensures numbers { self.new.numbers ≡ self.old.numbers }
+    {
+        let refused = self.refused;
+        self.refused = Refused::new();
+        refused
     }
 
     /// A socket that is free.
@@ -93,7 +127,12 @@ impl<S: ReadyStream> Places<S> {
     pub fn next<T>(&mut self) -> Option<Event<T>>
         ensures numbers { ChangesNumbersIfAny self.old.numbers self.new.numbers result }
     {
+        self.sign = None;
         let at = self.ready.pop_front()?;
+        if self.is_held(at) {
+            let _ = self.ready.push_back(at);
+            return None;
+        }
         if let Some(place) = self.places.get_mut(at) {
             place.is_queued = false;
         }
@@ -107,6 +146,7 @@ impl<S: ReadyStream> Places<S> {
         ensures numbers { ChangesNumbersIfAny self.old.numbers self.new.numbers result }
     {
         let number = self.numbers.at(at);
+        let room = self.message_room(at);
         let (alloc, now) = (self.alloc, self.now);
         let place = self.places.get_mut(at)?;
         self.last = at;
@@ -114,7 +154,10 @@ impl<S: ReadyStream> Places<S> {
             if !place.has_front() {
                 place.fill_front(alloc);
             }
-            return self.meet(at);
+            return match self.welcome(at) {
+                Some(speaker) => self.meet(at, speaker),
+                None => None,
+            };
         }
         if !place.has_stream() {
             return self.hang_up(at, number);
@@ -122,12 +165,145 @@ impl<S: ReadyStream> Places<S> {
         if !place.may_hand_on() {
             return None;
         }
-        let piece = place.next_piece(alloc, &mut self.buffer, now)?;
+        let is_at_head = place.is_at_head();
+        let piece = place.next_piece(alloc, &mut self.buffer, room, now)?;
+        if is_at_head && place.is_at_head() {
+            self.note_message(at, piece.as_slice());
+        }
         Some(Event::Bytes(number, piece))
     }
 
-    /// The socket is a connection from now on, if its first bytes are there and there are not too many others.
-    fn meet<T>(&mut self, at: usize) -> Option<Event<T>>
+    /// Notes a whole message of a connection.
+    fn note_message(&mut self, at: usize, message: &[u8])
+        ensures numbers { self.new.numbers ≡ self.old.numbers }
+    {
+        let Some(place) = self.places.get_mut(at) else {
+            return;
+        };
+        if place.is_peer() {
+            self.sign = sign_of(message);
+        } else {
+            place.note_request(message);
+        }
+    }
+
+    /// Has no client's messages handed on from here on, or has them handed on again.
+    pub fn hold_clients(&mut self, are_held: bool)
+        ensures numbers { self.new.numbers ≡ self.old.numbers }
+    {
+        self.are_clients_held = are_held;
+    }
+
+    /// Whether no client's messages are handed on.
+    pub fn holds_clients(&self) -> bool {
+        self.are_clients_held
+    }
+
+    /// Whether a socket is a client's whose messages are held.
+    fn is_held(&self, at: usize) -> bool {
+        if !self.are_clients_held {
+            return false;
+        }
+        match self.places.get(at) {
+            Some(place) => self.numbers.at(at) != 0 && place.has_stream() && !place.is_peer(),
+            None => false,
+        }
+    }
+
+    /// How many bytes a large message of the peer at a socket may have, beside those of other peers that are under way.
+    fn message_room(&self, at: usize) -> u64 {
+        match self.places.get(at) {
+            Some(place) if place.is_peer() => {
+                MAX_UNDER_WAY_BYTES.saturating_sub(self.large_bytes())
+            }
+            _ => MAX_UNDER_WAY_BYTES,
+        }
+    }
+
+    /// How many bytes the large messages of peers have that are under way.
+    fn large_bytes(&self) -> u64 {
+        let mut sum = 0u64;
+        for place in &self.places {
+            sum = sum.saturating_add(place.large_bytes());
+        }
+        sum
+    }
+
+    /// Who speaks on a socket. If it is refused as a connection, it is closed. A peer's older connection is closed.
+    fn welcome(&mut self, at: usize) -> Option<Speaker>
+        ensures numbers { self.new.numbers ≡ self.old.numbers }
+    {
+        let speaker = self.places.get(at)?.speaker_by(&self.gate);
+        match speaker {
+            Speaker::Unknown => None,
+            Speaker::Stranger => {
+                self.refused.count_stranger();
+                self.end(at);
+                None
+            }
+            Speaker::Client if self.client_count() >= MAX_CLIENTS => {
+                self.refused.count_client();
+                self.end(at);
+                None
+            }
+            Speaker::Client => Some(speaker),
+            Speaker::Peer(_) => {
+                self.end_all_of(speaker);
+                Some(speaker)
+            }
+        }
+    }
+
+    /// How many clients there are.
+    pub fn client_count(&self) -> usize {
+        self.places
+            .iter()
+            .filter(|place| place.is_of(Speaker::Client))
+            .count()
+    }
+
+    /// Closes all connections of a speaker.
+    fn end_all_of(&mut self, speaker: Speaker)
+        ensures numbers { self.new.numbers ≡ self.old.numbers }
+    {
+        for at in 0..self.places.len() {
+            if self.is_of(at, speaker) {
+                self.end(at);
+            }
+        }
+    }
+
+    /// Whether a socket is a connection of this speaker that is not closed.
+    fn is_of(&self, at: usize, speaker: Speaker) -> bool {
+        match self.places.get(at) {
+            Some(place) => place.is_of(speaker),
+            None => false,
+        }
+    }
+
+    /// Has a client's connection closed that has a transaction and says nothing for this time, in milliseconds; 0 for any time.
+    pub fn limit_idle_transactions(&mut self, most_ms: u64)
+        ensures numbers { self.new.numbers ≡ self.old.numbers }
+    {
+        self.idle_ms = most_ms;
+    }
+
+    /// How many connections were closed since the last call because of an idle transaction.
+    pub fn take_idle_count(&mut self) -> u64
+        ensures numbers { self.new.numbers ≡ self.old.numbers }
+    {
+        let count = self.idle_count;
+        self.idle_count = 0;
+        count
+    }
+
+    /// What the message of a peer says that the last call of `next` brought whole, if it matters to the time of the node.
+    pub fn peer_sign(&self) -> Option<PeerSign> {
+        self.sign
+    }
+
+    /// The socket is a connection of this speaker from now on, if there are not too many others.
+    fn meet<T>(&mut self, at: usize, speaker: Speaker) -> Option<Event<T>>
         ensures numbers { ChangesNumbersIfAny self.old.numbers self.new.numbers result }
     {
         let now = self.now;
@@ -136,7 +312,7 @@ impl<S: ReadyStream> Places<S> {
             return None;
         }
         let number = self.numbers.give(at)?;
-        place.meet(now);
+        place.meet(speaker, now);
         Some(Event::Connect(number))
     }
 
@@ -319,9 +495,23 @@ impl<S: ReadyStream> Places<S> {
     {
         self.now = now;
         for at in 0..self.places.len() {
-            if self.is_late(at) {
+            if self.has_idle_transaction(at) {
+                self.idle_count = self.idle_count.saturating_add(1);
+                self.end(at);
+            } else if self.is_late(at) {
                 self.end(at);
             }
+        }
+    }
+
+    /// Whether a client with a transaction has said nothing for too long.
+    fn has_idle_transaction(&self, at: usize) -> bool {
+        if self.idle_ms == 0 {
+            return false;
+        }
+        match self.places.get(at) {
+            Some(place) => place.has_idle_transaction(self.now, self.idle_ms),
+            None => false,
         }
     }
 

@@ -5,12 +5,13 @@ ghost use Rattle.std.specs.Prelude.{◌≡◌, Some};
 use crate::mem_dialer::MemPeerDialer;
 use crate::mem_host::MemHost;
 use dq_base::Failed;
-use serve_threads::{ChannelPost, Host, NoReplies};
+use serve_threads::{ChannelPost, Host, LeaderContact, NoReplies};
 use serve_traits::{Event, Inbox, MemInbox};
 use std::alloc::{AllocError, Global};
 use std::sync::Wait;
 use std::thread::Threads;
 use std::time::Clock;
+use wire_words::WireBytes;
 
 /// A host over memory whose events are those of a list: a take fails if none is left. It reports them. No connection comes if it
 /// listens, replies and messages to peers get lost, and what is posted at its ends is never taken.
@@ -63,12 +64,20 @@ impl<R: Threads + Wait + Clock + Copy + Drop + Send + 'static, T: Drop> Host<T> 
         Ok(NoReplies)
     }
 
+    fn contact(&self) -> Result<LeaderContact, AllocError> {
+        self.host.contact.again()
+    }
+
     fn post(&self) -> Result<ChannelPost<R, T>, AllocError> {
         self.host.post.again()
     }
 
     fn listen(&mut self, _address: &str) -> Result<(), Failed> {
         self.host.listen_once()
+    }
+
+    fn greeting(&self, _peer: u64) -> Result<Option<WireBytes>, AllocError> {
+        Ok(None)
     }
 
     fn dialer(&mut self) -> Result<MemPeerDialer, Failed> {

@@ -6,12 +6,15 @@ ghost use Rattle.serve_threads.specs.Counts.{Does, one_listen, one_worker};
 
 use crate::mem_dialer::MemPeerDialer;
 use dq_base::{Calls, Failed};
-use serve_threads::{ChannelInbox, ChannelPost, Host, HostCounts, NoReplies, event_channel};
+use serve_threads::{
+    ChannelInbox, ChannelPost, Host, HostCounts, LeaderContact, NoReplies, event_channel,
+};
 use serve_traits::{Event, Inbox};
 use std::alloc::{AllocError, Global};
 use std::sync::Wait;
 use std::thread::Threads;
 use std::time::Clock;
+use wire_words::WireBytes;
 
 /// A host over memory, whose workers run in threads of the runtime. Some of its calls may be made to fail.
 ///
@@ -22,6 +25,7 @@ pub struct MemHost<R: Wait + Copy + Drop, T: Drop> {
     pub(crate) rt: R,
     inbox: ChannelInbox<R, T>,
     pub(crate) post: ChannelPost<R, T>,
+    pub(crate) contact: LeaderContact,
     asked: u64,
     pub(crate) done: HostCounts,
     pub(crate) calls: Calls,
@@ -35,6 +39,7 @@ impl<R: Wait + Copy + Drop, T: Drop> MemHost<R, T> {
             rt,
             inbox,
             post,
+            contact: LeaderContact::new(alloc)?,
             asked: 0,
             done: HostCounts::new(),
             calls: Calls::new(fails),
@@ -140,12 +145,20 @@ impl<R: Threads + Wait + Clock + Copy + Drop + Send + 'static, T: Drop> Host<T> 
         Ok(NoReplies)
     }
 
+    fn contact(&self) -> Result<LeaderContact, AllocError> {
+        self.contact.again()
+    }
+
     fn post(&self) -> Result<ChannelPost<R, T>, AllocError> {
         self.post.again()
     }
 
     fn listen(&mut self, _address: &str) -> Result<(), Failed> {
         self.listen_once()
+    }
+
+    fn greeting(&self, _peer: u64) -> Result<Option<WireBytes>, AllocError> {
+        Ok(None)
     }
 
     fn dialer(&mut self) -> Result<MemPeerDialer, Failed> {

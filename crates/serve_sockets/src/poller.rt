@@ -18,6 +18,9 @@ const WAKER: Token = Token(1_000_001);
 /// How many reports the system gives at a time.
 const MAX_REPORTS: usize = 128;
 
+/// How long the system is asked for a report at most if the messages of clients wait, in milliseconds.
+const HELD_MS: u64 = 2;
+
 /// How many connections are accepted at a time.
 const MAX_ACCEPTS: usize = 64;
 
@@ -86,10 +89,12 @@ impl Poller {
     /// Accepts what has come, and notes what the system reports; it waits for a report if no socket has a turn.
     pub(crate) fn look(&mut self, places: &mut Places<ReadySocket>) {
         self.accept(places);
-        let time = if places.ready_count() > 0 {
-            Some(Duration::from_millis(0))
-        } else {
+        let time = if places.ready_count() == 0 {
             None
+        } else if places.holds_clients() {
+            Some(Duration::from_millis(HELD_MS))
+        } else {
+            Some(Duration::from_millis(0))
         };
         if self.poll.poll(&mut self.events, time).is_err() {
             return;

@@ -5,11 +5,14 @@ ghost use Rattle.serve_threads.specs.Counts.{IsCounted};
 
 use crate::poller::Poller;
 use crate::ready_socket::ReadySocket;
+use crate::refusal_lines::RefusalLines;
 use crate::tcp_peer::TcpPeerDialer;
 use crate::tcp_replies::TcpReplies;
 use dq_base::Failed;
-use serve_places::Places;
-use serve_threads::{ChannelInbox, ChannelPost, Host, HostCounts, event_channel};
+use serve_places::{PeerSign, Places};
+use serve_threads::{
+    ChannelInbox, ChannelPost, Host, HostCounts, LeaderContact, LineQueue, event_channel,
+};
 use serve_traits::{Event, Inbox};
 use std::alloc::{AllocError, Global};
 use std::io;
@@ -17,6 +20,7 @@ use std::net::TcpListener;
 use std::sync::{Arc, Mutex, Wait};
 use std::thread::Threads;
 use std::time::Clock;
+use wire_words::WireBytes;
 
 /// Milliseconds since a moment that doesn't change; 0 if no clock can be read.
 fn moment_of(rt: &HostRuntime) -> u64 {
@@ -29,9 +33,17 @@ fn moment_of(rt: &HostRuntime) -> u64 {
     }
 }
 
-/// The wait for a listener at this address.
-fn listen_at(sockets: &HostRuntime, address: &str) -> io::Result<Poller> {
-    Poller::new(sockets, TcpListener::bind(sockets, address)?)
+/// The wait for a listener at this address, or for one that was bound before.
+fn listen_at(
+    sockets: &HostRuntime,
+    address: &str,
+    bound: Option<io::Result<TcpListener>>,
+) -> io::Result<Poller> {
+    let listener = match bound {
+        Some(bound) => bound?,
+        None => TcpListener::bind(sockets, address)?,
+    };
+    Poller::new(sockets, listener)
 }
 
 /// A call of a host that failed.
@@ -47,14 +59,21 @@ pub struct HostFault {
 ///
 /// The thread that takes its events reads and writes all connections that come. It takes what other threads post first, then what happens at
 /// the sockets that are ready, one after the other; it asks the system again once each of them had its turn, and waits there if none is.
+///
+/// It notes which peers acknowledge. An AskVote is lost if the node hears a leader, except one whose sender was handed the leadership.
 #[derive(Drop)]
 pub struct TcpHost<R: Wait + Copy + Drop, T: Drop> {
     rt: R,
     sockets: HostRuntime,
     inbox: ChannelInbox<R, T>,
     post: ChannelPost<R, T>,
+    contact: LeaderContact,
+    lines: LineQueue,
     places: Arc<Mutex<Places<ReadySocket>>, Global>,
+    bound: Option<io::Result<TcpListener>>,
     poller: Option<Poller>,
+    greetings: Vec<(u64, WireBytes)>,
+    refusals: RefusalLines,
     turns: usize,
     taken: u64,
     done: HostCounts,
@@ -66,19 +85,50 @@ impl<R: Wait + Copy + Drop, T: Drop> TcpHost<R, T> {
     /// A host that did nothing yet. The runtime is passed twice, once for threads and once for sockets.
     pub fn new(rt: R, sockets: HostRuntime, alloc: Global) -> Result<TcpHost<R, T>, AllocError> {
         let (inbox, post) = event_channel(rt, alloc)?;
+        let lines = LineQueue::new(alloc)?;
+        let refusals = RefusalLines::new(sockets, lines.again()?);
         Ok(TcpHost {
             rt,
             sockets,
             inbox,
             post,
+            contact: LeaderContact::new(alloc)?,
+            lines,
             places: Arc::new(alloc, Mutex::new(Places::new(alloc)?))?,
+            bound: None,
             poller: None,
+            greetings: Vec::new(alloc),
+            refusals,
             turns: 0,
             taken: 0,
             done: HostCounts::new(),
             faults: 0,
             last_fault: None,
         })
+    }
+
+    /// An end of the lines that the host has for the error stream.
+    pub fn lines(&self) -> Result<LineQueue, AllocError> {
+        self.lines.again()
+    }
+
+    /// The bytes with which a connection to the peer of each id begins, in place of the version and a CONNECT with the node's address; and
+    /// those with which a connection of a peer may begin. One that begins with another CONNECT is closed.
+    pub fn guard(&mut self, greetings: Vec<(u64, WireBytes)>, taken: Vec<WireBytes>) {
+        self.greetings = greetings;
+        self.places.lock(&self.rt).guard(taken);
+    }
+
+    /// Binds an address before the host listens there, and says whether that was possible. Connections that come wait. The next `listen`,
+    /// which has to be at the same address, takes over what was bound, or fails as the binding did.
+    pub fn bind(&mut self, address: &str) -> bool
+        ensures taken { self.new.taken ≡ self.old.taken }
+        ensures faults { self.new.faults ≡ self.old.faults }
+    {
+        let bound = TcpListener::bind(&self.sockets, address);
+        let is_bound = bound.is_ok();
+        self.bound = Some(bound);
+        is_bound
     }
 
     /// The call that failed last, if one did.
@@ -103,7 +153,8 @@ impl<R: Wait + Copy + Drop, T: Drop> TcpHost<R, T> {
         unreachable!()
     }
 
-    /// The next event that another thread posted, if there is one. With each heartbeat the sockets whose time is over are closed.
+    /// The next event that another thread posted, if there is one. With each heartbeat the sockets whose time is over are closed, and it is
+    /// said what was refused.
     fn posted(&mut self) -> Option<Event<T>>
         ensures taken { self.new.taken ≡ self.old.taken }
         ensures faults { self.new.faults ≡ self.old.faults }
@@ -119,9 +170,14 @@ impl<R: Wait + Copy + Drop, T: Drop> TcpHost<R, T> {
             poller.settle();
         }
         if matches!(event, Some(Event::Beat)) {
+            let now = moment_of(&self.sockets);
             let mut places = self.places.lock(&self.rt);
-            places.tick(moment_of(&self.sockets));
+            places.tick(now);
+            self.refusals.say_idle(places.take_idle_count());
             poller.accept(&mut places);
+            if self.refusals.may_say(now) {
+                self.refusals.say(places.take_refused(), now);
+            }
         }
         event
     }
@@ -133,6 +189,7 @@ impl<R: Wait + Copy + Drop, T: Drop> TcpHost<R, T> {
     {
         let poller = self.poller.as_mut()?;
         let mut places = self.places.lock(&self.rt);
+        places.hold_clients(self.contact.holds_clients());
         if self.turns == 0 {
             poller.look(&mut places);
             self.turns = places.ready_count();
@@ -144,7 +201,32 @@ impl<R: Wait + Copy + Drop, T: Drop> TcpHost<R, T> {
             return None;
         }
         self.turns -= 1;
-        places.next()
+        let event = places.next();
+        let sign = places.peer_sign();
+        drop(places);
+        if self.is_lost(sign) {
+            return None;
+        }
+        event
+    }
+
+    /// Has the connection of a client closed that has a transaction and says nothing for this time, in seconds; 0 for any time.
+    pub fn limit_idle_transactions(&mut self, seconds: u64) {
+        self.places
+            .lock(&self.rt)
+            .limit_idle_transactions(seconds.saturating_mul(1_000));
+    }
+
+    /// Notes what a message of a peer says, and says whether the message is lost.
+    fn is_lost(&self, sign: Option<PeerSign>) -> bool {
+        match sign {
+            Some(PeerSign::Ack(from)) => {
+                self.contact.note_ack(from);
+                false
+            }
+            Some(PeerSign::AskVote) => self.contact.is_settled(),
+            None => false,
+        }
     }
 
     /// Counts a call that failed, and keeps it.
@@ -203,11 +285,15 @@ impl<R: Threads + Wait + Clock + Copy + Drop + Send + 'static, T: Drop> Host<T> 
         })
     }
 
+    fn contact(&self) -> Result<LeaderContact, AllocError> {
+        self.contact.again()
+    }
+
     fn listen(&mut self, address: &str) -> Result<(), Failed> {
         let Some(listens) = self.done.listens.checked_add(1) else {
             return Err(self.fail("listen", None));
         };
-        match listen_at(&self.sockets, address) {
+        match listen_at(&self.sockets, address, self.bound.take()) {
             Ok(poller) => {
                 self.places.lock(&self.rt).tick(moment_of(&self.sockets));
                 self.poller = Some(poller);
@@ -218,8 +304,20 @@ impl<R: Threads + Wait + Clock + Copy + Drop + Send + 'static, T: Drop> Host<T> 
         }
     }
 
+    fn greeting(&self, peer: u64) -> Result<Option<WireBytes>, AllocError> {
+        for (id, greeting) in &self.greetings {
+            if *id == peer {
+                return Ok(Some(greeting.try_clone(self.sockets.alloc())?));
+            }
+        }
+        Ok(None)
+    }
+
     fn dialer(&mut self) -> Result<TcpPeerDialer, Failed> {
-        Ok(TcpPeerDialer::new(self.sockets))
+        let Ok(lines) = self.lines.again() else {
+            return Err(self.fail("start a thread", None));
+        };
+        Ok(TcpPeerDialer::new(self.sockets, lines))
     }
 
     fn moment(&mut self) -> u64 {

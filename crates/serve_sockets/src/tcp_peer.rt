@@ -6,7 +6,9 @@ ghost use Rattle.serve_threads.specs.Counts.{IsCounted};
 use crate::stream;
 use crate::stream::{is_at_end, write_on};
 use dq_base::Failed;
+use serve_threads::LineQueue;
 use serve_traits::{PeerConnection, PeerDialer};
+use std::alloc::AllocError;
 use std::io;
 use std::net::TcpStream;
 use std::time::Duration;
@@ -29,19 +31,28 @@ pub struct TcpPeerConnection {
 #[derive(Drop)]
 struct Announced {
     rt: HostRuntime,
+    lines: LineQueue,
     address: String,
 }
 
 impl Announced {
-    /// Says that the connection is up. A line that can't be written is left out.
-    fn up(rt: HostRuntime, address: String) -> Announced {
-        let _ = eprintln!(rt; "link to {address} up");
-        Announced { rt, address }
+    /// Says that a connection to this address is up.
+    fn up(rt: HostRuntime, lines: &LineQueue, address: &str) -> Result<Announced, AllocError> {
+        let announced = Announced {
+            rt,
+            lines: lines.again()?,
+            address: String::from_str(rt.alloc(), address)?,
+        };
+        announced.say("up");
+        Ok(announced)
     }
 
-    /// Says that the connection is down.
-    fn down(&self) {
-        let _ = eprintln!(self.rt; "link to {} down", self.address);
+    /// Says that the connection is up or down. If memory runs out the line is left out.
+    fn say(&self, state: &str) {
+        let address = self.address.as_str();
+        if let Ok(line) = format!(in self.rt.alloc(); "link to {address} {state}") {
+            self.lines.put(line);
+        }
     }
 }
 
@@ -55,15 +66,16 @@ fn open(rt: &HostRuntime, address: &str) -> io::Result<TcpStream> {
 
 impl TcpPeerConnection {
     /// A connection that was dialed, which the error stream says is up. If memory runs out, it says nothing of it.
-    fn new(rt: HostRuntime, address: &str, stream: TcpStream) -> TcpPeerConnection {
-        let announced = match String::from_str(rt.alloc(), address) {
-            Ok(address) => Some(Announced::up(rt, address)),
-            Err(_) => None,
-        };
+    fn new(
+        rt: HostRuntime,
+        lines: &LineQueue,
+        address: &str,
+        stream: TcpStream,
+    ) -> TcpPeerConnection {
         TcpPeerConnection {
             stream,
             faults: 0,
-            announced,
+            announced: Announced::up(rt, lines, address).ok(),
         }
     }
 
@@ -72,7 +84,7 @@ impl TcpPeerConnection {
         ensures { self.new.faults ≡ self.old.faults }
     {
         if let Some(announced) = self.announced.take() {
-            announced.down();
+            announced.say("down");
         }
     }
 
@@ -113,13 +125,18 @@ impl PeerConnection for TcpPeerConnection {
 #[derive(Drop)]
 pub struct TcpPeerDialer {
     rt: HostRuntime,
+    lines: LineQueue,
     faults: u64,
 }
 
 impl TcpPeerDialer {
-    /// A dialer that did nothing yet.
-    pub(crate) fn new(rt: HostRuntime) -> TcpPeerDialer {
-        TcpPeerDialer { rt, faults: 0 }
+    /// A dialer that did nothing yet. The lines of its connections go to this queue.
+    pub(crate) fn new(rt: HostRuntime, lines: LineQueue) -> TcpPeerDialer {
+        TcpPeerDialer {
+            rt,
+            lines,
+            faults: 0,
+        }
     }
 
     /// Counts a call that failed.
@@ -138,7 +155,7 @@ impl PeerDialer for TcpPeerDialer {
 
     fn dial(&mut self, address: &str) -> Result<TcpPeerConnection, Failed> {
         match open(&self.rt, address) {
-            Ok(stream) => Ok(TcpPeerConnection::new(self.rt, address, stream)),
+            Ok(stream) => Ok(TcpPeerConnection::new(self.rt, &self.lines, address, stream)),
             Err(_) => Err(self.fail()),
         }
     }

@@ -11,3 +11,12 @@ is_heard (Append prev commit entries) = false
 is_heard (Ack good index) = true
 is_heard (Install snapshot) = false
 is_heard TimeoutNow = false
+
+-- whether it answers a leader
+abbrev pub answers_leader : MessageBody → Bool
+answers_leader (AskVote last transfer) = false
+answers_leader (Vote granted) = false
+answers_leader (Append prev commit entries) = false
+answers_leader (Ack good index) = true
+answers_leader (Install snapshot) = false
+answers_leader TimeoutNow = false

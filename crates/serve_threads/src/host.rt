@@ -1,6 +1,7 @@
 //! What a node is served by.
 
 use crate::channel::ChannelPost;
+use crate::leader_contact::LeaderContact;
 use crate::replies::Replies;
 use dq_base::Failed;
 use serve_traits::{Inbox, PeerDialer};
@@ -8,6 +9,7 @@ use std::alloc::AllocError;
 use std::sync::Wait;
 use std::thread::Threads;
 use std::time::Clock;
+use wire_words::WireBytes;
 
 /// A host listens for a node, gives it what dials its peers and brings it its events, and counts the threads that work concurrently with it.
 ///
@@ -41,12 +43,20 @@ pub trait Host<T: Drop>: Inbox<T> {
     /// An end at which replies go out.
     fn replies(&self) -> Result<Self::Replies, AllocError>;
 
+    /// An end of what the threads of the node know of its leadership. The host notes there which peers acknowledge, and may look there
+    /// whether the node hears a leader.
+    fn contact(&self) -> Result<LeaderContact, AllocError>;
+
     /// Listens at an address, as `localhost:9001`. What comes there are events from then on.
     fn listen(&mut self, address: &str) -> Result<(), Failed>
         ensures done { Does (done self.old) (one_listen (done self.old)) (done self.new) result }
         ensures events { Self.taken self.new ≡ Self.taken self.old }
         ensures left { Self.left self.new ≡ Self.left self.old }
         ensures cause { HasCause (Self.faults self.old) (Self.faults self.new) result };
+
+    /// The bytes with which a connection to the peer of this id begins, if they are others than the version and a CONNECT with the node's
+    /// address.
+    fn greeting(&self, peer: u64) -> Result<Option<WireBytes>, AllocError>;
 
     /// What dials peers, for another thread.
     fn dialer(&mut self) -> Result<Self::Dialer, Failed>

@@ -10,6 +10,7 @@ mod mem_post;
 mod outbox;
 mod peer_connection;
 mod post;
+mod server_set;
 mod stepping;
 
 pub use event::Event;
@@ -20,4 +21,5 @@ pub use mem_post::MemPost;
 pub use outbox::Outbox;
 pub use peer_connection::{PeerConnection, PeerDialer};
 pub use post::Post;
+pub use server_set::ServerSet;
 pub use stepping::{Core, StepFault};

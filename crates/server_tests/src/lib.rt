@@ -19,7 +19,11 @@ mod places;
 #[cfg(test)]
 mod script;
 #[cfg(test)]
+mod secrets;
+#[cfg(test)]
 mod served;
+#[cfg(test)]
+mod signs;
 #[cfg(test)]
 mod taps;
 #[cfg(test)]

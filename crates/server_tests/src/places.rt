@@ -2,10 +2,11 @@
 
 use crate::script::Script;
 use dq_base::Items;
-use serve_places::{CutCause, MAX_CONNECTIONS, Places, Readiness};
+use serve_places::{CutCause, MAX_CLIENTS, Places, Readiness};
 use serve_traits::Event;
-use std::alloc::Global;
+use std::alloc::{AllocError, Global};
 use std::test::*;
+use wire_words::WireBytes;
 
 /// The version, a message of one word, and one of two.
 const SAID: &[u8; 48] =
@@ -14,16 +15,36 @@ const SAID: &[u8; 48] =
 /// 1 MiB.
 const MEBIBYTE: usize = 1_048_576;
 
-/// The version, and the header of a CONNECT.
-const GREETING: &[u8; 16] = b"\x01\0\0\0\0\0\0\0\x02\0\0\0\x0b\0\0\0";
+/// The version, and a CONNECT of node 2; one of node 3; another one of node 2; one of node 10; one whose message has 63 words; CONNECTs of nodes
+/// 2 and 3 with the header of a message of 200 MiB; and a message of one word with a CONNECT after it.
+const SECOND: &[u8] = b"\x01\0\0\0\0\0\0\0\x02\0\0\0\x0b\0\0\0\x02\0\0\0\0\0\0\0here:2\0\0";
+
+const THIRD: &[u8] = b"\x01\0\0\0\0\0\0\0\x02\0\0\0\x0b\0\0\0\x03\0\0\0\0\0\0\0here:3\0\0";
+
+const WRONG: &[u8] = b"\x01\0\0\0\0\0\0\0\x02\0\0\0\x0b\0\0\0\x02\0\0\0\0\0\0\0here:9\0\0";
+
+const TENTH: &[u8] = b"\x01\0\0\0\0\0\0\0\x02\0\0\0\x0b\0\0\0\x0a\0\0\0\0\0\0\0here:2\0\0";
+
+const LONG: &[u8] = b"\x01\0\0\0\0\0\0\0\x3f\0\0\0\x0b\0\0\0\x02\0\0\0\0\0\0\0";
+
+const SECOND_LARGE: &[u8] =
+    b"\x01\0\0\0\0\0\0\0\x02\0\0\0\x0b\0\0\0\x02\0\0\0\0\0\0\0here:2\0\0\0\0\x90\x01\x05\x01\0\0";
+
+const THIRD_LARGE: &[u8] =
+    b"\x01\0\0\0\0\0\0\0\x02\0\0\0\x0b\0\0\0\x03\0\0\0\0\0\0\0here:3\0\0\0\0\x90\x01\x05\x01\0\0";
+
+const LATE: &[u8] =
+    b"\x01\0\0\0\0\0\0\0\x01\0\0\0\x03\0\0\0one word\x02\0\0\0\x0b\0\0\0\x02\0\0\0\0\0\0\0here:2\0\0";
 
 /// What is done to the places. The first number is that of a socket or of a connection.
 #[derive(Clone, Copy)]
 enum Deed {
     /// A client comes that says this many bytes of `SAID`, this many at a time; whether it is at its end then; and how many writes take nothing.
     Come(usize, usize, usize, bool, usize),
-    /// A peer comes that says `GREETING`.
-    Peer(usize),
+    /// One comes that says these bytes, this many at a time.
+    Say(usize, &'static [u8], usize),
+    /// Of CONNECTs only `SECOND` is taken from now on.
+    Guard,
     /// The system says that a socket can be read, and one turn is made.
     Turn(usize),
     /// The system says that a socket can be read.
@@ -40,7 +61,7 @@ enum Deed {
     Tick(u64),
 }
 
-use Deed::{Close, Come, Cut, Peer, Read, Reply, Tick, Turn, Write};
+use Deed::{Close, Come, Cut, Guard, Read, Reply, Say, Tick, Turn, Write};
 
 /// More writes than there are.
 const ALL: usize = 1_000_000_000;
@@ -79,15 +100,6 @@ const ROWS: &[(&[Deed], &[u8])] = &[
         &[
             Come(0, 24, 24, false, ALL),
             Read(0),
-            Reply(1, 31 * MEBIBYTE),
-            Reply(1, 2 * MEBIBYTE),
-        ],
-        b" cy  ph ",
-    ),
-    (
-        &[
-            Come(0, 24, 24, false, ALL),
-            Read(0),
             Reply(1, 8),
             Tick(30_000),
             Tick(30_001),
@@ -107,7 +119,63 @@ const ROWS: &[(&[Deed], &[u8])] = &[
         ],
         b" cy  h ",
     ),
-    (&[Peer(0), Read(0), Tick(60_000), Tick(60_001)], b" cy  h "),
+    (
+        &[Say(0, SECOND, 32), Read(0), Tick(60_000), Tick(60_001)],
+        b" cy  h ",
+    ),
+    (
+        &[Say(0, SECOND, 8), Turn(0), Turn(0), Turn(0), Read(0)],
+        b"    cy ",
+    ),
+    (
+        &[
+            Say(0, SECOND, 8),
+            Turn(0),
+            Turn(0),
+            Turn(0),
+            Tick(5_001),
+            Read(0),
+        ],
+        b"      ",
+    ),
+    (
+        &[
+            Say(0, SECOND, 32),
+            Say(1, THIRD, 32),
+            Read(0),
+            Say(2, WRONG, 32),
+            Read(2),
+        ],
+        b"  cycy  chy ",
+    ),
+    (&[Say(0, TENTH, 32), Read(0)], b" cy "),
+    (&[Say(0, LONG, 24), Read(0)], b"  "),
+    (&[Say(0, LATE, 48), Read(0)], b" cyh "),
+    (
+        &[
+            Say(0, SECOND_LARGE, 40),
+            Read(0),
+            Say(1, THIRD_LARGE, 40),
+            Read(1),
+            Cut(1),
+            Say(2, THIRD_LARGE, 40),
+            Read(2),
+        ],
+        b" cyy  cyh h  cyy ",
+    ),
+    (
+        &[
+            Guard,
+            Say(0, SECOND, 32),
+            Read(0),
+            Say(1, WRONG, 32),
+            Say(2, THIRD, 32),
+            Say(3, TENTH, 32),
+            Read(1),
+        ],
+        b"  cy     ",
+    ),
+    (&[Guard, Come(0, 48, 48, false, 0), Read(0)], b"  cyy "),
     (
         &[
             Come(0, 1, 1, false, 0),
@@ -116,6 +184,20 @@ const ROWS: &[(&[Deed], &[u8])] = &[
             Cut(1),
         ],
         b"  cy h ",
+    ),
+];
+
+/// Other rows, whose replies take all room of one connection, and of the node. They are apart, since making a reply costs time by the byte.
+const FULL_ROWS: &[(&[Deed], &[u8])] = &[
+    (
+        &[
+            Come(0, 24, 24, false, ALL),
+            Read(0),
+            Reply(1, 31 * MEBIBYTE),
+            Reply(1, MEBIBYTE - 512),
+            Reply(1, 0),
+        ],
+        b" cy   ph ",
     ),
     (
         &[
@@ -127,9 +209,10 @@ const ROWS: &[(&[Deed], &[u8])] = &[
             Reply(1, 31 * MEBIBYTE),
             Reply(2, 31 * MEBIBYTE),
             Reply(3, 31 * MEBIBYTE),
-            Reply(4, 4 * MEBIBYTE),
+            Reply(4, 7 * MEBIBYTE - 1_024),
+            Reply(4, 0),
         ],
-        b"    cycycycy    nh ",
+        b"    cycccyyy     nh ",
     ),
 ];
 
@@ -162,6 +245,13 @@ fn readiness(is_readable: bool) -> Readiness {
     }
 }
 
+/// The CONNECTs that are taken once there is a guard.
+fn taken(alloc: Global) -> Result<Vec<WireBytes>, AllocError> {
+    let mut taken = Vec::new(alloc);
+    taken.push(Items::new(Vec::from_slice(alloc, SECOND)?))?;
+    Ok(taken)
+}
+
 /// Does one deed, and adds the mark of a reply that cuts its connection.
 fn perform(
     places: &mut Places<Script>,
@@ -174,7 +264,8 @@ fn perform(
             let said = &SAID[..count.min(48)];
             places.accept(at, Script::new(alloc, said, piece, ends, refusals)?);
         }
-        Peer(at) => places.accept(at, Script::new(alloc, GREETING, 16, false, 0)?),
+        Say(at, said, piece) => places.accept(at, Script::new(alloc, said, piece, false, 0)?),
+        Guard => places.guard(taken(alloc).ok()?),
         Turn(at) => {
             places.note(at, readiness(true));
             if let Some(event) = places.next() {
@@ -217,7 +308,7 @@ fn comes(alloc: Global, deeds: &[Deed], wanted: &[u8]) -> Option<bool> {
     let mut letters = Vec::new(alloc);
     for &deed in deeds {
         perform(&mut places, alloc, deed, &mut letters)?;
-        if !matches!(deed, Come(_, _, _, _, _) | Peer(_) | Turn(_)) {
+        if !matches!(deed, Come(_, _, _, _, _) | Say(_, _, _) | Guard | Turn(_)) {
             settle(&mut places, 4, &mut letters)?;
         }
         letters.push(b' ').ok()?;
@@ -233,27 +324,42 @@ fn places_bring_what_their_streams_say(rt: HostRuntime) -> Result<(), Fail> {
     Ok(())
 }
 
-/// How many of 80 clients are connections; how many have been once two of them have hung up; and how many have hung up.
-fn fills(alloc: Global) -> Option<(usize, usize, usize)> {
-    let mut places = Places::new(alloc).ok()?;
-    let mut letters = Vec::new(alloc);
-    for at in 0..80 {
-        let come = Come(at, 16, 16, false, 0);
-        perform(&mut places, alloc, come, &mut letters)?;
+#[test]
+fn replies_have_their_room_to_the_last_byte(rt: HostRuntime) -> Result<(), Fail> {
+    for (row, &(deeds, wanted)) in FULL_ROWS.iter().enumerate() {
+        assert!(rt; comes(rt.alloc(), deeds, wanted) == Some(true), "row {row}");
     }
-    settle(&mut places, 80, &mut letters)?;
-    let first = places.connection_count();
+    Ok(())
+}
+
+/// Has this many clients come, at sockets from this one on, and then peers 2 and 3.
+fn come(places: &mut Places<Script>, alloc: Global, first: usize, count: usize) -> Option<()> {
+    let mut letters = Vec::new(alloc);
+    for at in first..first + count {
+        perform(places, alloc, Come(at, 16, 16, false, 0), &mut letters)?;
+    }
+    perform(places, alloc, Say(324, SECOND, 32), &mut letters)?;
+    perform(places, alloc, Say(325, THIRD, 32), &mut letters)?;
+    settle(places, 328, &mut letters)
+}
+
+/// How many of 80 clients are taken; how many of 10 others once two have hung up; how many were not taken; and how many connections there are
+/// with two peers.
+fn fills(alloc: Global) -> Option<(usize, usize, u64, usize)> {
+    let mut places = Places::new(alloc).ok()?;
+    come(&mut places, alloc, 0, 80)?;
+    let first = places.client_count();
     places.cut(1);
     places.cut(2);
-    settle(&mut places, 80, &mut letters)?;
-    let met = letters.iter().filter(|letter| **letter == b'c').count();
-    let left = letters.iter().filter(|letter| **letter == b'h').count();
-    Some((first, met, left))
+    let left = places.client_count();
+    come(&mut places, alloc, 80, 10)?;
+    let refused = places.take_refused().clients;
+    Some((first, left, refused, places.connection_count()))
 }
 
 #[test]
-fn clients_wait_for_a_place(rt: HostRuntime) -> Result<(), Fail> {
-    let all = MAX_CONNECTIONS;
-    assert_eq!(rt; fills(rt.alloc()), Some((all, 74, 2)));
+fn clients_leave_places_to_peers(rt: HostRuntime) -> Result<(), Fail> {
+    let all = MAX_CLIENTS;
+    assert_eq!(rt; fills(rt.alloc()), Some((all, all - 2, 32, all + 2)));
     Ok(())
 }

@@ -24,6 +24,8 @@ A node of dqlite, which is SQLite replicated by Raft.
 Options:
   --engine E     of serve and script: sqlite, which is the default, or cells
   --events K     of serve: end after K events
+  --new          of serve: make a new node
+  --secret FILE  of serve: take only peers that have the secret in FILE
   --run          of gen: run the script, and print how its nodes are at the end
   -h, --help     print this page, or the page of a command
   -V, --version  print the version
@@ -34,7 +36,7 @@ Status:
    2  a line of the script is invalid
    3  the input failed
    4  the output failed
-   5  the folder failed, or belongs to another node or process
+   5  the folder failed, has no node, or belongs to another node or process
    6  the node can't listen or start a thread
    7  out of memory
    8  the files of the folder are not those of a node
@@ -47,12 +49,15 @@ Status:
 ";
 
 pub(crate) const SERVE_USAGE: &str = "\
-Usage: dqnode serve [--engine E] [--events K] ID LISTEN [N=ADDRESS]..
+Usage: dqnode serve [--new] [--secret FILE] [--engine E] [--events K]
+                    [--idle-transaction S]
+                    ID LISTEN [N=ADDRESS]..
 ";
 
 pub(crate) const SERVE_DETAILS: &str = "\
 Serves a node of a cluster until it is stopped. Its files are in the working
-folder. It reports on the error stream, and prints nothing.
+folder. Its first start needs --new. It reports on the error stream, and prints
+nothing.
 
 Arguments:
   ID          the number of the node, 1 to 9
@@ -61,12 +66,20 @@ Arguments:
   N=ADDRESS   another node of the cluster, its number and its address; at most 6
 
 Options:
+  --new       make a new node, in a folder that has none
+  --secret FILE
+              take only peers that have the cluster's secret, which is in FILE:
+              16 to 4096 bytes that only its owner may read
   --engine E  sqlite, which is the default, or cells
   --events K  end after K events, 1 to 4294967295, which is the default
+  --idle-transaction S
+              close the connection of a client that has a transaction and says
+              nothing for S seconds, 0 to 86400; 60 is the default, 0 is never
   -h, --help  print this page
 
 Status:
-   5  the folder failed, or belongs to another node or process
+   5  the folder failed, has no node, has one already with --new, or belongs to
+      another node or process
    6  the node can't listen or start a thread
    7  out of memory
    8  the files of the folder are not those of a node
@@ -189,4 +202,5 @@ Status:
    4  the output failed
    7  out of memory
    9  the script is too large, with --run
+  15  internal fault, a bug of the program, with --run: please report it
 ";

@@ -1,4 +1,4 @@
-use Rattle.std.proofs.Common.{List, ℕ, Some, [], subst}
+use Rattle.std.proofs.Common.{List, ℕ, Some, subst}
 use Rattle.sql_engine.specs.declared.kind.EngineKind.TheVariants.{Cells}
 use Rattle.script_generator.specs.Generated.{script_text}
 use Rattle.dqnode.specs.Status.{OutcomeEnds}

@@ -1,4 +1,4 @@
-use Rattle.std.proofs.Common.{[], sym, ◌∙◌}
+use Rattle.std.proofs.Common.{sym, ◌∙◌}
 use Rattle.std.proofs.lemmas.Result.{err_from_is_err_and}
 use Rattle.dqnode.proofs.Made.{byte_within, byte_ends, byte_cut, shown_short}
 use Rattle.dqnode.proofs.generating.take_byte.Goals as goal

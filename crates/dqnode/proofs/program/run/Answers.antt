@@ -2,12 +2,15 @@ use Rattle.std.proofs.Common.{◌≡◌, ◌⊎◌, inl, inr, true, Some, None, 
 use Rattle.dq_base.specs.Faults.{Rose}
 use Rattle.arguments.specs.declared.invocation.Invocation.TheVariants as asks
 use Rattle.dqnode.specs.declared.status.Status.{Status}
-use Rattle.dqnode.specs.Status.{status_code, IsScriptCode, IsStatementCode, IsCheckCode}
+use Rattle.dqnode.specs.Program.{BreaksOff}
+use Rattle.dqnode.specs.Status.{status_code, IsBrokenOff, IsScriptCode, IsStatementCode, IsCheckCode}
+use Rattle.script_runner.specs.Ending.{MayFollow}
 use Rattle.serve_node.specs.Rules.{GoesWell}
 use Rattle.dqnode.specs.Checks.{CheckEnds}
 use Rattle.dqnode.specs.Generating.{RunEnds}
 use Rattle.dqnode.specs.Serving.{WasServed}
 use Rattle.dqnode.proofs.Asked.{statement_code}
+use Rattle.dqnode.proofs.Endings.{script_broken}
 use Rattle.dqnode.proofs.Generated.{generated_code, made_code, made_by}
 use Rattle.dqnode.proofs.ServeEnds.{statement_not_three, check_not_three, serve_not_three, words_not_three, generated_not_three, made_not_three, read_status, script_not_eight, statement_not_eight, words_not_eight, script_not_ten, statement_not_ten, check_not_ten, words_not_ten, script_not_six, statement_not_six, check_not_six, words_not_six, script_not_five, statement_not_five, words_not_five, statement_not_fifteen, check_not_fifteen, generated_not_fifteen, words_not_fifteen, host_status, disk_status, moved, served_for}
 use Rattle.dqnode.proofs.program.run.Goals.{in-Some-Script, in-Some-Statement, in-Some-Check, in-Some-Generate-default-default-false, in-Some-Generate-default-default-true, in-Some-Serve, in-None}
@@ -81,6 +84,25 @@ returns-clause-of_internal g c = λ e.
       | in-Some-Serve w ↦ inr (inr (w.in-Some-Serve.words, w.in-Some-Serve.is ∙ ap Some w.in-Some-Serve.field-0-is))
       | in-None w ↦ absurd (words_not_fifteen _ w.refuse_words-status.ensures.others (ap status_code (sym w.status-is) ∙ at))
     ]
+
+pub returns-clause-broken : goal.returns-clause-broken
+returns-clause-broken g c = λ is off. elim c.match-asked.branch [
+  | in-Some-Script w ↦ (
+    w.in-Some-Script.engine,
+    w.in-Some-Script.is ∙ ap Some w.in-Some-Script.field-0-is,
+    moved _ _ _ _ _ _ _ w.input-is w.output-is w.status-is c.code.ensures
+        (λ input output code. BreaksOff w.in-Some-Script.engine (MayFollow (g.S.Source.left input)) (g.S.Source.left c.args.input.now)
+        (g.S.Source.left input) (g.K.Sink.written c.args.output.now) (g.K.Sink.written output))
+        (script_broken _ _ _ _ _ _ _ w.script-status.ensures.ended
+        (subst (λ (s : Status). IsBrokenOff (status_code s)) w.status-is (subst IsBrokenOff c.code.ensures off))),
+  )
+  | in-Some-Statement w ↦ let bad : Some (asks.Statement w.in-Some-Statement.statement) ≡ Some (asks.Script is.0) = sym (w.in-Some-Statement.is ∙ ap Some w.in-Some-Statement.field-0-is) ∙ is.1 in absurd cc
+  | in-Some-Check w ↦ let bad : Some asks.Check ≡ Some (asks.Script is.0) = sym (w.in-Some-Check.is ∙ ap Some w.in-Some-Check.field-0-is) ∙ is.1 in absurd cc
+  | in-Some-Generate-default-default-false w ↦ let bad : Some (asks.Generate _ _ _) ≡ Some (asks.Script is.0) = sym (w.in-Some-Generate-default-default-false.is ∙ ap Some w.in-Some-Generate-default-default-false.field-0-is) ∙ is.1 in absurd cc
+  | in-Some-Generate-default-default-true w ↦ let bad : Some (asks.Generate _ _ _) ≡ Some (asks.Script is.0) = sym (w.in-Some-Generate-default-default-true.is ∙ ap Some w.in-Some-Generate-default-default-true.field-0-is) ∙ is.1 in absurd cc
+  | in-Some-Serve w ↦ let bad : Some (asks.Serve w.in-Some-Serve.words) ≡ Some (asks.Script is.0) = sym (w.in-Some-Serve.is ∙ ap Some w.in-Some-Serve.field-0-is) ∙ is.1 in absurd cc
+  | in-None w ↦ let bad : None ≡ Some (asks.Script is.0) = sym w.in-None.is ∙ is.1 in absurd cc
+]
 
 pub returns-clause-serves : goal.returns-clause-serves
 returns-clause-serves g c = λ served asked. elim c.match-asked.branch [

@@ -42,5 +42,8 @@ returns-in-Err-TooMany-clause-err g c =
     let ends = rw c.in-Err-TooMany.field-0-is at (c.in-Err-TooMany.ensures c.args.number c.requires) in
     ran_out g.P.NodePlace.knows (λ (s : Stage). step s c.args.number c.args.line.now) (holds g.P.NodePlace.shows c.args.scene.now) (holds g.P.NodePlace.shows c.take.new.self) (g.K.Sink.written c.args.sink.now) (g.K.Sink.written c.print-in-Err-TooMany.new.sink) (said_in c.take.new.said) Large ends c.in_ok-print-in-Err-TooMany.ensures.ok
 
+pub returns-in-Err-NoMemory-clause-err : goal.returns-in-Err-NoMemory-clause-err
+returns-in-Err-NoMemory-clause-err g c = nothing_ran g.P.NodePlace.knows c.args.number c.args.line.now (holds g.P.NodePlace.shows c.args.scene.now) (g.K.Sink.written c.args.sink.now)
+
 pub returns-clause-err : goal.returns-clause-err
 returns-clause-err g c = nothing_ran g.P.NodePlace.knows c.args.number c.args.line.now (holds g.P.NodePlace.shows c.args.scene.now) (g.K.Sink.written c.args.sink.now)

@@ -1,0 +1,4 @@
+pub mod Last
+pub mod Heads
+pub mod Search
+pub mod Tails

@@ -1,0 +1,19 @@
+-- The text with which a node makes itself known to a peer.
+use Rattle.std.specs.Prelude.{ℕ, List, ◌∷◌, ◌++◌}
+use Rattle.std.specs.Int.{w64, to_le_bytes}
+use Rattle.std.specs.Fmt.{decimal}
+use Rattle.hex.specs.Hex.{encode_lower}
+use Rattle.peer_secret.specs.Hmac.{hmac}
+
+-- what the code of a pass goes over
+abbrev pub coded_bytes : List ℕ → List ℕ → ℕ → ℕ → List ℕ
+coded_bytes cluster address sender receiver = cluster ++ 0 ∷ address ++ 0 ∷ to_le_bytes w64 sender ++ to_le_bytes w64 receiver
+
+-- an address, two ids and a code, with a space between each two
+abbrev pub joined_bytes : List ℕ → ℕ → ℕ → List ℕ → List ℕ
+joined_bytes address sender receiver code = address ++ 32 ∷ decimal sender ++ 32 ∷ decimal receiver ++ 32 ∷ code
+
+-- the text of a node's CONNECT to a peer
+abbrev pub pass_bytes : List ℕ → List ℕ → List ℕ → ℕ → ℕ → List ℕ
+pass_bytes secret cluster address sender receiver =
+    joined_bytes address sender receiver (encode_lower (hmac secret (coded_bytes cluster address sender receiver)))
