@@ -21,6 +21,8 @@ pub enum PeerSign {
     Ack(u64),
     /// A candidate asks for a vote, to which no leader handed its leadership.
     AskVote,
+    /// Bytes came of a message of which more are to come, as of an Install over a slow network.
+    Part,
 }
 
 /// The word at a place.

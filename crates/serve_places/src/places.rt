@@ -167,10 +167,23 @@ impl<S: ReadyStream> Places<S> {
         }
         let is_at_head = place.is_at_head();
         let piece = place.next_piece(alloc, &mut self.buffer, room, now)?;
-        if is_at_head && place.is_at_head() {
+        if !place.is_at_head() {
+            self.note_part(at);
+        } else if is_at_head {
             self.note_message(at, piece.as_slice());
         }
         Some(Event::Bytes(number, piece))
+    }
+
+    /// Notes bytes of a connection's message of which more are to come.
+    fn note_part(&mut self, at: usize)
+        ensures numbers { self.new.numbers ≡ self.old.numbers }
+    {
+        if let Some(place) = self.places.get(at) {
+            if place.is_peer() {
+                self.sign = Some(PeerSign::Part);
+            }
+        }
     }
 
     /// Notes a whole message of a connection.
@@ -297,7 +310,7 @@ impl<S: ReadyStream> Places<S> {
         count
     }
 
-    /// What the message of a peer says that the last call of `next` brought whole, if it matters to the time of the node.
+    /// What the bytes of a peer say that the last call of `next` brought, if they matter to the time of the node.
     pub fn peer_sign(&self) -> Option<PeerSign> {
         self.sign
     }

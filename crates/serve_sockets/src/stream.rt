@@ -10,7 +10,7 @@ use std::time::Duration;
 /// How long a dial of one address may take, in seconds.
 const DIAL_SECONDS: u64 = 10;
 
-/// How many bytes one read of what is dropped takes at most, and how many such reads there are in a row.
+/// How many bytes one read of what is dropped takes at most, and how many of these reads there are in a row.
 const DROPPED_BYTES: usize = 512;
 
 const MAX_DROPPED_READS: u32 = 16;

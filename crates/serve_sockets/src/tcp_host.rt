@@ -225,6 +225,10 @@ impl<R: Wait + Copy + Drop, T: Drop> TcpHost<R, T> {
                 false
             }
             Some(PeerSign::AskVote) => self.contact.is_settled(),
+            Some(PeerSign::Part) => {
+                self.contact.note_part();
+                false
+            }
             None => false,
         }
     }

@@ -17,7 +17,7 @@ use std::time::Duration;
 const PEER_SECONDS: u64 = 10;
 
 /// A connection over a TCP socket that was dialed. It says nothing of content. A message goes out at once; a large one over a slow network is
-/// written as long as some bytes of it are taken every ten seconds. What the peer says is dropped.
+/// written while some bytes of it are taken every ten seconds. What the peer says is dropped.
 ///
 /// The error stream gets a line when the connection is up, and one when a write fails or the peer has ended the connection.
 #[derive(Drop)]

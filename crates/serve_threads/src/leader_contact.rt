@@ -90,6 +90,12 @@ impl LeaderContact {
         }
     }
 
+    /// Notes that a part came of a message that has more bytes than are read at a time: an Append or an Install, which only a leader sends.
+    pub fn note_part(&self) {
+        self.shared.heard.store(1, Ordering::SeqCst);
+        self.shared.quiet_beats.store(0, Ordering::SeqCst);
+    }
+
     /// Notes that the node of this id leads these voters. It acknowledges itself.
     pub fn note_leads(&self, id: u64, voters: ServerSet) {
         self.shared.voters.store(voters.bits(), Ordering::SeqCst);

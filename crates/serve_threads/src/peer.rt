@@ -33,7 +33,7 @@ pub struct Peer<R: Wait + Clock + Copy + Drop, D: PeerDialer> {
     pub queue: PeerQueue,
 }
 
-/// A link that the peer has not ended.
+/// A connection that the peer has not ended.
 fn open_link<C: PeerConnection>(link: Option<PeerLink<C>>) -> Option<PeerLink<C>> {
     let mut link = link?;
     if link.is_ended() {
@@ -42,7 +42,7 @@ fn open_link<C: PeerConnection>(link: Option<PeerLink<C>>) -> Option<PeerLink<C>
     Some(link)
 }
 
-/// A link on which something was written not long before this moment.
+/// A connection on which something was written within the second before this moment.
 fn fresh_link<C: PeerConnection>(link: Option<PeerLink<C>>, now: u64) -> Option<PeerLink<C>> {
     let link = link?;
     if link.is_stale(now) {
@@ -51,7 +51,7 @@ fn fresh_link<C: PeerConnection>(link: Option<PeerLink<C>>, now: u64) -> Option<
     Some(link)
 }
 
-/// Whether a message is the Install that was written on the link within the last five seconds.
+/// Whether a message is the Install that was written on the connection within the last five seconds.
 fn has_just_sent<C: PeerConnection>(
     link: &Option<PeerLink<C>>,
     message: &RaftMessage,
@@ -98,7 +98,7 @@ impl<R: Wait + Clock + Copy + Drop, D: PeerDialer> Peer<R, D> {
         }
     }
 
-    /// Sends a message over the link, or over a new one. An Install that the link has just had is not sent.
+    /// Sends a message over the connection, or over a new one. An Install that was just written there is not sent.
     fn pass_on(
         &mut self,
         link: Option<PeerLink<D::Connection>>,
@@ -147,7 +147,7 @@ impl<R: Wait + Clock + Copy + Drop, D: PeerDialer> Peer<R, D> {
         }
     }
 
-    /// Writes bytes over the link, or over a new one if it is idle. None if that failed.
+    /// Writes bytes over the connection, or over a new one if it is idle. None if that failed.
     fn send(
         &mut self,
         link: Option<PeerLink<D::Connection>>,
@@ -165,7 +165,7 @@ impl<R: Wait + Clock + Copy + Drop, D: PeerDialer> Peer<R, D> {
         Some(link)
     }
 
-    /// A link to the peer, with the greeting written.
+    /// A connection to the peer, with the greeting written.
     fn dial(&mut self) -> Option<PeerLink<D::Connection>> {
         let connection = self.dialer.dial(self.address.as_str()).ok()?;
         let mut link = PeerLink::new(connection, self.moment());

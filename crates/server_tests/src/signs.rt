@@ -20,6 +20,9 @@ const CLIENT: &[u8; 72] = b"\x01\0\0\0\0\0\0\0\x01\0\0\0\x01\0\0\0\x01\0\0\0\0\0
 /// How many bytes of `CLIENT` come before the end of its transaction.
 const BEGUN: usize = 48;
 
+/// How many bytes a peer says, and the marks of the events.
+const SIGNS: &[(usize, &[u8])] = &[(152, b"c.2v."), (144, b"c.2vp"), (72, b"c.2")];
+
 /// The types of the answers RESULT and FAILURE.
 const RESULT: u8 = 6;
 
@@ -33,11 +36,13 @@ const ROWS: &[(usize, &[u8], u64)] = &[
     (72, &[RESULT], 0),
 ];
 
-/// The events that come, as marks: `c` for Connect, the id for an Ack, `v` for an AskVote, `.` for other bytes.
-fn signs(alloc: Global) -> Option<Vec<u8>> {
+/// The events that come of this many bytes of `PEER`, as marks: `c` for Connect, the id for an Ack, `v` for an AskVote, `p` for a part of a
+/// message, `.` for other bytes.
+fn signs(alloc: Global, count: usize) -> Option<Vec<u8>> {
     let mut places = Places::new(alloc).ok()?;
     let mut marks = Vec::new(alloc);
-    places.accept(0, Script::new(alloc, PEER, 152, false, 0)?);
+    let said = &PEER[..count.min(152)];
+    places.accept(0, Script::new(alloc, said, 152, false, 0)?);
     read_all(&mut places, &mut marks)?;
     Some(marks)
 }
@@ -67,6 +72,7 @@ fn mark_of(event: &Event<u8>, sign: Option<PeerSign>) -> u8 {
         (Event::Connect(_), _) => b'c',
         (_, Some(PeerSign::Ack(2))) => b'2',
         (_, Some(PeerSign::AskVote)) => b'v',
+        (_, Some(PeerSign::Part)) => b'p',
         _ => b'.',
     }
 }
@@ -91,8 +97,10 @@ fn closes(alloc: Global, count: usize, answers: &[u8]) -> Option<u64> {
 
 #[test]
 fn acks_and_questions_of_peers_are_known(rt: HostRuntime) -> Result<(), Fail> {
-    let marks = signs(rt.alloc());
-    assert!(rt; matches!(marks, Some(marks) if marks.as_slice() == b"c.2v.".as_slice()));
+    for &(count, wanted) in SIGNS {
+        let marks = signs(rt.alloc(), count);
+        assert!(rt; matches!(marks, Some(marks) if marks.as_slice() == wanted));
+    }
     Ok(())
 }
 
