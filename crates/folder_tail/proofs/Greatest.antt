@@ -1,6 +1,5 @@
 -- The greatest number of a segment among names.
-use Rattle.std.proofs.Common.{◌≡◌, ◌⊎◌, inl, inr, ℕ, ◌<◌, ◌≤◌, Bool, true, false, List, [], ◌∷◌, ◌++◌, length, take, get_or, ◌+◌, Option, Some, None, refl, sym, ap, ◌∙◌, subst, arith}
-use Rattle.std.specs.Prelude.{nat_lt}
+use Rattle.std.proofs.Common.{◌≡◌, ◌⊎◌, inl, inr, ℕ, ◌<◌, ◌≤◌, true, false, List, [], ◌∷◌, ◌++◌, length, take, get_or, ◌+◌, Option, Some, None, refl, sym, ap, ◌∙◌, subst, arith}
 use Rattle.std.proofs.lemmas.Bool.{ltb-true, ltb-false}
 use Rattle.std.proofs.lemmas.List.{take_more, take_all}
 use Rattle.disk_model.specs.Disk.{Disk}
@@ -97,13 +96,6 @@ takes_less name n (Some x) is after names greatest = (
 )
 
 -- ---- all names, one after the other
-
-pub greatest_none : (names : List Text) → IsGreatest (take 0 names) None
-greatest_none names = λ n digits a. absurd (none names a)
-  where
-    none : {t : Text} (names : List Text) → Among t (take 0 names) → ⊥
-    none [] a = a
-    none (x ∷ xs) a = a
 
 pub greatest_next : (names : List Text) (i : ℕ) (name : Text) (old new : Option SegmentFile) → i < length names → name ≡ get_or names i name → IsGreatest (take i names) old → TakesName name old new → IsGreatest (take (i + 1) names) new
 greatest_next names i name old new lt is greatest takes =

@@ -1,5 +1,5 @@
 -- The head of a batch, and the batch itself.
-use Rattle.std.proofs.Common.{◌≡◌, ℕ, ◌+◌, ◌-◌, ◌<◌, ◌≤◌, List, [], ◌∷◌, ◌++◌, length, take, drop, get_or, Result, Ok, Err, refl, sym, ap, ◌∙◌, subst, arith, length-drop}
+use Rattle.std.proofs.Common.{◌≡◌, ℕ, ◌+◌, ◌-◌, ◌<◌, ◌≤◌, List, [], ◌∷◌, ◌++◌, length, take, drop, get_or, Result, Ok, refl, sym, ap, ◌∙◌, subst, arith, length-drop}
 use Rattle.std.specs.Prelude.{min}
 use Rattle.std.proofs.lemmas.List.{take_more}
 use Rattle.wire_words.specs.declared.fault.WordFault.{WordFault}
@@ -9,9 +9,16 @@ use Rattle.raft_messages.specs.declared.entries.EntryHead.{EntryHead}
 use Rattle.raft_messages.specs.Entries.{heads_at, contents_at}
 use Rattle.store_format.specs.declared.batch_reading.Body.{Body}
 use Rattle.store_format.specs.Batches.{body_at}
-use Rattle.store_format.proofs.Local.{Local, word_local, heads_local}
+use Rattle.store_format.proofs.Local.{word_local, heads_local}
 use Rattle.folder_tail.specs.declared.heads.BatchHead.{BatchHead}
 use Rattle.folder_tail.specs.Heads.{padded, contents_end, batch_head_at}
+
+left_long : (at : ℕ) (bytes : List ℕ) (n : ℕ) → n ≤ length bytes → (past n (record { at = at; bytes = bytes })).at + length (past n (record { at = at; bytes = bytes })).bytes ≡ at + length bytes
+left_long at bytes n h = let l : length (drop n bytes) ≡ length bytes - n = length-drop n bytes in omega (arith, l, h)
+
+-- what is read and what is left is what was there
+past_long : (old new : Unread) (n : ℕ) → n ≤ length old.bytes → new ≡ past n old → new.at + length new.bytes ≡ old.at + length old.bytes
+past_long old new n h e = ap (λ (s : Unread). s.at + length s.bytes) e ∙ left_long old.at old.bytes n h
 
 -- the head ends within the bytes
 pub head_ends : (u w : Unread) (x : BatchHead) → batch_head_at u ≡ Ok (x, w) → x.header ≤ u.at + length u.bytes
@@ -25,16 +32,11 @@ head_ends u w x e =
     let la = word_local u a.0.1 a.0.0 a.1 in
     let lb = word_local a.0.1 b.0.1 b.0.0 b.1 in
     let lc = heads_local b.0.0 b.0.1 c.0.1 c.0.0 c.1 in
-    let one : a.0.1.at + length a.0.1.bytes ≡ u.at + length u.bytes = within u a.0.1 la.n la.within la.is in
-    let two : b.0.1.at + length b.0.1.bytes ≡ a.0.1.at + length a.0.1.bytes = within a.0.1 b.0.1 lb.n lb.within lb.is in
-    let three : c.0.1.at + length c.0.1.bytes ≡ b.0.1.at + length b.0.1.bytes = within b.0.1 c.0.1 lc.n lc.within lc.is in
-    subst (λ (z : BatchHead × Unread). z.0.header ≤ u.at + length u.bytes) is (omega (arith, one, two, three))
-  where
-    within : (old new : Unread) (n : ℕ) → n ≤ length old.bytes → new ≡ past n old → new.at + length new.bytes ≡ old.at + length old.bytes
-    within old new n h e = ap (λ (s : Unread). s.at + length s.bytes) e ∙ left old.at old.bytes n h
-
-    left : (k : ℕ) (xs : List ℕ) (n : ℕ) → n ≤ length xs → k + n + length (drop n xs) ≡ k + length xs
-    left k xs n h = let l : length (drop n xs) ≡ length xs - n = length-drop n xs in omega (arith, l, h)
+    let one : a.0.1.at + length a.0.1.bytes ≡ u.at + length u.bytes = past_long u a.0.1 la.n la.within la.is in
+    let two : b.0.1.at + length b.0.1.bytes ≡ a.0.1.at + length a.0.1.bytes = past_long a.0.1 b.0.1 lb.n lb.within lb.is in
+    let three : c.0.1.at + length c.0.1.bytes ≡ b.0.1.at + length b.0.1.bytes = past_long b.0.1 c.0.1 lc.n lc.within lc.is in
+    let low : c.0.1.at ≤ u.at + length u.bytes = omega (arith, one, two, three) in
+    subst (λ (z : BatchHead × Unread). z.0.header ≤ u.at + length u.bytes) is low
 
 -- the head of a body: its first index is that of the body, and it ends where that of the body does
 pub record HeadOf (u : Unread) (b : Body) : Type 0 where
@@ -71,10 +73,9 @@ contents_push at [] h = refl
 contents_push at (x ∷ hs) h = contents_push (min (at + padded x.size) 18446744073709551615) hs h
 
 -- with one head more
-pub contents_next : (hs : List EntryHead) (i at end : ℕ) (h : EntryHead) → i < length hs → h ≡ get_or hs i h → end ≡ contents_end at (take i hs) → min (end + padded h.size) 18446744073709551615 ≡ contents_end at (take (i + 1) hs)
-contents_next hs i at end h lt is so_far =
-    let one : take (i + 1) hs ≡ take i hs ++ h ∷ [] = take_more hs i h lt ∙ ap (λ (x : EntryHead). take i hs ++ x ∷ []) (sym is) in
-    ap (λ (n : ℕ). min (n + padded h.size) 18446744073709551615) so_far ∙ sym (contents_push at (take i hs) h) ∙ ap (contents_end at) (sym one)
+pub contents_next : (hs : List EntryHead) (i at end : ℕ) (d : EntryHead) → i < length hs → end ≡ contents_end at (take i hs) → min (end + padded (get_or hs i d).size) 18446744073709551615 ≡ contents_end at (take (i + 1) hs)
+contents_next hs i at end d lt so_far =
+    ap (λ (n : ℕ). min (n + padded (get_or hs i d).size) 18446744073709551615) so_far ∙ sym (contents_push at (take i hs) (get_or hs i d)) ∙ ap (contents_end at) (sym (take_more hs i d lt))
 
 -- with none so far
 pub contents_first : (hs : List EntryHead) (at : ℕ) → at ≡ contents_end at (take 0 hs)

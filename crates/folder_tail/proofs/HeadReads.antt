@@ -1,19 +1,18 @@
 -- A batch that reads has a head that is whole.
-use Rattle.std.proofs.Common.{◌≡◌, ◌≢◌, inl, inr, ℕ, zero, suc, ◌+◌, ◌-◌, ◌<◌, ◌≤◌, Bool, true, false, cond, List, length, take, drop, Option, Some, None, Result, Ok, Err, refl, sym, ap, ◌∙◌, subst, arith}
-use Rattle.std.specs.Prelude.{◌&&◌, nat_lt, nat_le, MatchOption}
+use Rattle.std.proofs.Common.{◌≡◌, ◌≢◌, inl, inr, ℕ, zero, suc, ◌+◌, ◌-◌, ◌<◌, ◌≤◌, Bool, true, false, List, length, take, drop, Option, Some, None, Result, Ok, Err, refl, sym, ap, ◌∙◌, arith}
+use Rattle.std.specs.Prelude.{◌&&◌, nat_lt, nat_le, MatchOption, is_some}
 use Rattle.std.specs.Str.{bytes_eq}
 use Rattle.std.proofs.lemmas.Bool.{cases_Bool, cond-true, cond-false, and_parts, lt-ltb, ltb-true, le-leb, leb-true}
 use Rattle.wire_words.specs.declared.fault.WordFault.{WordFault}
 use Rattle.wire_words.specs.Reading.{Unread, unread}
 use Rattle.store_laws.specs.Store.{Read}
-use Rattle.store_laws.proofs.Fronts.{not_zero}
 use Rattle.store_format.specs.declared.batch_reading.Body.{Body}
 use Rattle.store_format.specs.declared.batch_reading.FoundBatch.{FoundBatch}
 use Rattle.store_format.specs.Batches.{body_at, sum_size, sums_size, batch_sum, is_sound, no_read, read_of, batch_in, read_of_found}
 use Rattle.folder_tail.specs.declared.heads.BatchHead.{BatchHead}
 use Rattle.folder_tail.specs.Heads.{batch_head_at, has_head_sum, head_of, head_in}
 use Rattle.folder_tail.specs.Search.{continues}
-use Rattle.folder_tail.proofs.HeadEnds.{HeadOf, body_head}
+use Rattle.folder_tail.proofs.HeadEnds.{body_head}
 
 -- the head of a batch, with its first index
 pub record HasHead (head : Option BatchHead) (first : ℕ) : Type 0 where
@@ -89,40 +88,36 @@ too_far format next lost bytes head e far = no_size (batch_in format bytes).size
       | inr f ↦ f
     ]
 
+and_true : (b : Bool) → (b && true) ≡ b
+and_true true = refl
+and_true false = refl
+
+and_size : (n : ℕ) (b : Bool) → (n ≢ 0 → b ≡ true) → (nat_lt 0 n && b) ≡ nat_lt 0 n
+and_size zero b h = elim (cases_Bool (nat_lt 0 0)) [
+  | inl t ↦ absurd (omega (arith, ltb-true 0 0 t))
+  | inr f ↦ ap (λ (x : Bool). x && b) f ∙ sym f
+]
+and_size (suc n) b h = ap (λ (x : Bool). nat_lt 0 (suc n) && x) (h (λ q. absurd (omega (arith, q)))) ∙ and_true (nat_lt 0 (suc n))
+
 -- the head of a batch whose first index isn't too far
 pub near : (format next lost : ℕ) (bytes : List ℕ) (head : BatchHead) (found : Bool) → head_in format bytes ≡ Some head → head.first - next ≤ lost → found ≡ nat_lt 0 (batch_in format bytes).size → found ≡ continues format next lost bytes
 unfolding continues
-near format next lost bytes head found e low is = is ∙ sym (by_size (batch_in format bytes).size refl)
-  where
-    by_size : (n : ℕ) → (batch_in format bytes).size ≡ n → (nat_lt 0 (batch_in format bytes).size && nat_le ((batch_in format bytes).batch.first - next) lost) ≡ nat_lt 0 (batch_in format bytes).size
-    by_size zero z =
-        let none : nat_lt 0 (batch_in format bytes).size ≡ false = no_less (batch_in format bytes).size z in
-        ap (λ (x : Bool). x && nat_le ((batch_in format bytes).batch.first - next) lost) none ∙ sym none
-    by_size (suc n) z =
-        let h = batch_head format bytes (λ q. absurd (omega (arith, q, z))) in
-        let same : head.first ≡ (batch_in format bytes).batch.first = ap (λ (x : BatchHead). x.first) (some_is head h.whole (sym e ∙ h.is)) ∙ h.first_is in
-        let some : nat_lt 0 (batch_in format bytes).size ≡ true = lt-ltb 0 (batch_in format bytes).size (omega (arith, z)) in
-        ap (λ (x : Bool). x && nat_le ((batch_in format bytes).batch.first - next) lost) some ∙ le-leb ((batch_in format bytes).batch.first - next) lost (omega (arith, same, low)) ∙ sym some
+near format next lost bytes head found e low is = is ∙ sym (and_size (batch_in format bytes).size _ (λ ne.
+    let h = batch_head format bytes ne in
+    let same : head.first ≡ (batch_in format bytes).batch.first = ap (λ (x : BatchHead). x.first) (some_is head h.whole (sym e ∙ h.is)) ∙ h.first_is in
+    le-leb ((batch_in format bytes).batch.first - next) lost (omega (arith, same, low))))
 
-    no_less : (n : ℕ) → n ≡ 0 → nat_lt 0 n ≡ false
-    no_less n z = elim (cases_Bool (nat_lt 0 n)) [
-      | inl t ↦ absurd (omega (arith, z, ltb-true 0 n t))
-      | inr f ↦ f
-    ]
-
-pub batch_read : (format : ℕ) (bytes : List ℕ) (found : Option FoundBatch) (batch : FoundBatch) → read_of_found found ≡ batch_in format bytes → MatchOption found (Unit {0}) (λ b. 0 < b.size) → found ≡ Some batch → true ≡ nat_lt 0 (batch_in format bytes).size
-batch_read format bytes found batch is some e =
-    let size : batch.size ≡ (batch_in format bytes).size = ap (λ (r : Read). r.size) (ap read_of_found (sym e) ∙ is) in
-    let low : 0 < batch.size = subst (λ (f : Option FoundBatch). MatchOption f (Unit {0}) (λ b. 0 < b.size)) e some in
-    sym (lt-ltb 0 (batch_in format bytes).size (omega (arith, size, low)))
-
-pub batch_unread : (format : ℕ) (bytes : List ℕ) (found : Option FoundBatch) → read_of_found found ≡ batch_in format bytes → found ≡ None → false ≡ nat_lt 0 (batch_in format bytes).size
-batch_unread format bytes found is e =
-    let size : 0 ≡ (batch_in format bytes).size = ap (λ (r : Read). r.size) (ap read_of_found (sym e) ∙ is) in
-    elim (cases_Bool (nat_lt 0 (batch_in format bytes).size)) [
+-- whether one reads
+pub some_batch : (format : ℕ) (bytes : List ℕ) (found : Option FoundBatch) (b : Bool) → read_of_found found ≡ batch_in format bytes → MatchOption found (Unit {0}) (λ x. 0 < x.size) → b ≡ is_some found → b ≡ nat_lt 0 (batch_in format bytes).size
+some_batch format bytes None b is some e =
+    let size : 0 ≡ (batch_in format bytes).size = ap (λ (r : Read). r.size) is in
+    e ∙ elim (cases_Bool (nat_lt 0 (batch_in format bytes).size)) [
       | inl t ↦ absurd (omega (arith, size, ltb-true 0 (batch_in format bytes).size t))
       | inr f ↦ sym f
     ]
+some_batch format bytes (Some batch) b is some e =
+    let size : batch.size ≡ (batch_in format bytes).size = ap (λ (r : Read). r.size) is in
+    e ∙ sym (lt-ltb 0 (batch_in format bytes).size (omega (arith, size, some)))
 
 -- no batch reads
 pub no_batch : (format next lost : ℕ) (bytes : List ℕ) → (batch_in format bytes).size ≡ 0 → continues format next lost bytes ≡ false

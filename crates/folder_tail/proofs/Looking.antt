@@ -1,16 +1,16 @@
 -- From what was read to what a look says.
-use Rattle.std.proofs.Common.{◌≡◌, ◌⊎◌, inl, inr, ℕ, zero, suc, ◌+◌, ◌-◌, ◌<◌, ◌≤◌, Bool, true, false, cond, List, length, drop, Option, Some, None, Result, Ok, Err, refl, sym, ap, ◌∙◌, subst, arith}
+use Rattle.std.proofs.Common.{◌≡◌, ◌⊎◌, inl, inr, ℕ, zero, suc, ◌<◌, ◌≤◌, true, false, List, length, Option, Some, None, Result, Ok, Err, refl, sym, ap, ◌∙◌, subst, arith}
 use Rattle.std.specs.Prelude.{◌&&◌, ◌==◌, nat_lt, IfOk, IfErr}
 use Rattle.std.proofs.lemmas.Bool.{cases_Bool, cond-true, cond-false, lt-ltb, ltb-true, ltb-false, eq-eqb}
 use Rattle.disk_model.specs.Disk.{Disk}
 use Rattle.disk_model.specs.Trait.{Text}
 use Rattle.store_laws.specs.Names.{Segment, NodeFiles}
-use Rattle.store_laws.specs.Store.{Kept, Loaded, opens, reader, torn}
+use Rattle.store_laws.specs.Store.{Kept, opens}
 use Rattle.store_laws.specs.Damage.{Numbered, good_end}
 use Rattle.store_format.specs.Words.{format_in}
 use Rattle.store_format.specs.NodeFormat.{node_format}
 use Rattle.store_format.specs.FilesRead.{FilesRead, nothing_read, with_segment_read}
-use Rattle.store_format.specs.SegmentLog.{none_read, last_of, reads_whole, with_segment}
+use Rattle.store_format.specs.SegmentLog.{last_of, reads_whole, with_segment}
 use Rattle.store_format.specs.declared.segment_log.LastSegment.{LastSegment}
 use Rattle.segment_store.specs.declared.fault.StoreFault.{StoreFault}
 use Rattle.segment_store.specs.declared.load_fault.LoadFault.{LoadFault}
@@ -20,7 +20,7 @@ use Rattle.segment_store.specs.Faults.{DiskCause}
 use Rattle.segment_store.proofs.LoadEnds.{cause_store}
 use Rattle.segment_store.specs.Keeps.{folder}
 use Rattle.segment_store.specs.LoadFaults.{of_store}
-use Rattle.segment_store.specs.Loading.{Sees, IsPlain, LooksAt, LoadCause}
+use Rattle.segment_store.specs.Loading.{Sees, LooksAt, LoadCause}
 use Rattle.segment_store.specs.Reads.{at}
 use Rattle.folder_tail.specs.declared.tail.Tail.{Tail}
 use Rattle.folder_tail.specs.declared.tail.Tail.TheVariants as tails
@@ -176,7 +176,7 @@ cause_end before now x (Err fault.DiskFault) h memory = let z : fault.DiskFault 
 cause_end before now x (Err fault.NoMemory) h memory = record { never_falls = h.never_falls; failed = λ q. absurd cc }
 
 pub cause_read : {S T : Type 0} (before now : ℕ) (x : StoreFault) (y : LoadFault) → y ≡ of_store x → DiskCause {T = S} before now (Err x) → LoadCause {T = T} before now (Err y)
-cause_read before now x y e h = subst (λ (f : LoadFault). LoadCause before now (Err f)) (sym e) (cause_store before now x h)
+cause_read {S} {T} before now x y e h = subst (λ (f : LoadFault). LoadCause {T = T} before now (Err f)) (sym e) (cause_store before now x h)
 
 pub cause_both : {S T : Type 0} (before mid now : ℕ) (x : S) (result : Result T LoadFault) → DiskCause before mid (Ok x) → LoadCause mid now result → LoadCause before now result
 cause_both before mid now x result first second = record { never_falls = omega (arith, first.never_falls, second.never_falls); failed = λ q. Rose-earlier before mid now first.never_falls (second.failed q) }

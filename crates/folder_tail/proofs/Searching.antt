@@ -1,14 +1,14 @@
 -- The search for a batch, word by word.
-use Rattle.std.proofs.Common.{◌≡◌, inl, inr, ℕ, zero, suc, ◌+◌, ◌-◌, ◌*◌, ◌/◌, ◌<◌, ◌≤◌, Bool, true, false, cond, List, [], ◌∷◌, length, drop, Option, Some, None, refl, sym, ap, ◌∙◌, subst, arith, length-drop}
+use Rattle.std.proofs.Common.{◌≡◌, inl, inr, ℕ, suc, ◌+◌, ◌-◌, ◌*◌, ◌/◌, ◌<◌, ◌≤◌, Bool, true, false, cond, List, [], length, drop, Option, Some, None, sym, ap, ◌∙◌, arith, length-drop}
 use Rattle.std.specs.Prelude.{nat_lt, ◌==◌, min}
 use Rattle.std.proofs.Math.ListN.{drop_of_length-le}
-use Rattle.std.proofs.lemmas.Bool.{cases_Bool, cases_lt, cond-true, lt-ltb}
+use Rattle.std.proofs.lemmas.Bool.{cases_lt, cond-true, lt-ltb}
 use Rattle.store_laws.specs.Store.{Read}
 use Rattle.store_format.specs.Batches.{batch_in, sums_size, no_read, read_of, body_at}
 use Rattle.wire_words.specs.Reading.{unread}
 use Rattle.folder_tail.specs.declared.heads.BatchHead.{BatchHead}
 use Rattle.folder_tail.specs.Heads.{head_in}
-use Rattle.folder_tail.specs.Search.{continues, continues_at, LaterFrom, passed_over, search_from, Later}
+use Rattle.folder_tail.specs.Search.{continues_at, LaterFrom, passed_over, Later}
 use Rattle.folder_tail.proofs.HeadReads.{no_batch}
 
 sums_some : (b : Bool) → 0 < cond b 4 8 + cond b 4 8

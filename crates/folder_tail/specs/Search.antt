@@ -1,5 +1,5 @@
 -- A whole batch after the place at which none reads.
-use Rattle.std.specs.Prelude.{◌≡◌, ℕ, ◌+◌, ◌-◌, ◌*◌, ◌/◌, Bool, true, false, ◌&&◌, ◌||◌, ◌==◌, cond, nat_lt, nat_le, List, length, drop, Option, Some, None}
+use Rattle.std.specs.Prelude.{◌≡◌, ℕ, ◌+◌, ◌-◌, ◌*◌, ◌/◌, Bool, true, false, ◌&&◌, ◌||◌, ◌==◌, cond, nat_lt, nat_le, List, drop, Option, Some, None}
 use Rattle.store_format.specs.Batches.{batch_in, sums_size}
 use Rattle.folder_tail.specs.declared.heads.BatchHead.{BatchHead}
 use Rattle.folder_tail.specs.Heads.{head_in}
@@ -20,7 +20,7 @@ is_misread next at bytes = cond (at == 8) (reads_in_any next (drop at bytes)) fa
 abbrev pub continues_at : ℕ → ℕ → ℕ → List ℕ → ℕ → Bool
 continues_at format next at bytes place = continues format next ((place - at) / 16) (drop place bytes)
 
--- one is at this place, and at none of the words from the first place on, if none is found
+-- one is at this place, a whole number of words after the first one; or no word from the first place on has one
 abbrev pub LaterFrom : ℕ → ℕ → ℕ → ℕ → List ℕ → Option ℕ → Type 0
 LaterFrom format next at from bytes None = (k : ℕ) → continues_at format next at bytes (from + 8 * k) ≡ false
 LaterFrom format next at from bytes (Some place) = (k : ℕ) × ((place ≡ from + 8 * k) × (continues_at format next at bytes place ≡ true))

@@ -1,4 +1,4 @@
--- What stands after the whole batches of the last segment of a folder.
+-- What follows the whole batches of the last segment of a folder.
 use Rattle.std.specs.Prelude.{◌≡◌, ◌⊎◌, ℕ, zero, suc, ◌+◌, ◌≤◌, ◌<◌, true, false, List, length, Option, Some, None, Result, IfOk}
 use Rattle.disk_model.specs.Disk.{Disk}
 use Rattle.disk_model.specs.Trait.{Text}
@@ -21,7 +21,7 @@ use Rattle.folder_tail.specs.Search.{is_misread, Later}
 abbrev pub next_in : Kept → ℕ
 next_in k = k.log.first + length k.log.entries
 
--- the same of what the files represent
+-- the index after the last entry that the files represent
 abbrev pub IsNext : ℕ → NodeFiles → Type 0
 IsNext next g = (k : Kept) × ((kept_in g ≡ Loaded k) × (next ≡ next_in k))
 
@@ -39,21 +39,21 @@ IsTorn next (suc n) bytes = (is_misread next (suc n) bytes ≡ false) × Later (
 abbrev pub IsDamaged : ℕ → ℕ → List ℕ → ℕ → Type 0
 IsDamaged next good bytes place = ((is_misread next good bytes ≡ true) × (place ≡ good)) ⊎ Later (format_in bytes) next good bytes (Some place)
 
--- what stands at the end of the bytes of a segment that doesn't read to its end, if this is the index after the last entry
+-- what the bytes of a segment end with that doesn't read to its end, if this is the index after the last entry
 abbrev pub OfBytes : Tail → LastSegment → ℕ → List ℕ → Type 0
 OfBytes tails.Whole last next bytes = ⊥
 OfBytes (tails.Torn seen) last next bytes = (seen ≡ last) × IsTorn next last.good bytes
 OfBytes (tails.Damaged seen place) last next bytes = (seen ≡ last) × ((0 < last.good) × IsDamaged next last.good bytes place)
 OfBytes (tails.Unknown number format) last next bytes = (number ≡ last.number) × ((last.good ≡ 0) × ((8 < length bytes) × (format ≡ word_from 0 bytes)))
 
--- the same of the segment of a number
+-- the last segment, of this number, ends so
 pub record IsTailOf (tail : Tail) (n : ℕ) (g : NodeFiles) : Type 0 where
   pub is_last : IsLast n g
   pub next : ℕ
   pub is_next : IsNext next g
   pub bytes : OfBytes tail (last_of node_format (at g n)) next (at g n).bytes
 
--- what a look says of the files: the last segment, if there is one, reads to its end, or this stands at its end
+-- what a look says of the files: the last segment, if there is one, reads to its end, or ends so
 abbrev pub TailShows : Tail → NodeFiles → Type 0
 TailShows tails.Whole g = (n : ℕ) → n < 10000000000000000 → IsLast n g → reads_whole (last_of node_format (at g n)) ≡ true
 TailShows (tails.Torn last) g = IsTailOf (tails.Torn last) last.number g
@@ -64,6 +64,6 @@ TailShows (tails.Unknown number format) g = IsTailOf (tails.Unknown number forma
 abbrev pub OfSegment : ℕ → List ℕ → Disk Text → Tail → Type 0
 OfSegment n bytes d tail = IsLast n (folder d).read → bytes ≡ ((folder d).read (Segment n)).bytes → TailShows tail (folder d).read
 
--- the same if this was read of the last segment, or there is none
+-- the same if this was read of the last segment, or no segment exists
 abbrev pub OfFound : Option SegmentBytes → Disk Text → Tail → Type 0
 OfFound found d tail = IsLastRead found (folder d).read → TailShows tail (folder d).read

@@ -1,5 +1,5 @@
 //! The last segment of a folder.
-ghost use Rattle.std.specs.Prelude.{◌≡◌, ◌<◌, ◌++◌, [], length, take, Some, OnOk, IfOk};
+ghost use Rattle.std.specs.Prelude.{◌≡◌, ◌≤◌, ◌<◌, ◌++◌, [], length, take, Some, OnOk, IfOk};
 ghost use Rattle.dq_base.specs.Names.{IsName};
 ghost use Rattle.store_laws.specs.Names.{Segment};
 ghost use Rattle.segment_store.specs.FileNames.{file_name};

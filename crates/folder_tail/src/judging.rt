@@ -1,4 +1,4 @@
-//! What stands after the whole batches of the last segment of a folder.
+//! What follows the whole batches of the last segment of a folder.
 ghost use Rattle.std.specs.Prelude.{◌≡◌, ◌⊎◌, ◌<◌, ℕ, length, IfOk, IfErr};
 ghost use Rattle.store_format.specs.NodeFormat.{node_format};
 ghost use Rattle.store_format.specs.SegmentLog.{last_of};
@@ -88,7 +88,7 @@ fn judge(alloc: Global, last: LastSegment, bytes: &[u8], next: u64) -> Result<Ta
     }
 }
 
-/// The same, with the fault of a load.
+/// What `judge` says, with the fault of a load.
 fn judged(alloc: Global, last: LastSegment, bytes: &[u8], next: u64) -> Result<Tail, LoadFault>
     requires { last.good ≡ 0 ⊎ last.good < length bytes.now }
     ensures tail { IfOk result (λ tail. OfBytes tail last next bytes.now) }
@@ -177,10 +177,10 @@ fn load_fault(fault: StoreFault) -> LoadFault
     }
 }
 
-/// What stands after the whole batches of the last segment of a folder. Only lists and reads: the disk stays as it is.
+/// What follows the whole batches of the last segment of a folder. Only lists and reads: the disk stays as it is.
 ///
-/// A batch is synced before the next one is written. So after one whose write never ended nothing stands, and where a whole batch reads
-/// further on, those before it were damaged later. One counts as such only if its first index continues the log: it is at most as far past the
+/// A batch is synced before the next one is written. So nothing follows one whose write never ended, and if a whole batch is
+/// further on, what is before it was damaged later. A batch counts only if its first index continues the log: it is at most as far past the
 /// last index that is kept as the bytes before it could hold entries. If the head of the batch is whole at which reading stops, what its entries
 /// say is passed over; else each word after it is looked at. Where nothing reads after the first word, the other formats are tried there.
 ///

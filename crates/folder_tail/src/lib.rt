@@ -1,4 +1,4 @@
-//! What stands after the whole batches of the last segment of a folder: bytes of a write that never ended, which a start drops, or
+//! What follows the whole batches of the last segment of a folder: bytes of a write that never ended, which a start drops, or
 //! damage.
 #![tactic(auto)]
 

@@ -45,7 +45,8 @@ fn behind<'a>(text: &'a [u8], kind: &[u8]) -> Option<&'a [u8]>
 
 // The number of sixteen digits after a kind.
 fn number_behind(text: &[u8], kind: &[u8]) -> Option<u64>
-    ensures { MatchOption result ((n : ℕ) → n < 10000000000000000 → text.now ≡ kind.now ++ number_text n → ⊥) (λ n. (n < 10000000000000000) × (text.now ≡ kind.now ++ number_text n)) }
+    ensures { MatchOption result ((n : ℕ) → n < 10000000000000000 → text.now ≡ kind.now ++ number_text n → ⊥)
+        (λ n. (n < 10000000000000000) × (text.now ≡ kind.now ++ number_text n)) }
 {
     let digits = behind(text, kind)?;
     if digits.len() == 16 {

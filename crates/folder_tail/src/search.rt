@@ -15,10 +15,8 @@ const HEAD_SIZE: usize = 16;
 fn begins_with_batch(alloc: Global, format: u64, bytes: &[u8]) -> Result<bool, AllocError>
     ensures { IfOk result (λ found. found ≡ nat_lt 0 (batch_in format bytes.now).size) }
 {
-    match read_batch(alloc, format, bytes)? {
-        Some(_) => Ok(true),
-        None => Ok(false),
-    }
+    let found = read_batch(alloc, format, bytes)?;
+    Ok(found.is_some())
 }
 
 /// Whether bytes that begin with this head begin with a whole batch whose first index is at most `lost` past `next`.

@@ -1,6 +1,6 @@
 use store_format::LastSegment;
 
-/// What stands after the whole batches of the last segment.
+/// What follows the whole batches of the last segment.
 #[derive(Clone, Copy, Debug, PartialEq, Eq)]
 pub enum Tail {
     /// Nothing: it reads to its end, or there is no segment.

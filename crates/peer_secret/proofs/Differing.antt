@@ -1,14 +1,22 @@
 -- At how many places two texts differ.
-use Rattle.std.proofs.Common.{◌≡◌, ◌+◌, ◌<◌, ◌==◌, Bool, true, false, ℕ, zero, suc, List, [], ◌∷◌, length, take, get_or, cond, refl, sym, ap, ◌∙◌, arith}
+use Rattle.std.proofs.Common.{◌≡◌, ◌+◌, ◌<◌, ◌==◌, Bool, true, false, ℕ, zero, suc, List, [], ◌∷◌, length, take, get_or, cond, not, ◌≤◌, slice_index, refl, ap, ◌∙◌, arith}
 use Rattle.std.proofs.Common.{le_of_suc-le-suc, not-suc-le-zero}
 use Rattle.std.proofs.lemmas.Bool.{and_parts, eqb-true}
 use Rattle.std.proofs.lemmas.List.{take_all}
+use Rattle.std.specs.Int.{from_bool}
 use Rattle.peer_secret.specs.Same.{differing, same_bytes}
 
-pub none_differs : (left right : List ℕ) → 0 ≡ differing (take 0 left) (take 0 right)
+pub difference_is : (b : Bool) → from_bool (not b) ≡ cond b 0 1
+difference_is true = refl
+difference_is false = refl
+
+pub difference_bound : (b : Bool) → from_bool b ≤ 1
+difference_bound true = omega arith
+difference_bound false = omega arith
+
+pub none_differs : ◌≡◌ {A = ℕ} 0 (differing [] [])
 unfolding differing
-none_differs [] right = refl
-none_differs (x ∷ left) right = refl
+none_differs = refl
 
 differing_suc : (left right : List ℕ) (i d e : ℕ) → i < length left → i < length right →
     differing (take (suc i) left) (take (suc i) right) ≡ differing (take i left) (take i right) + cond (get_or left i d == get_or right i e) 0 1
@@ -21,11 +29,15 @@ differing_suc (x ∷ left) (y ∷ right) (suc i) d e within other =
     = differing_suc left right i d e (le_of_suc-le-suc within) (le_of_suc-le-suc other) in
     omega arith
 
-pub differing_at : (left right : List ℕ) (i d e : ℕ) → i < length left → i < length right →
-    differing (take (i + 1) left) (take (i + 1) right) ≡ differing (take i left) (take i right) + cond (get_or left i d == get_or right i e) 0 1
-differing_at left right i d e within other =
+pub one_more : (left right : List ℕ) (i count d : ℕ) → count ≡ differing (take i left) (take i right) → i < length left → length left ≡ length right →
+    d ≡ cond (slice_index left i == slice_index right i) 0 1 → count + d ≡ differing (take (i + 1) left) (take (i + 1) right)
+one_more left right i count d counted within long is =
     let on : i + 1 ≡ suc i = omega arith in
-    ap (λ (n : ℕ). differing (take n left) (take n right)) on ∙ differing_suc left right i d e within other
+    let more : differing (take (suc i) left) (take (suc i) right) ≡ differing (take i left) (take i right) + cond (slice_index left i == slice_index right i) 0 1
+    = differing_suc left right i 0 0 within (omega arith) in
+    let same : differing (take (i + 1) left) (take (i + 1) right) ≡ differing (take (suc i) left) (take (suc i) right)
+    = ap (λ (n : ℕ). differing (take n left) (take n right)) on in
+    omega arith
 
 pub all_looked_at : (left right : List ℕ) (n : ℕ) → n ≡ length left → n ≡ length right → differing (take n left) (take n right) ≡ differing left right
 all_looked_at left right n l r = ap (λ (x : List ℕ). differing x (take n right)) (take_all n left (omega arith)) ∙ ap (differing left) (take_all n right (omega arith))

@@ -9,11 +9,12 @@ use Rattle.peer_secret.specs.Hmac.{hmac}
 abbrev pub coded_bytes : List ℕ → List ℕ → ℕ → ℕ → List ℕ
 coded_bytes cluster address sender receiver = cluster ++ 0 ∷ address ++ 0 ∷ to_le_bytes w64 sender ++ to_le_bytes w64 receiver
 
--- an address, two ids and a code, with a space between each two
-abbrev pub joined_bytes : List ℕ → ℕ → ℕ → List ℕ → List ℕ
-joined_bytes address sender receiver code = address ++ 32 ∷ decimal sender ++ 32 ∷ decimal receiver ++ 32 ∷ code
+-- a space and a word after a text
+abbrev pub with_word : List ℕ → List ℕ → List ℕ
+with_word text word = text ++ 32 ∷ word
 
--- the text of a node's CONNECT to a peer
+-- the text of a node's CONNECT to a peer: the address, the ids and the code, with a space between each two
 abbrev pub pass_bytes : List ℕ → List ℕ → List ℕ → ℕ → ℕ → List ℕ
 pass_bytes secret cluster address sender receiver =
-    joined_bytes address sender receiver (encode_lower (hmac secret (coded_bytes cluster address sender receiver)))
+    with_word (with_word (with_word address (decimal sender)) (decimal receiver))
+    (encode_lower (hmac secret (coded_bytes cluster address sender receiver)))

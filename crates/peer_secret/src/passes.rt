@@ -1,7 +1,8 @@
 //! The text with which a node makes itself known to a peer.
 
-ghost use Rattle.std.specs.Prelude.{◌≡◌, string_bytes, IfOk};
-ghost use Rattle.peer_secret.specs.Passes.{coded_bytes, joined_bytes, pass_bytes};
+ghost use Rattle.std.specs.Prelude.{◌≡◌, ◌∷◌, ◌++◌, string_bytes, IfOk, OnOk};
+ghost use Rattle.std.specs.Fmt.{decimal};
+ghost use Rattle.peer_secret.specs.Passes.{coded_bytes, pass_bytes};
 
 use crate::hmac::hmac_sha256;
 use std::alloc::{AllocError, Global};
@@ -27,17 +28,19 @@ fn coded_bytes(
     Ok(bytes)
 }
 
-/// An address, two ids and a code, with a space between each two.
-fn joined(
-    alloc: Global,
-    address: &str,
-    sender: u64,
-    receiver: u64,
-    code: &str,
-) -> Result<String, AllocError>
-    ensures { IfOk result (λ text. string_bytes text ≡ joined_bytes address.now sender receiver code.now) }
+/// A number in decimal.
+fn digits_of(alloc: Global, number: u64) -> Result<String, AllocError>
+    ensures { IfOk result (λ digits. string_bytes digits ≡ decimal number) }
 {
-    format!(in alloc; "{address} {sender} {receiver} {code}")
+    format!(in alloc; "{number}")
+}
+
+/// Adds a space and a word.
+fn add_word(text: &mut String, word: &str) -> Result<(), AllocError>
+    ensures { OnOk result (string_bytes text.new ≡ string_bytes text.old ++ 32 ∷ word.now) }
+{
+    text.push_str(" ")?;
+    text.push_str(word)
 }
 
 /// The text of a node's CONNECT to a peer: its address, its id, the peer's id and the code of these and of the cluster's name by the secret,
@@ -54,7 +57,10 @@ pub fn pass_text(
 {
     let bytes = coded_bytes(alloc, cluster, address, sender, receiver)?;
     let code = hmac_sha256(alloc, secret, bytes.as_slice())?;
-    let digits = hex::encode(alloc, code)?;
-    let text = joined(alloc, address, sender, receiver, digits.as_str())?;
+    let code = hex::encode(alloc, code)?;
+    let mut text = String::from_str(alloc, address)?;
+    add_word(&mut text, digits_of(alloc, sender)?.as_str())?;
+    add_word(&mut text, digits_of(alloc, receiver)?.as_str())?;
+    add_word(&mut text, code.as_str())?;
     Ok(WireText::new(text))
 }

@@ -7,7 +7,8 @@ use Rattle.node_spec.specs.Nodes.{Node}
 use Rattle.cluster_safety.specs.Runs.{Up, first_run}
 use Rattle.cluster_safety.specs.Runs as runs
 use Rattle.cluster_safety.specs.Laws.{applied}
-use Rattle.script_cluster.specs.Outcomes.{Doing, FaultTarget, Outcome, Stops, Fails, Unreadable, Turn, Does}
+use Rattle.script_grammar.specs.declared.grammar.FaultTarget.{FaultTarget}
+use Rattle.script_cluster.specs.Outcomes.{Doing, Outcome, Stops, Fails, Unreadable, Turn, Does}
 use Rattle.script_cluster.specs.Run.{run}
 use Rattle.script_safety.specs.Slots.{setup_of}
 use Rattle.script_safety.specs.Turns.{AreRun, events_of}

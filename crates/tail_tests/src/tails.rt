@@ -33,7 +33,7 @@ const OLD: &[u64] = &[
     2,
 ];
 
-/// The same in format 2.
+/// These entries in format 2.
 const NEW: &[u64] = &[
     2,
     0xe150_5113_a943_966d,
@@ -54,7 +54,7 @@ const NEW: &[u64] = &[
     2,
 ];
 
-/// The same in format 3.
+/// These entries in format 3.
 const LATEST: &[u64] = &[
     3,
     0xd6fc_bbb9_d130_e9b6,
@@ -88,7 +88,7 @@ const LOST: &[u64] = &[
     2,
 ];
 
-/// The same in a segment whose log ends before index 8 even if the words between were heads of entries.
+/// One word that is no batch, which could hold no head of an entry, and after it the batch of entry 8.
 const FAR: &[u64] = &[
     3,
     1,
@@ -197,7 +197,7 @@ fn folder(
     Ok(disk)
 }
 
-/// What is found in such a folder.
+/// What is found in a folder of these segments.
 fn found(alloc: Global, segments: [&[u64]; 2], snapshot: bool, change: Change) -> Option<Found> {
     let mut disk = folder(alloc, segments, snapshot, change).ok()?;
     let found = match look_at_tail(alloc, &mut disk).ok()? {

@@ -1,4 +1,4 @@
-use Rattle.std.proofs.Common.{◌∙◌, arith}
+use Rattle.std.proofs.Common.{arith}
 use Rattle.folder_tail.proofs.Searching.{nothing_left}
 use Rattle.folder_tail.proofs.search.later_batch.Goals as goal
 

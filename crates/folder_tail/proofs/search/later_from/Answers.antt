@@ -1,5 +1,5 @@
 use Rattle.std.proofs.Common.{sym, ◌∙◌, arith}
-use Rattle.folder_tail.proofs.Searching.{came_none, came_more, came_found, came_all}
+use Rattle.folder_tail.proofs.Searching.{came_more, came_found, came_all}
 use Rattle.folder_tail.proofs.search.later_from.Goals as goal
 
 pub words-preserved : goal.words-preserved
