@@ -1,5 +1,5 @@
 -- Who speaks on a connection, by its first bytes, and which peers are taken.
-use Rattle.std.specs.Prelude.{◌≡◌, ◌≢◌, ◌+◌, ◌*◌, ℕ, Bool, true, false, List, drop, take, slice_index, Unit}
+use Rattle.std.specs.Prelude.{◌≡◌, ◌≢◌, ◌+◌, ◌*◌, ℕ, Bool, true, false, List, drop, take, slice_index}
 use Rattle.std.specs.List.{list_any}
 use Rattle.peer_secret.specs.Same.{same_bytes}
 use Rattle.serve_places.specs.Pieces.{words_in}

@@ -508,12 +508,19 @@ impl<S: ReadyStream> Places<S> {
     {
         self.now = now;
         for at in 0..self.places.len() {
-            if self.has_idle_transaction(at) {
-                self.idle_count = self.idle_count.saturating_add(1);
-                self.end(at);
-            } else if self.is_late(at) {
-                self.end(at);
-            }
+            self.end_late(at);
+        }
+    }
+
+    /// Closes a socket whose time is over.
+    fn end_late(&mut self, at: usize)
+        ensures numbers { self.new.numbers ≡ self.old.numbers }
+    {
+        if self.has_idle_transaction(at) {
+            self.idle_count = self.idle_count.saturating_add(1);
+            self.end(at);
+        } else if self.is_late(at) {
+            self.end(at);
         }
     }
 
