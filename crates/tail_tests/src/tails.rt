@@ -117,7 +117,7 @@ enum Change {
 
 /// What is found, without the number of the segment.
 #[derive(Clone, Copy, Debug, PartialEq, Eq)]
-enum Found {
+enum SegmentEnd {
     /// It reads to its end.
     Whole,
     /// It is torn after as many bytes.
@@ -198,13 +198,18 @@ fn folder(
 }
 
 /// What is found in a folder of these segments.
-fn found(alloc: Global, segments: [&[u64]; 2], snapshot: bool, change: Change) -> Option<Found> {
+fn found(
+    alloc: Global,
+    segments: [&[u64]; 2],
+    snapshot: bool,
+    change: Change,
+) -> Option<SegmentEnd> {
     let mut disk = folder(alloc, segments, snapshot, change).ok()?;
     let found = match look_at_tail(alloc, &mut disk).ok()? {
-        Tail::Whole => Found::Whole,
-        Tail::Torn(last) => Found::Torn(last.good),
-        Tail::Damaged(last, place) => Found::Damaged(last.good, place),
-        Tail::Unknown(2, _) => Found::Unknown,
+        Tail::Whole => SegmentEnd::Whole,
+        Tail::Torn(last) => SegmentEnd::Torn(last.good),
+        Tail::Damaged(last, place) => SegmentEnd::Damaged(last.good, place),
+        Tail::Unknown(2, _) => SegmentEnd::Unknown,
         Tail::Unknown(_, _) => return None,
     };
     Some(found)
@@ -216,11 +221,11 @@ fn after_load(
     segments: [&[u64]; 2],
     snapshot: bool,
     change: Change,
-) -> Option<Found> {
+) -> Option<SegmentEnd> {
     let mut disk = folder(alloc, segments, snapshot, change).ok()?;
     let (_store, _kept) = Store::load(alloc, &mut disk).ok()?;
     match look_at_tail(alloc, &mut disk).ok()? {
-        Tail::Whole => Some(Found::Whole),
+        Tail::Whole => Some(SegmentEnd::Whole),
         _ => None,
     }
 }
@@ -229,11 +234,11 @@ fn after_load(
 const SEGMENTS: &[(&[u64], usize, u64)] = &[(OLD, 120, 80), (NEW, 136, 88), (LATEST, 136, 88)];
 
 /// What is found where the byte at a place was changed.
-fn flipped(place: usize, second: u64) -> Found {
+fn flipped(place: usize, second: u64) -> SegmentEnd {
     match place {
-        0..8 => Found::Unknown,
-        _ if (place as u64) < second => Found::Damaged(8, second),
-        _ => Found::Torn(second),
+        0..8 => SegmentEnd::Unknown,
+        _ if (place as u64) < second => SegmentEnd::Damaged(8, second),
+        _ => SegmentEnd::Torn(second),
     }
 }
 
@@ -248,13 +253,13 @@ fn each_changed_byte_is_damage_unless_it_is_in_the_last_batch(rt: HostRuntime) {
 }
 
 /// What is found where only as many bytes are left.
-fn cut(length: usize, second: u64) -> Found {
+fn cut(length: usize, second: u64) -> SegmentEnd {
     match length {
-        0..8 => Found::Torn(0),
-        8 => Found::Whole,
-        _ if (length as u64) < second => Found::Torn(8),
-        _ if length as u64 == second => Found::Whole,
-        _ => Found::Torn(second),
+        0..8 => SegmentEnd::Torn(0),
+        8 => SegmentEnd::Whole,
+        _ if (length as u64) < second => SegmentEnd::Torn(8),
+        _ if length as u64 == second => SegmentEnd::Whole,
+        _ => SegmentEnd::Torn(second),
     }
 }
 
@@ -269,20 +274,40 @@ fn a_segment_cut_at_every_byte_is_torn(rt: HostRuntime) {
 }
 
 /// Segments, whether there is a snapshot up to index 7, a change, and what is found.
-const ROWS: &[([&[u64]; 2], bool, Change, Found)] = &[
-    ([&[], LATEST], true, Change::None, Found::Whole),
-    ([&[], LATEST], true, Change::Zeros(1), Found::Torn(136)),
-    ([&[], LATEST], true, Change::Zeros(4096), Found::Torn(136)),
-    ([&[], LOST], true, Change::None, Found::Damaged(8, 24)),
-    ([OLD, LOST], true, Change::None, Found::Damaged(8, 24)),
-    ([&[], LOST], false, Change::None, Found::Torn(8)),
-    ([&[], FAR], false, Change::None, Found::Torn(8)),
-    ([&[], LATEST], true, Change::Format(1), Found::Damaged(8, 8)),
-    ([&[], NEW], true, Change::Format(3), Found::Damaged(8, 8)),
-    ([&[], OLD], true, Change::Format(2), Found::Damaged(8, 8)),
-    ([&[], &[4]], true, Change::None, Found::Torn(0)),
-    ([&[], &[4, 0]], true, Change::None, Found::Unknown),
-    ([OLD, &[0, 0]], true, Change::None, Found::Unknown),
+const ROWS: &[([&[u64]; 2], bool, Change, SegmentEnd)] = &[
+    ([&[], LATEST], true, Change::None, SegmentEnd::Whole),
+    ([&[], LATEST], true, Change::Zeros(1), SegmentEnd::Torn(136)),
+    (
+        [&[], LATEST],
+        true,
+        Change::Zeros(4096),
+        SegmentEnd::Torn(136),
+    ),
+    ([&[], LOST], true, Change::None, SegmentEnd::Damaged(8, 24)),
+    ([OLD, LOST], true, Change::None, SegmentEnd::Damaged(8, 24)),
+    ([&[], LOST], false, Change::None, SegmentEnd::Torn(8)),
+    ([&[], FAR], false, Change::None, SegmentEnd::Torn(8)),
+    (
+        [&[], LATEST],
+        true,
+        Change::Format(1),
+        SegmentEnd::Damaged(8, 8),
+    ),
+    (
+        [&[], NEW],
+        true,
+        Change::Format(3),
+        SegmentEnd::Damaged(8, 8),
+    ),
+    (
+        [&[], OLD],
+        true,
+        Change::Format(2),
+        SegmentEnd::Damaged(8, 8),
+    ),
+    ([&[], &[4]], true, Change::None, SegmentEnd::Torn(0)),
+    ([&[], &[4, 0]], true, Change::None, SegmentEnd::Unknown),
+    ([OLD, &[0, 0]], true, Change::None, SegmentEnd::Unknown),
 ];
 
 #[test]
@@ -292,7 +317,7 @@ fn what_follows_whole_batches_is_judged_by_its_bytes(rt: HostRuntime) {
         assert_eq!(rt; seen, Some(wanted));
         assert_eq!(rt;
             after_load(rt.alloc(), segments, snapshot, change),
-            Some(Found::Whole)
+            Some(SegmentEnd::Whole)
         );
     }
 }
