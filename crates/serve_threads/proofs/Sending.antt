@@ -8,7 +8,6 @@ use Rattle.serve_threads.specs.contracts.channel.QueuedEvent as sent
 use Rattle.serve_threads.specs.contracts.credit.Credit as credit
 use Rattle.serve_threads.specs.contracts.credit.Debit as debit
 use Rattle.serve_threads.specs.contracts.lines.LineQueue as lines
-use Rattle.serve_threads.specs.contracts.leader_contact.LeaderContact as contact
 use Rattle.serve_threads.specs.contracts.peer.Peer as peer
 use Rattle.serve_threads.specs.contracts.ticker.Ticker as ticker
 use Rattle.serve_threads.specs.contracts.reader.ReaderWorker as reader
@@ -28,10 +27,6 @@ credit_send = search (sendable, crosses) depth 60 fits 5000
 debit_send : IsSend debit.the_row
 debit_send = search (sendable, crosses) depth 60 fits 5000
 
--- what is known of leadership
-contact_send : IsSend contact.the_row
-contact_send = search (sendable, crosses) depth 60 fits 5000
-
 -- the lines that wait
 pub lines_send : IsSend lines.the_row
 lines_send = search (sendable, crosses) depth 60 fits 5000
@@ -47,7 +42,7 @@ pub peer_send : (R D L : RattleType) → IsSend R → IsSend D → IsSend L → 
 peer_send R D L r d l = search (sendable, crosses) depth 60 fits 5000
 
 pub ticker_send : (R T : RattleType) → IsSend R → IsSend T → IsSend (ticker.the_field R T).row
-ticker_send R T r t = let p : IsSend (post.the_field R T).row = post_send R T r t in search (sendable, crosses, contact_send) depth 60 fits 5000
+ticker_send R T r t = let p : IsSend (post.the_field R T).row = post_send R T r t in search (sendable, crosses) depth 60 fits 5000
 
 pub reader_send : (R Q W T : RattleType) → IsSend R → IsSend Q → IsSend W → IsSend T → IsSend (reader.the_field R Q W T).row
 reader_send R Q W T r q w t = let p : IsSend (post.the_field R T).row = post_send R T r t in search (sendable, crosses) depth 60 fits 5000
