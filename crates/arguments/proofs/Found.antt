@@ -34,6 +34,7 @@ pub check_simple : (app : App) → app ≡ check_app → is_simple_and_free app 
 check_simple app e = subst (λ (a : App). is_simple_and_free a ≡ true) (sym e) refl
 
 pub serve_simple : (app : App) → app ≡ serve_app → is_simple_and_free app ≡ true
+unfolding serve_app
 serve_simple app e = subst (λ (a : App). is_simple_and_free a ≡ true) (sym e) refl
 
 first_holds : (a b : Bool) → (a && b) ≡ true → a ≡ true

@@ -30,6 +30,7 @@ number_fits low high None = tt
 number_fits low high (Some word) = within_fits low high (number_below (2 ^ 32) word)
 
 address_fits : (text : Text) → is_address text ≡ true → IsAddress text
+unfolding is_address
 address_fits text e =
     let parts = and_parts (nat_le (length text) 255) (not (has_nul text) && (is_at_host text || is_at_brackets text)) e in
     let more = and_parts (not (has_nul text)) (is_at_host text || is_at_brackets text) parts.1 in

@@ -53,7 +53,7 @@ served_options_app = plain_app (codes "serve")
     flag_rule (codes "new") ∷ option_rule (codes "secret") ∷ [])
 
 -- [--engine E] [--events K] [--idle-transaction S] [--new] [--secret FILE] ID LISTEN [PEER]..
-abbrev pub serve_app : App
+unfoldable pub serve_app : App
 serve_app = plain_app (codes "serve")
     (option_rule (codes "engine") ∷ option_rule (codes "events") ∷ option_rule (codes "idle-transaction") ∷
     flag_rule (codes "new") ∷ option_rule (codes "secret") ∷ one_rule (codes "ID") ∷

@@ -44,22 +44,22 @@ abbrev pub is_digit : ℕ → Bool
 is_digit byte = is_within 48 57 byte
 
 -- one of `A-Za-z0-9._-`
-abbrev pub is_host_byte : ℕ → Bool
+unfoldable pub is_host_byte : ℕ → Bool
 is_host_byte byte = is_within 97 122 byte || (is_within 65 90 byte || (is_digit byte || (byte == 45 || (byte == 46 || byte == 95))))
 
 -- a digit in base 16, `:`, `.` or `%`
-abbrev pub is_bracket_byte : ℕ → Bool
+unfoldable pub is_bracket_byte : ℕ → Bool
 is_bracket_byte byte = is_within 97 102 byte || (is_within 65 70 byte || (is_digit byte || (byte == 58 || (byte == 46 || byte == 37))))
 
 -- the name of a host, or an IPv4 address
-abbrev pub is_host : Text → Bool
+unfoldable pub is_host : Text → Bool
 is_host text = nat_le 1 (length text) && list_all is_host_byte text
 
 abbrev pub is_colon : ℕ → Bool
 is_colon byte = byte == 58
 
 -- HOST:PORT
-abbrev pub is_at_host : Text → Bool
+unfoldable pub is_at_host : Text → Bool
 is_at_host text =
     cond (nat_lt (position_or_len is_colon text) (length text)) (is_host (before_first is_colon text) && is_port (after_first is_colon text)) false
 
@@ -79,11 +79,11 @@ abbrev pub is_close : ℕ → Bool
 is_close byte = byte == 93
 
 -- [IPV6]:PORT
-abbrev pub is_at_brackets : Text → Bool
+unfoldable pub is_at_brackets : Text → Bool
 is_at_brackets text =
     cond (nat_lt (position_or_len is_close text) (length text))
     (is_bracketed (after_byte 91 (before_first is_close text)) && is_behind_brackets (after_byte 58 (after_first is_close text))) false
 
 -- an address is a host and a port, in at most 255 bytes
-abbrev pub is_address : Text → Bool
+unfoldable pub is_address : Text → Bool
 is_address text = nat_le (length text) 255 && (not (has_nul text) && (is_at_host text || is_at_brackets text))

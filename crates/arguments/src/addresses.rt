@@ -31,6 +31,7 @@ fn is_digit(byte: u8) -> bool
 }
 
 /// Whether a byte may be in the name of a host.
+#[tactic(auto, unfolding(crate::specs::Values::is_host_byte))]
 fn is_host_byte(byte: u8) -> bool
     ensures { result ≡ is_host_byte byte }
 {
@@ -40,6 +41,7 @@ fn is_host_byte(byte: u8) -> bool
 }
 
 /// Whether a byte may be in an IPv6 address, with its scope.
+#[tactic(auto, unfolding(crate::specs::Values::is_bracket_byte))]
 fn is_bracket_byte(byte: u8) -> bool
     ensures { result ≡ is_bracket_byte byte }
 {
@@ -49,6 +51,7 @@ fn is_bracket_byte(byte: u8) -> bool
 }
 
 /// Whether bytes are the name of a host, or an IPv4 address.
+#[tactic(auto, unfolding(crate::specs::Values::is_host))]
 fn is_host(text: &[u8]) -> bool
     ensures { result ≡ is_host text.now }
 {
@@ -56,6 +59,7 @@ fn is_host(text: &[u8]) -> bool
 }
 
 /// Whether a text is HOST:PORT.
+#[tactic(auto, unfolding(crate::specs::Values::is_at_host))]
 fn is_at_host(text: &str) -> bool
     ensures { result ≡ is_at_host text.now }
 {
@@ -97,6 +101,7 @@ fn is_behind_brackets(text: &[u8]) -> bool
 }
 
 /// Whether a text is [IPV6]:PORT.
+#[tactic(auto, unfolding(crate::specs::Values::is_at_brackets))]
 fn is_at_brackets(text: &str) -> bool
     ensures { result ≡ is_at_brackets text.now }
 {
@@ -109,6 +114,7 @@ fn is_at_brackets(text: &str) -> bool
 
 /// Whether a text is an address: a host and a port, in at most 255 bytes. A host is a name of bytes
 /// `A-Za-z0-9._-`, or an IPv4 address, or an IPv6 address in brackets.
+#[tactic(auto, unfolding(crate::specs::Values::is_address))]
 pub(crate) fn is_address(text: &WireText) -> bool
     ensures { result ≡ is_address text.now }
 {

@@ -107,6 +107,7 @@ fn served_options<'a>(alloc: Global) -> Result<Command<'a>, AllocError>
 }
 
 /// The command of the arguments after `serve`.
+#[tactic(auto, unfolding(crate::specs::Commands::serve_app))]
 pub(crate) fn serve_command<'a>(alloc: Global) -> Result<Command<'a>, AllocError>
     ensures { IfOk result (λ command. app_of command ≡ serve_app) }
 {
