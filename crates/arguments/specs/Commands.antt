@@ -46,6 +46,11 @@ check_app = plain_app (codes "check") []
 abbrev pub generate_app : App
 generate_app = plain_app (codes "gen") (one_rule (codes "NUMBER") ∷ one_rule (codes "COUNT") ∷ flag_rule (codes "run") ∷ [])
 
+-- [--engine E] [--events K] [--idle-transaction S]
+abbrev pub served_numbers_app : App
+served_numbers_app = plain_app (codes "serve")
+    (option_rule (codes "engine") ∷ option_rule (codes "events") ∷ option_rule (codes "idle-transaction") ∷ [])
+
 -- [--engine E] [--events K] [--idle-transaction S] [--new] [--secret FILE]
 abbrev pub served_options_app : App
 served_options_app = plain_app (codes "serve")

@@ -50,12 +50,26 @@ fn is_bracket_byte(byte: u8) -> bool
             || (is_digit(byte) || (byte == b':' || (byte == b'.' || byte == b'%'))))
 }
 
+/// Whether all bytes may be in the name of a host.
+fn are_host_bytes(text: &[u8]) -> bool
+    ensures { result ≡ list_all is_host_byte text.now }
+{
+    text.iter().all(|byte| is_host_byte(*byte))
+}
+
+/// Whether all bytes may be in an IPv6 address.
+fn are_bracket_bytes(text: &[u8]) -> bool
+    ensures { result ≡ list_all is_bracket_byte text.now }
+{
+    text.iter().all(|byte| is_bracket_byte(*byte))
+}
+
 /// Whether bytes are the name of a host, or an IPv4 address.
 #[tactic(auto, unfolding(crate::specs::Values::is_host))]
 fn is_host(text: &[u8]) -> bool
     ensures { result ≡ is_host text.now }
 {
-    text.len() >= 1 && text.iter().all(|byte| is_host_byte(*byte))
+    text.len() >= 1 && are_host_bytes(text)
 }
 
 /// Whether a text is HOST:PORT.
@@ -85,7 +99,7 @@ fn is_bracketed(text: &[u8]) -> bool
     ensures { result ≡ is_bracketed (after_byte 91 text.now) }
 {
     match after_byte(b'[', text) {
-        Some(inside) => inside.len() >= 1 && inside.iter().all(|byte| is_bracket_byte(*byte)),
+        Some(inside) => inside.len() >= 1 && are_bracket_bytes(inside),
         None => false,
     }
 }

@@ -205,7 +205,6 @@ fn serve_in(alloc: Global, matches: &ArgMatches<'_>) -> Result<Option<Serve>, Al
 /// a number of 1 to 4,294,967,295, the greatest where it isn't there. `--idle-transaction S`, with a number of 0 to 86,400, closes the
 /// connection of a client that has a transaction and says nothing for S seconds; it is 60 without the option, and 0 is for any time.
 /// `--new` makes a new node. `--secret FILE` names a file of the cluster's secret, at which `read_secret` looks.
-#[tactic(auto, using(crate::proofs::Found::serve_simple))]
 pub fn read_serve(alloc: Global, words: &[String]) -> Result<Option<Serve>, AllocError>
     ensures found { IfOk result (λ served. served ≡ serve_found (read_by serve_app (map string_bytes words.now))) }
     ensures fit { IfOk result (λ served. IfSome served IsServable) }
@@ -217,7 +216,6 @@ pub fn read_serve(alloc: Global, words: &[String]) -> Result<Option<Serve>, Allo
 }
 
 /// The file of the cluster's secret that the arguments after `serve` name, if they name one.
-#[tactic(auto, using(crate::proofs::Found::serve_simple))]
 pub fn read_secret(alloc: Global, words: &[String]) -> Result<Option<WireText>, AllocError>
     ensures { IfOk result (λ file. file ≡ secret_found (read_by serve_app (map string_bytes words.now))) }
 {
