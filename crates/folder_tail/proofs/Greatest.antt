@@ -47,7 +47,8 @@ takes_none name (Some file) other names greatest = (
   ),
 )
 
-pub takes_other : (name text : Text) (number : Option ℕ) (best : Option SegmentFile) → text ≡ name → number ≡ None → IsNumberOf text number → TakesName name best best
+pub takes_other : (name text : Text) (number : Option ℕ) (best : Option SegmentFile) → text ≡ name → number ≡ None → IsNumberOf text number →
+    TakesName name best best
 takes_other name text number best same none is = takes_none name best (subst (λ (t : Text). IsNumberOf t None) same (subst (IsNumberOf text) none is))
 
 pub number_named : (name text : Text) (number : Option ℕ) (n : ℕ) → text ≡ name → number ≡ Some n → IsNumberOf text number → IsNumberOf name (Some n)
@@ -60,7 +61,8 @@ number_is m n e = segment_is (no_two_alike (Segment m) (Segment n) e)
     segment_is q = cc
 
 -- the name of a segment whose number is greater
-pub takes_greater : (name : Text) (n : ℕ) (best : Option SegmentFile) (now : SegmentFile) → IsNumberOf name (Some n) → now.number ≡ n → now.name ≡ name → is_after n best ≡ true → TakesName name best (Some now)
+pub takes_greater : (name : Text) (n : ℕ) (best : Option SegmentFile) (now : SegmentFile) → IsNumberOf name (Some n) → now.number ≡ n → now.name ≡ name →
+    is_after n best ≡ true → TakesName name best (Some now)
 takes_greater name n best now is number same after names greatest =
     let small : now.number < 10000000000000000 = omega (arith, number, is.0) in
     let named : now.name ≡ file_name (Segment now.number) = same ∙ is.1 ∙ ap (λ (k : ℕ). file_name (Segment k)) (sym number) in (
@@ -74,7 +76,8 @@ takes_greater name n best now is number same after names greatest =
       ),
     )
   where
-    less : (best : Option SegmentFile) (m : ℕ) → m < 10000000000000000 → Among (file_name (Segment m)) names → is_after n best ≡ true → IsGreatest names best → m ≤ n
+    less : (best : Option SegmentFile) (m : ℕ) → m < 10000000000000000 → Among (file_name (Segment m)) names → is_after n best ≡ true →
+        IsGreatest names best → m ≤ n
     less None m digits b after greatest = absurd (greatest m digits b)
     less (Some x) m digits b after greatest = let l = greatest.1.1 m digits b in let k : x.number < n = ltb-true _ _ after in omega (arith, l, k)
 
@@ -97,7 +100,8 @@ takes_less name n (Some x) is after names greatest = (
 
 -- ---- all names, one after the other
 
-pub greatest_next : (names : List Text) (i : ℕ) (name : Text) (old new : Option SegmentFile) → i < length names → name ≡ get_or names i name → IsGreatest (take i names) old → TakesName name old new → IsGreatest (take (i + 1) names) new
+pub greatest_next : (names : List Text) (i : ℕ) (name : Text) (old new : Option SegmentFile) → i < length names → name ≡ get_or names i name →
+    IsGreatest (take i names) old → TakesName name old new → IsGreatest (take (i + 1) names) new
 greatest_next names i name old new lt is greatest takes =
     let one : take i names ++ name ∷ [] ≡ take (i + 1) names = ap (λ (x : Text). take i names ++ x ∷ []) is ∙ sym (take_more names i name lt) in
     subst (λ (xs : List Text). IsGreatest xs new) one (takes (take i names) greatest)

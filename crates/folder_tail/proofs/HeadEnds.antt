@@ -13,7 +13,8 @@ use Rattle.store_format.proofs.Local.{word_local, heads_local}
 use Rattle.folder_tail.specs.declared.heads.BatchHead.{BatchHead}
 use Rattle.folder_tail.specs.Heads.{padded, contents_end, batch_head_at}
 
-left_long : (at : ℕ) (bytes : List ℕ) (n : ℕ) → n ≤ length bytes → (past n (record { at = at; bytes = bytes })).at + length (past n (record { at = at; bytes = bytes })).bytes ≡ at + length bytes
+left_long : (at : ℕ) (bytes : List ℕ) (n : ℕ) → n ≤ length bytes →
+    (past n (record { at = at; bytes = bytes })).at + length (past n (record { at = at; bytes = bytes })).bytes ≡ at + length bytes
 left_long at bytes n h = let l : length (drop n bytes) ≡ length bytes - n = length-drop n bytes in omega (arith, l, h)
 
 -- what is read and what is left is what was there
@@ -73,7 +74,8 @@ contents_push at [] h = refl
 contents_push at (x ∷ hs) h = contents_push (min (at + padded x.size) 18446744073709551615) hs h
 
 -- with one head more
-pub contents_next : (hs : List EntryHead) (i at end : ℕ) (d : EntryHead) → i < length hs → end ≡ contents_end at (take i hs) → min (end + padded (get_or hs i d).size) 18446744073709551615 ≡ contents_end at (take (i + 1) hs)
+pub contents_next : (hs : List EntryHead) (i at end : ℕ) (d : EntryHead) → i < length hs → end ≡ contents_end at (take i hs) →
+    min (end + padded (get_or hs i d).size) 18446744073709551615 ≡ contents_end at (take (i + 1) hs)
 contents_next hs i at end d lt so_far =
     ap (λ (n : ℕ). min (n + padded (get_or hs i d).size) 18446744073709551615) so_far ∙ sym (contents_push at (take i hs) (get_or hs i d)) ∙ ap (contents_end at) (sym (take_more hs i d lt))
 

@@ -20,7 +20,8 @@ pub record HasHead (head : Option BatchHead) (first : ℕ) : Type 0 where
   pub is : head ≡ Some whole
   pub first_is : whole.first ≡ first
 
-body_reads : (format : ℕ) (bytes : List ℕ) (u : Unread) (x : Result (Body × Unread) WordFault) → body_at u ≡ x → (read_of format bytes x).size ≢ 0 → HasHead (head_of format bytes (batch_head_at u)) (read_of format bytes x).batch.first
+body_reads : (format : ℕ) (bytes : List ℕ) (u : Unread) (x : Result (Body × Unread) WordFault) → body_at u ≡ x → (read_of format bytes x).size ≢ 0 →
+    HasHead (head_of format bytes (batch_head_at u)) (read_of format bytes x).batch.first
 body_reads format bytes u (Err fault) e ne = absurd (ne refl)
 body_reads format bytes u (Ok x) e ne = elim (cases_Bool (is_sound format bytes x.0 x.1.at)) [
   | inr n ↦ absurd (ne (ap (λ (r : Read). r.size) (cond-false _ (record { batch = record { first = x.0.first; entries = x.0.entries }; size = sums_size format + x.1.at }) no_read n)))
@@ -75,7 +76,8 @@ some_is : (a b : BatchHead) → Some a ≡ Some b → a ≡ b
 some_is a b q = cc
 
 -- the first index is too far
-pub too_far : (format next lost : ℕ) (bytes : List ℕ) (head : BatchHead) → head_in format bytes ≡ Some head → lost < head.first - next → continues format next lost bytes ≡ false
+pub too_far : (format next lost : ℕ) (bytes : List ℕ) (head : BatchHead) → head_in format bytes ≡ Some head → lost < head.first - next →
+    continues format next lost bytes ≡ false
 unfolding continues
 too_far format next lost bytes head e far = no_size (batch_in format bytes).size _ (λ ne.
     let h = batch_head format bytes ne in
@@ -100,7 +102,8 @@ and_size zero b h = elim (cases_Bool (nat_lt 0 0)) [
 and_size (suc n) b h = ap (λ (x : Bool). nat_lt 0 (suc n) && x) (h (λ q. absurd (omega (arith, q)))) ∙ and_true (nat_lt 0 (suc n))
 
 -- the head of a batch whose first index isn't too far
-pub near : (format next lost : ℕ) (bytes : List ℕ) (head : BatchHead) (found : Bool) → head_in format bytes ≡ Some head → head.first - next ≤ lost → found ≡ nat_lt 0 (batch_in format bytes).size → found ≡ continues format next lost bytes
+pub near : (format next lost : ℕ) (bytes : List ℕ) (head : BatchHead) (found : Bool) → head_in format bytes ≡ Some head → head.first - next ≤ lost →
+    found ≡ nat_lt 0 (batch_in format bytes).size → found ≡ continues format next lost bytes
 unfolding continues
 near format next lost bytes head found e low is = is ∙ sym (and_size (batch_in format bytes).size _ (λ ne.
     let h = batch_head format bytes ne in
@@ -108,7 +111,8 @@ near format next lost bytes head found e low is = is ∙ sym (and_size (batch_in
     le-leb ((batch_in format bytes).batch.first - next) lost (omega (arith, same, low))))
 
 -- whether one reads
-pub some_batch : (format : ℕ) (bytes : List ℕ) (found : Option FoundBatch) (b : Bool) → read_of_found found ≡ batch_in format bytes → MatchOption found (Unit {0}) (λ x. 0 < x.size) → b ≡ is_some found → b ≡ nat_lt 0 (batch_in format bytes).size
+pub some_batch : (format : ℕ) (bytes : List ℕ) (found : Option FoundBatch) (b : Bool) → read_of_found found ≡ batch_in format bytes →
+    MatchOption found (Unit {0}) (λ x. 0 < x.size) → b ≡ is_some found → b ≡ nat_lt 0 (batch_in format bytes).size
 some_batch format bytes None b is some e =
     let size : 0 ≡ (batch_in format bytes).size = ap (λ (r : Read). r.size) is in
     e ∙ elim (cases_Bool (nat_lt 0 (batch_in format bytes).size)) [

@@ -36,7 +36,8 @@ pub record Came (format next at from : ℕ) (bytes : List ℕ) (place : ℕ) : T
 pub came_none : (format next at from : ℕ) (bytes : List ℕ) → Came format next at from bytes from
 came_none format next at from bytes = record { words = 0; is = omega arith; before = λ k l. absurd (omega (arith, l)) }
 
-pub came_more : (format next at from : ℕ) (bytes : List ℕ) (place : ℕ) → Came format next at from bytes place → continues_at format next at bytes place ≡ false → Came format next at from bytes (place + 8)
+pub came_more : (format next at from : ℕ) (bytes : List ℕ) (place : ℕ) → Came format next at from bytes place →
+    continues_at format next at bytes place ≡ false → Came format next at from bytes (place + 8)
 came_more format next at from bytes place c none = record {
   words = suc c.words;
   is = let e : place ≡ from + 8 * c.words = c.is in omega (arith, e);
@@ -48,10 +49,12 @@ came_more format next at from bytes place c none = record {
   ];
 }
 
-pub came_found : (format next at from : ℕ) (bytes : List ℕ) (place : ℕ) → Came format next at from bytes place → continues_at format next at bytes place ≡ true → LaterFrom format next at from bytes (Some place)
+pub came_found : (format next at from : ℕ) (bytes : List ℕ) (place : ℕ) → Came format next at from bytes place →
+    continues_at format next at bytes place ≡ true → LaterFrom format next at from bytes (Some place)
 came_found format next at from bytes place c is = (c.words, (c.is, is))
 
-pub came_all : (format next at from : ℕ) (bytes : List ℕ) (place : ℕ) → Came format next at from bytes place → length bytes ≤ place → LaterFrom format next at from bytes None
+pub came_all : (format next at from : ℕ) (bytes : List ℕ) (place : ℕ) → Came format next at from bytes place → length bytes ≤ place →
+    LaterFrom format next at from bytes None
 came_all format next at from bytes place c end = λ k. elim (cases_lt k c.words) [
   | inl less ↦ c.before k less
   | inr more ↦
@@ -63,7 +66,8 @@ came_all format next at from bytes place c end = λ k. elim (cases_lt k c.words)
 pub all_passed : (format next at from : ℕ) (bytes : List ℕ) → length bytes ≤ from → LaterFrom format next at from bytes None
 all_passed format next at from bytes end = λ k. past_end format next at bytes (from + 8 * k) (omega (arith, end))
 
-pub nothing_left : (format next at : ℕ) (bytes rest : List ℕ) (head : Option BatchHead) (size : ℕ) → at ≤ length bytes → rest ≡ drop at bytes → head ≡ head_in format rest → size ≡ min (passed_over format head) 18446744073709551615 → length rest ≤ size → Later format next at bytes None
+pub nothing_left : (format next at : ℕ) (bytes rest : List ℕ) (head : Option BatchHead) (size : ℕ) → at ≤ length bytes → rest ≡ drop at bytes →
+    head ≡ head_in format rest → size ≡ min (passed_over format head) 18446744073709551615 → length rest ≤ size → Later format next at bytes None
 nothing_left format next at bytes rest head size within is head_is size_is end =
     let long : length rest ≡ length bytes - at = ap length is ∙ length-drop at bytes in
     let over : passed_over format head ≡ passed_over format (head_in format (drop at bytes)) = ap (passed_over format) (head_is ∙ ap (head_in format) is) in

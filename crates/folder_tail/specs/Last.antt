@@ -25,7 +25,8 @@ IsNamed (Some file) = (file.number < 10000000000000000) × (file.name ≡ file_n
 abbrev pub IsGreatest : List (List ℕ) → Option SegmentFile → Type 0
 IsGreatest names None = (n : ℕ) → n < 10000000000000000 → Among (file_name (Segment n)) names → ⊥
 IsGreatest names (Some file) =
-    IsNamed (Some file) × (Among (file_name (Segment file.number)) names × ((n : ℕ) → n < 10000000000000000 → Among (file_name (Segment n)) names → n ≤ file.number))
+    IsNamed (Some file) × (Among (file_name (Segment file.number)) names ×
+    ((n : ℕ) → n < 10000000000000000 → Among (file_name (Segment n)) names → n ≤ file.number))
 
 -- one name more
 abbrev pub TakesName : List ℕ → Option SegmentFile → Option SegmentFile → Type 0

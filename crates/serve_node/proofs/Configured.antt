@@ -15,7 +15,8 @@ use Rattle.serve_node.specs.Named.{address_in, address_of, voter_at, voters_to, 
 
 -- ---- ids ascend
 
-below_more : (n m : ℕ) (xs ys : List Server) → n ≤ m → AllByRecursion (λ (s : Server). s.id ≤ n) xs → AllByRecursion (λ (s : Server). s.id ≤ m) ys → AllByRecursion (λ (s : Server). s.id ≤ m) (xs ++ ys)
+below_more : (n m : ℕ) (xs ys : List Server) → n ≤ m → AllByRecursion (λ (s : Server). s.id ≤ n) xs → AllByRecursion (λ (s : Server). s.id ≤ m) ys →
+    AllByRecursion (λ (s : Server). s.id ≤ m) (xs ++ ys)
 below_more n m [] ys le h k = k
 below_more n m (x ∷ xs) ys le h k = let low : x.id ≤ n = h.0 in (omega arith, below_more n m xs ys le h.1 k)
 
@@ -28,7 +29,8 @@ unfolding voters_to
 all_below words zero = tt
 all_below words (suc n) = below_more n (suc n) (voters_to words n) (voter_at (suc n) (address_of words (suc n))) (omega arith) (all_below words n) (voter_below (suc n) (address_of words (suc n)))
 
-ascend_more : (low n : ℕ) (xs : List Server) (o : Option (List ℕ)) → Ascend low xs → AllByRecursion (λ (s : Server). s.id ≤ n) xs → low ≤ n → Ascend low (xs ++ voter_at (suc n) o)
+ascend_more : (low n : ℕ) (xs : List Server) (o : Option (List ℕ)) → Ascend low xs → AllByRecursion (λ (s : Server). s.id ≤ n) xs → low ≤ n →
+    Ascend low (xs ++ voter_at (suc n) o)
 ascend_more low n [] None a h le = tt
 ascend_more low n [] (Some address) a h le = (omega arith, tt)
 ascend_more low n (x ∷ xs) o a h le = (a.0, ascend_more x.id n xs o a.1 h.1 h.0)
@@ -129,7 +131,8 @@ unfolding times one
 peers_have id [] = omega arith
 peers_have id (p ∷ ps) = by (p.id == id) (peers_have id ps)
   where
-    by : (b : Bool) → length (voter_at id (address_in id ps)) ≤ times id ps → length (voter_at id (cond b (Some p.address) (address_in id ps))) ≤ cond b 1 0 + times id ps
+    by : (b : Bool) → length (voter_at id (address_in id ps)) ≤ times id ps →
+        length (voter_at id (cond b (Some p.address) (address_in id ps))) ≤ cond b 1 0 + times id ps
     by true h = omega arith
     by false h = omega arith
 
@@ -190,10 +193,12 @@ pub none_yet : (words : Serve) (servers : List Server) → servers ≡ [] → se
 unfolding voters_to
 none_yet words servers e = e
 
-one_behind : (words : Serve) (n : ℕ) (before after : List Server) → before ≡ voters_to words n → after ≡ before ++ voter_at (suc n) (address_of words (suc n)) → after ≡ voters_to words (suc n)
+one_behind : (words : Serve) (n : ℕ) (before after : List Server) → before ≡ voters_to words n →
+    after ≡ before ++ voter_at (suc n) (address_of words (suc n)) → after ≡ voters_to words (suc n)
 unfolding voters_to
 one_behind words n before after e made = made ∙ ap (λ (xs : List Server). xs ++ voter_at (suc n) (address_of words (suc n))) e
 
-pub one_more : (words : Serve) (n : ℕ) (before after : List Server) → before ≡ voters_to words n → after ≡ before ++ voter_at (n + 1) (address_of words (n + 1)) → after ≡ voters_to words (n + 1)
+pub one_more : (words : Serve) (n : ℕ) (before after : List Server) → before ≡ voters_to words n →
+    after ≡ before ++ voter_at (n + 1) (address_of words (n + 1)) → after ≡ voters_to words (n + 1)
 one_more words n before after e made =
     subst (λ (m : ℕ). after ≡ before ++ voter_at m (address_of words m) → after ≡ voters_to words m) (sym (add-one n)) (one_behind words n before after e) made

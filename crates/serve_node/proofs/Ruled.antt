@@ -116,7 +116,8 @@ by_end ends.Internal files disk host = inr (inr refl)
 by_end ends.Spent files disk host = inl refl
 
 answers_well : {D E H : Type 0} (workers : ℕ) (done : H → HostCounts) (states after : Disk Text → Type 0) (runs : Node → LoopEnd → Type 0) (host : H) (old new : Surroundings D E) (end : ServeEnd)
-    (answer : Result Node StartFault) → StartsOver states after answer → Follows workers done runs answer host old new end → (d : Disk Text) → states d → IsSeen (folder d) → HasNode d → end ≢ ends.Files
+    (answer : Result Node StartFault) → StartsOver states after answer → Follows workers done runs answer host old new end → (d : Disk Text) → states d →
+    IsSeen (folder d) → HasNode d → end ≢ ends.Files
 answers_well workers done states after runs host old new end (Ok node) starts follows d was seen has = follows.0
 answers_well workers done states after runs host old new end (Err fault) starts follows d was seen has =
     let x = starts.each d was seen in
@@ -137,7 +138,8 @@ module _ {D E : Type 0} (tells : Bool) (states : D → Disk Text → Type 0) (fa
       RunsByRules tells states faults meaning kind told refused node disk new.disk old.engine new.engine old.events new.events None None words.events end
 
   -- a loop that took no event
-  none_ran : (words : Serve) (old new : Surroundings D E) (disk : D) (node : Node) → StaysSo (record old { disk = disk }) new → Ran words old new disk node loops.Closed
+  none_ran : (words : Serve) (old new : Surroundings D E) (disk : D) (node : Node) → StaysSo (record old { disk = disk }) new →
+      Ran words old new disk node loops.Closed
   unfolding Steps
   none_ran words old new disk node s = record {
     last = node;
@@ -151,7 +153,8 @@ module _ {D E : Type 0} (tells : Bool) (states : D → Disk Text → Type 0) (fa
     };
   }
 
-  went : {H : Type 0} (words : Serve) (done : H → HostCounts) (host : H) (old new : Surroundings D E) (end : ServeEnd) (disk : D) (node : Node) → StartsOver (states old.disk) (states disk) (Ok node) → IsNodeOf words node →
+  went : {H : Type 0} (words : Serve) (done : H → HostCounts) (host : H) (old new : Surroundings D E) (end : ServeEnd) (disk : D) (node : Node) →
+      StartsOver (states old.disk) (states disk) (Ok node) → IsNodeOf words node →
       GoesOn (workers_of words) done (Ran words old new disk node) host (record old { disk = disk }) new end →
       (first : Disk Text) → states old.disk first → IsSeen (folder first) →
       NodeServed (meaning (kind old.engine)) (kind old.engine) (told old.engine) words tells (states new.disk) old.events new.events end first
@@ -179,6 +182,7 @@ module _ {D E : Type 0} (tells : Bool) (states : D → Disk Text → Type 0) (fa
   by_answer words done host old new end disk (Err fault) starts is follows =
       no_start (meaning (kind old.engine)) (kind old.engine) (told old.engine) words tells (states old.disk) (states new.disk) old.events new.events end follows.0.left follows.0.taken (fault_ends fault end follows.1)
 
-  pub is_run : {H : Type 0} (words : Serve) (done : H → HostCounts) (host : H) (old new : Surroundings D E) (end : ServeEnd) → Started words done states (Ran words old new) host old new end →
+  pub is_run : {H : Type 0} (words : Serve) (done : H → HostCounts) (host : H) (old new : Surroundings D E) (end : ServeEnd) →
+      Started words done states (Ran words old new) host old new end →
       IsRunOfRules (meaning (kind old.engine)) (kind old.engine) (told old.engine) words tells (states old.disk) (states new.disk) old.events new.events end
   is_run words done host old new end s = by_answer words done host old new end s.disk s.answer s.starts s.is_node s.follows

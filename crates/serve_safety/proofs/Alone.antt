@@ -54,7 +54,8 @@ module _ (m : Meaning) (kind : EngineKind) (r : Run) (n : ℕ) (jobs : ℕ → O
   later_arrive (Comes message ∷ begins) more clients = absurd clients.0
   later_arrive (Compacts index ∷ begins) more clients = (tt, later_arrive begins more.1 clients.1)
 
-  all_arrive : (event : core.Event) (begins : List Begin) → AreOf event begins → ComesAlone m kind jobs event → AllByRecursion IsAlone begins → AllArrive m kind r n begins
+  all_arrive : (event : core.Event) (begins : List Begin) → AreOf event begins → ComesAlone m kind jobs event → AllByRecursion IsAlone begins →
+      AllArrive m kind r n begins
   all_arrive event [] are h clients = absurd are
   all_arrive event (begin ∷ begins) are h clients = (subst (λ (b : Begin). Arrives m kind r n b) (sym are.0) (first_arrives event h), later_arrive begins are.1 clients.1)
 
@@ -81,7 +82,8 @@ record Onward (m : Meaning) (kind : EngineKind) (setup : Setup) (n : ℕ) (past 
 
 module _ (m : Meaning) (kind : EngineKind) (setup : Setup) (n : ℕ) where
   -- one step
-  step_on : (past : List Event) (jobs : ℕ → Option Job) (old new : Running) (event : core.Event) (o : StepOutputs) (before after : Option Told) → Alone m kind setup n past jobs old →
+  step_on : (past : List Event) (jobs : ℕ → Option Job) (old new : Running) (event : core.Event) (o : StepOutputs) (before after : Option Told) →
+      Alone m kind setup n past jobs old →
       (s : AccountsForStep m kind setup old new event o before after) → ComesAlone m kind jobs event →
       (one : StepRuns m kind setup (run past) n new s.begins o before after) × Alone m kind setup n (past ++ one.leads.events) (handed_on jobs o.reads.items) new
   step_on past jobs old new event o before after a s comes =
@@ -99,10 +101,12 @@ module _ (m : Meaning) (kind : EngineKind) (setup : Setup) (n : ℕ) where
         },
       )
 
-  said_on : (xs : List _) (first : List (ℕ × Reply)) (rest : List (List (ℕ × Reply))) → (xs ++ map (spoken n) first) ++ map (spoken n) (joined rest) ≡ xs ++ map (spoken n) (joined (first ∷ rest))
+  said_on : (xs : List _) (first : List (ℕ × Reply)) (rest : List (List (ℕ × Reply))) →
+      (xs ++ map (spoken n) first) ++ map (spoken n) (joined rest) ≡ xs ++ map (spoken n) (joined (first ∷ rest))
   said_on xs first rest = append_assoc xs (map (spoken n) first) (map (spoken n) (joined rest)) ∙ ap (λ z. xs ++ z) (sym (map-append (spoken n) first (joined rest)))
 
-  all_on : (past : List Event) (jobs : ℕ → Option Job) (old new : Running) (before after : Option Told) (es : List core.Event) (os : List StepOutputs) → Alone m kind setup n past jobs old →
+  all_on : (past : List Event) (jobs : ℕ → Option Job) (old new : Running) (before after : Option Told) (es : List core.Event) (os : List StepOutputs) →
+      Alone m kind setup n past jobs old →
       PathSo m kind setup old before es os new after → Orderly m kind jobs es os → Onward m kind setup n past os new
   all_on past jobs old new before after [] [] a path order = record {
     happened = past;
@@ -135,7 +139,8 @@ module _ (m : Meaning) (kind : EngineKind) (setup : Setup) (n : ℕ) where
   abbrev start : List Server → Running → List Event
   start servers node = Starts n servers (seen node) ∷ []
 
-  started : (servers : List Server) (node : Running) → CompletesStart setup nothing_kept (seen node) servers → (seen node).raft.id ≡ n → node.has_links ≡ false → Alone m kind setup n (start servers node) no_jobs node
+  started : (servers : List Server) (node : Running) → CompletesStart setup nothing_kept (seen node) servers → (seen node).raft.id ≡ n →
+      node.has_links ≡ false → Alone m kind setup n (start servers node) no_jobs node
   unfolding run
   started servers node starts id links = record {
     hold = ((nothing_kept, refl, starts), tt);

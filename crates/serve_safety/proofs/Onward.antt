@@ -17,6 +17,7 @@ module _ (m : Meaning) (kind : EngineKind) (setup : Setup) where
   hold_join (x ∷ xs) ys r a b = (a.0, hold_join xs ys (happens r x) a.1 b)
 
   -- their clauses hold
-  pub hold_more : (past more : List Event) → AllHold m kind setup first_run past → AllHold m kind setup (run past) more → AllHold m kind setup first_run (past ++ more)
+  pub hold_more : (past more : List Event) → AllHold m kind setup first_run past → AllHold m kind setup (run past) more →
+      AllHold m kind setup first_run (past ++ more)
   unfolding run
   hold_more past more a b = hold_join past more first_run a b

@@ -24,7 +24,8 @@ use Rattle.serve_safety.specs.Paths.{PathSo, outs_of, EndsSo, ServesByRules}
 
 module _ {D E : Type 0} (tells : Bool) (states : D → Disk Text → Type 0) (faults : D → ℕ) (meaning : EngineKind → Meaning) (kind : E → EngineKind) (told : E → Option Told) (refused : E → ℕ) (opening : List Server) (k : EngineKind) where
   -- the steps are those of the rules, and the engine stays of its kind
-  path_of : (was : Seat D E) (events : List (Event Read)) (outs : List StepReport) (now : Seat D E) → kind was.engine ≡ k → Steps (MakesByRules tells states faults meaning kind told refused) was events outs now →
+  path_of : (was : Seat D E) (events : List (Event Read)) (outs : List StepReport) (now : Seat D E) → kind was.engine ≡ k →
+      Steps (MakesByRules tells states faults meaning kind told refused) was events outs now →
       PathSo (meaning k) k (read_setup opening) was.node.running (told was.engine) (map event_of events) (map outs_of outs) now.node.running (told now.engine)
   unfolding Steps
   path_of was [] [] now is steps = (ap (λ (s : Seat D E). s.node.running) steps, ap (λ (s : Seat D E). told s.engine) steps)
@@ -38,7 +39,8 @@ module _ {D E : Type 0} (tells : Bool) (states : D → Disk Text → Type 0) (fa
         path_of next es os now (steps.1.1.kind ∙ is) steps.2,
       )
 
-  kind_of : (was : Seat D E) (events : List (Event Read)) (outs : List StepReport) (now : Seat D E) → kind was.engine ≡ k → Steps (MakesByRules tells states faults meaning kind told refused) was events outs now → kind now.engine ≡ k
+  kind_of : (was : Seat D E) (events : List (Event Read)) (outs : List StepReport) (now : Seat D E) → kind was.engine ≡ k →
+      Steps (MakesByRules tells states faults meaning kind told refused) was events outs now → kind now.engine ≡ k
   unfolding Steps
   kind_of was [] [] now is steps = ap (λ (s : Seat D E). kind s.engine) steps ∙ is
   kind_of was [] (o ∷ os) now is steps = absurd steps
@@ -46,19 +48,23 @@ module _ {D E : Type 0} (tells : Bool) (states : D → Disk Text → Type 0) (fa
   kind_of was (e ∷ es) (o ∷ os) now is steps = kind_of steps.0 es os now (steps.1.1.kind ∙ is) steps.2
 
   -- the disk keeps what Raft is
-  kept_of : (was : Seat D E) (events : List (Event Read)) (outs : List StepReport) (now : Seat D E) → IsKept tells (states was.disk) (replica_of was.node) → Steps (MakesByRules tells states faults meaning kind told refused) was events outs now → IsKept tells (states now.disk) (replica_of now.node)
+  kept_of : (was : Seat D E) (events : List (Event Read)) (outs : List StepReport) (now : Seat D E) → IsKept tells (states was.disk) (replica_of was.node) →
+      Steps (MakesByRules tells states faults meaning kind told refused) was events outs now → IsKept tells (states now.disk) (replica_of now.node)
   unfolding Steps
   kept_of was [] [] now keeps steps = subst (λ (s : Seat D E). IsKept tells (states s.disk) (replica_of s.node)) (sym steps) keeps
   kept_of was [] (o ∷ os) now keeps steps = absurd steps
   kept_of was (e ∷ es) [] now keeps steps = absurd steps
   kept_of was (e ∷ es) (o ∷ os) now keeps steps = kept_of steps.0 es os now (steps.1.2.well.stored keeps) steps.2
 
-  broke_so : (last now : Seat D E) (before after : Taken Read) (events : List (Event Read)) → kind last.engine ≡ k → IsKept tells (states last.disk) (replica_of last.node) →
-      (b : Broke (BreaksByRules tells states faults meaning kind refused) last now before after events) → Finds tells (states now.disk) (AccountsForStop (meaning k) k (read_setup opening) last.node.running (event_of b.event))
+  broke_so : (last now : Seat D E) (before after : Taken Read) (events : List (Event Read)) → kind last.engine ≡ k →
+      IsKept tells (states last.disk) (replica_of last.node) →
+      (b : Broke (BreaksByRules tells states faults meaning kind refused) last now before after events) →
+      Finds tells (states now.disk) (AccountsForStop (meaning k) k (read_setup opening) last.node.running (event_of b.event))
   broke_so last now before after events is keeps b =
       subst (λ (z : EngineKind). Finds tells (states now.disk) (AccountsForStop (meaning z) z (read_setup opening) last.node.running (event_of b.event))) is (b.broken.2.stops opening keeps)
 
-  ends_of : (last now : Seat D E) (before after : Taken Read) (events : List (Event Read)) (budget : ℕ) (end : LoopEnd) → kind last.engine ≡ k → IsKept tells (states last.disk) (replica_of last.node) →
+  ends_of : (last now : Seat D E) (before after : Taken Read) (events : List (Event Read)) (budget : ℕ) (end : LoopEnd) → kind last.engine ≡ k →
+      IsKept tells (states last.disk) (replica_of last.node) →
       Ends (BreaksByRules tells states faults meaning kind refused) last now before after events budget end → EndsSo (meaning k) k (read_setup opening) tells (states now.disk) last.node before after events end
   ends_of last now before after events budget Closed is keeps e = (e.0, subst (λ (s : Seat D E). IsKept tells (states s.disk) (replica_of last.node)) (sym e.1) keeps)
   ends_of last now before after events budget (Spent count) is keeps e = (e.0, subst (λ (s : Seat D E). IsKept tells (states s.disk) (replica_of last.node)) (sym e.1) keeps)
