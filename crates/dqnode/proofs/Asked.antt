@@ -27,7 +27,8 @@ same_addresses : (statement : Statement) → (started (client_of statement)).cor
 unfolding step
 same_addresses statement = refl
 
-so : (statement : Statement) (start now : Net) (was is : Option (List ℕ)) (r : ClientStatus) → HasRun start (started (client_of statement)) now r → HasPrinted was is r
+so : (statement : Statement) (start now : Net) (was is : Option (List ℕ)) (r : ClientStatus) → HasRun start (started (client_of statement)) now r →
+    HasPrinted was is r
     → StatementEnds statement start now was is (status_code (client_status r))
 so statement start now was is (client.Ended end) h p = inl (record {
   end = end;
@@ -82,7 +83,8 @@ end_code (ends.Refused code text) = inr (inr (inr (inl refl)))
 end_code (ends.NoLeader tries) = inr (inr (inr (inr (inl refl))))
 end_code ends.Unknown = inr (inr (inr (inr (inr refl))))
 
-pub statement_code : (statement : Statement) (start now : Net) (was is : Option (List ℕ)) (code : ℕ) → StatementEnds statement start now was is code → IsStatementCode code
+pub statement_code : (statement : Statement) (start now : Net) (was is : Option (List ℕ)) (code : ℕ) → StatementEnds statement start now was is code →
+    IsStatementCode code
 statement_code statement start now was is code (inl c) = subst IsStatementCode (sym c.code_is) (end_code c.end)
 statement_code statement start now was is code (inr b) = elim b.cause [ inl e ↦ inr (inl e) | inr e ↦ inr (inr (inl e)) ]
 
@@ -103,7 +105,8 @@ not_broken code (inr e) (inl f) = cc
 not_broken code (inr e) (inr (inl f)) = cc
 not_broken code (inr e) (inr (inr f)) = cc
 
-pub statement_linked : (statement : Statement) (start now : Net) (was is : Option (List ℕ)) (code : ℕ) → StatementEnds statement start now was is code → IsAnswered code → HasLinked start now
+pub statement_linked : (statement : Statement) (start now : Net) (was is : Option (List ℕ)) (code : ℕ) → StatementEnds statement start now was is code →
+    IsAnswered code → HasLinked start now
 statement_linked statement start now was is code (inl c) a = end_linked start now (length statement.addresses) c.end (subst IsAnswered c.code_is a) c.dialled
 statement_linked statement start now was is code (inr b) a = absurd (not_broken code b.cause a)
 
@@ -114,7 +117,8 @@ end_unled start now n (ends.Refused code text) e h = absurd cc
 end_unled start now n (ends.NoLeader tries) e h = h
 end_unled start now n ends.Unknown e h = absurd cc
 
-pub statement_unled : (statement : Statement) (start now : Net) (was is : Option (List ℕ)) (code : ℕ) → StatementEnds statement start now was is code → code ≡ 12
+pub statement_unled : (statement : Statement) (start now : Net) (was is : Option (List ℕ)) (code : ℕ) → StatementEnds statement start now was is code →
+    code ≡ 12
     → HaveDialled start now (3 * length statement.addresses)
 statement_unled statement start now was is code (inl c) e = end_unled start now (length statement.addresses) c.end (sym c.code_is ∙ e) c.dialled
 statement_unled statement start now was is code (inr b) e = elim b.cause [

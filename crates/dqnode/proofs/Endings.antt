@@ -33,10 +33,12 @@ runs_are_safe kind voters script outcomes front rest e nodes =
     scripts_are_safe_hold (any_meaning kind) kind (setup_of voters) script outcomes front rest (sym (run_twin script outcomes).turns_are ∙ e) nodes
 
 -- a safe run, at a moment and at a later one
-stays_safe : (kind : EngineKind) (voters : ℕ) (early middle : List Turn) → IsSafe (any_meaning kind) kind (setup_of voters) (early ++ middle) → IsSafeLater (any_meaning kind) kind (setup_of voters) early middle
+stays_safe : (kind : EngineKind) (voters : ℕ) (early middle : List Turn) → IsSafe (any_meaning kind) kind (setup_of voters) (early ++ middle) →
+    IsSafeLater (any_meaning kind) kind (setup_of voters) early middle
 stays_safe kind voters early middle safe = laters_are_safe_hold (any_meaning kind) kind (setup_of voters) early middle safe.is
 
-pub safe_turns : (kind : EngineKind) (script : List ℕ) (outcomes : List Came) (turns rest : List Turn) (over : Option Turn) → (run script outcomes).turns ≡ turns ++ rest → AreOfNodes kind turns over → SafeTurns kind turns
+pub safe_turns : (kind : EngineKind) (script : List ℕ) (outcomes : List Came) (turns rest : List Turn) (over : Option Turn) →
+    (run script outcomes).turns ≡ turns ++ rest → AreOfNodes kind turns over → SafeTurns kind turns
 safe_turns kind script outcomes turns rest over e nodes =
     let safe : (early late : List Turn) → turns ≡ early ++ late → IsFairTo kind nodes.voters turns nodes.lives early → IsSafe (any_meaning kind) kind (setup_of nodes.voters) early =
     λ early late parts fair.
@@ -56,7 +58,8 @@ safe_turns kind script outcomes turns rest over e nodes =
 -- ---- how running it ended
 
 module _ (kind : EngineKind) where
-  gives : (fault : Option Fault) (journal : List Item) (left left' a b : Option (List ℕ)) → Prints (Knows kind) fault journal left left' a b → Gives kind fault journal left left' a b
+  gives : (fault : Option Fault) (journal : List Item) (left left' a b : Option (List ℕ)) → Prints (Knows kind) fault journal left left' a b →
+      Gives kind fault journal left left' a b
   unfolding safe_turns
   gives fault journal left left' a b p = record {
     read = p.read;
@@ -71,7 +74,8 @@ module _ (kind : EngineKind) where
     beside = p.beside;
   }
 
-  breaks : (follows : List ℕ → Type 0) → follows [] → (left left' a b : Option (List ℕ)) → PrintsFront (Knows kind) follows left left' a b → BreaksOff kind follows left left' a b
+  breaks : (follows : List ℕ → Type 0) → follows [] → (left left' a b : Option (List ℕ)) → PrintsFront (Knows kind) follows left left' a b →
+      BreaksOff kind follows left left' a b
   unfolding safe_turns
   breaks follows none left left' a b p =
       let begins = p.begins [] none [] in
@@ -87,7 +91,8 @@ module _ (kind : EngineKind) where
         uses = p.uses;
       }
 
-  pub outcome_ends : (why : Outcome) (journal : List Item) (left left' a b : Option (List ℕ)) → Ended (Knows kind) why journal left left' a b → OutcomeEnds kind journal why left left' a b
+  pub outcome_ends : (why : Outcome) (journal : List Item) (left left' a b : Option (List ℕ)) → Ended (Knows kind) why journal left left' a b →
+      OutcomeEnds kind journal why left left' a b
   outcome_ends outcome.Done journal left left' a b e = (gives None journal left left' a b e.0, e.1)
   outcome_ends (outcome.Script line) journal left left' a b e = gives (Some (Line line)) journal left left' a b e
   outcome_ends outcome.Large journal left left' a b e = gives (Some Large) journal left left' a b e
@@ -97,7 +102,8 @@ module _ (kind : EngineKind) where
   outcome_ends outcome.Internal journal left left' a b e = breaks (MayFollow left') (λ end. refl) left left' a b e
 
 -- by the status
-pub status_ends : (kind : EngineKind) (why : Outcome) (journal : List Item) (left left' a b : Option (List ℕ)) → OutcomeEnds kind journal why left left' a b → ScriptEnds kind journal (status_for why) left left' a b
+pub status_ends : (kind : EngineKind) (why : Outcome) (journal : List Item) (left left' a b : Option (List ℕ)) → OutcomeEnds kind journal why left left' a b →
+    ScriptEnds kind journal (status_for why) left left' a b
 status_ends kind outcome.Done journal left left' a b e = e
 status_ends kind (outcome.Script line) journal left left' a b e = (line, e)
 status_ends kind outcome.Large journal left left' a b e = e
@@ -128,7 +134,8 @@ script_broken kind journal status.Unknown left left' a b e off = absurd e
 -- ---- however it ended, it is safe
 
 module _ (kind : EngineKind) (left left' a b : Option (List ℕ)) where
-  breaks_safely : (journal : List Item) (follows : List ℕ → Type 0) → ((more : List ℕ) → MayFollow left' more → follows more) → BreaksOff kind follows left left' a b → RunsSafely kind journal left left' a b
+  breaks_safely : (journal : List Item) (follows : List ℕ → Type 0) → ((more : List ℕ) → MayFollow left' more → follows more) →
+      BreaksOff kind follows left left' a b → RunsSafely kind journal left left' a b
   breaks_safely journal follows may x = record {
     is = inr (record {
       read = x.read;

@@ -18,7 +18,8 @@ written_whole number writes a b h = record {
   front = λ f. elim f [ inl e ↦ cc | inr e ↦ cc ];
 }
 
-pub written_in_part : (number writes code : ℕ) (a b : Option (List ℕ)) → (code ≡ 4) ⊎ (code ≡ 7) → AppendsFront a b (script_text number writes) → GenerateEnds number writes a b code
+pub written_in_part : (number writes code : ℕ) (a b : Option (List ℕ)) → (code ≡ 4) ⊎ (code ≡ 7) → AppendsFront a b (script_text number writes) →
+    GenerateEnds number writes a b code
 written_in_part number writes code a b broken h = record {
   known = inr broken;
   whole = λ e. elim broken [ inl f ↦ let bad : 4 ≡ 0 = sym f ∙ e in cc | inr f ↦ let bad : 7 ≡ 0 = sym f ∙ e in cc ];

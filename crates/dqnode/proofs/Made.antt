@@ -16,7 +16,8 @@ use Rattle.dqnode.specs.Generating.{is_whole, shown, shown_from, shown_lines, Sh
 
 -- ---- what was printed in memory
 
-prints_made : (number writes : ℕ) (fault : Option Fault) (journal : List Item) (rest text : List ℕ) → Gives Cells fault journal (Some (script_text number writes)) (Some rest) (Some []) (Some text) → PrintsMade number writes fault journal text
+prints_made : (number writes : ℕ) (fault : Option Fault) (journal : List Item) (rest text : List ℕ) →
+    Gives Cells fault journal (Some (script_text number writes)) (Some rest) (Some []) (Some text) → PrintsMade number writes fault journal text
 prints_made number writes fault journal rest text x =
     let outcomes = x.outcomes ++ [] in
     let whole : x.read ++ rest ≡ script_text number writes = sym x.taken in
@@ -31,7 +32,8 @@ prints_made number writes fault journal rest text x =
       safe = subst (SafeTurns Cells) turns x.safe;
     }
 
-pub text_ends : (number writes : ℕ) (why : Outcome) (journal : List Item) (rest text : List ℕ) → OutcomeEnds Cells journal why (Some (script_text number writes)) (Some rest) (Some []) (Some text) → TextEnds number writes journal text why
+pub text_ends : (number writes : ℕ) (why : Outcome) (journal : List Item) (rest text : List ℕ) →
+    OutcomeEnds Cells journal why (Some (script_text number writes)) (Some rest) (Some []) (Some text) → TextEnds number writes journal text why
 text_ends number writes outcome.Done journal rest text e = prints_made number writes None journal rest text e.0
 text_ends number writes (outcome.Script line) journal rest text e = prints_made number writes (Some (Line line)) journal rest text e
 text_ends number writes outcome.Large journal rest text e = prints_made number writes (Some Large) journal rest text e
@@ -42,7 +44,8 @@ text_ends number writes outcome.Internal journal rest text e = tt
 
 -- ---- what was written
 
-runs_made : (number writes : ℕ) (fault : Option Fault) (journal : List Item) (text : List ℕ) (a b : Option (List ℕ)) → PrintsMade number writes fault journal text → Appends a b (shown_lines text) → RunsMade number writes fault journal a b
+runs_made : (number writes : ℕ) (fault : Option Fault) (journal : List Item) (text : List ℕ) (a b : Option (List ℕ)) →
+    PrintsMade number writes fault journal text → Appends a b (shown_lines text) → RunsMade number writes fault journal a b
 runs_made number writes fault journal text a b p told = record {
   outcomes = p.outcomes;
   ends = p.ends;
@@ -56,7 +59,8 @@ not_broken code four seven fifteen (inl (inl e)) = four e
 not_broken code four seven fifteen (inl (inr e)) = seven e
 not_broken code four seven fifteen (inr e) = fifteen e
 
-pub run_shown : (number writes : ℕ) (why : Outcome) (journal : List Item) (text : List ℕ) (a b : Option (List ℕ)) → is_whole why ≡ true → TextEnds number writes journal text why → Appends a b (shown_lines text)
+pub run_shown : (number writes : ℕ) (why : Outcome) (journal : List Item) (text : List ℕ) (a b : Option (List ℕ)) → is_whole why ≡ true →
+    TextEnds number writes journal text why → Appends a b (shown_lines text)
     → RunEnds number writes journal a b (status_code (status_for why))
 run_shown number writes outcome.Done journal text a b whole t told = record {
   known = inl refl;
@@ -84,7 +88,8 @@ run_shown number writes outcome.WriteFault journal text a b whole t told = absur
 run_shown number writes outcome.NoMemory journal text a b whole t told = absurd cc
 run_shown number writes outcome.Internal journal text a b whole t told = absurd cc
 
-shows_front : (number writes : ℕ) (why : Outcome) (journal : List Item) (text : List ℕ) (a b : Option (List ℕ)) → is_whole why ≡ true → TextEnds number writes journal text why → AppendsFront a b (shown_lines text) → ShowsFront number writes a b
+shows_front : (number writes : ℕ) (why : Outcome) (journal : List Item) (text : List ℕ) (a b : Option (List ℕ)) → is_whole why ≡ true →
+    TextEnds number writes journal text why → AppendsFront a b (shown_lines text) → ShowsFront number writes a b
 shows_front number writes outcome.Done journal text a b whole t front = (t.outcomes, subst (λ (x : List ℕ). AppendsFront a b (shown_lines x)) t.text_is front)
 shows_front number writes (outcome.Script line) journal text a b whole t front = (t.outcomes, subst (λ (x : List ℕ). AppendsFront a b (shown_lines x)) t.text_is front)
 shows_front number writes outcome.Large journal text a b whole t front = (t.outcomes, subst (λ (x : List ℕ). AppendsFront a b (shown_lines x)) t.text_is front)
@@ -103,7 +108,8 @@ no_other code other four seven fifteen (inl (inl e)) f = four (sym f ∙ e)
 no_other code other four seven fifteen (inl (inr e)) f = seven (sym f ∙ e)
 no_other code other four seven fifteen (inr e) f = fifteen (sym f ∙ e)
 
-run_broken : (number writes : ℕ) (journal : List Item) (a b : Option (List ℕ)) (code : ℕ) → IsBrokenOff code → ShowsFront number writes a b → RunEnds number writes journal a b code
+run_broken : (number writes : ℕ) (journal : List Item) (a b : Option (List ℕ)) (code : ℕ) → IsBrokenOff code → ShowsFront number writes a b →
+    RunEnds number writes journal a b code
 run_broken number writes journal a b code broken front = record {
   known = known_broken code broken;
   done = λ e. absurd (no_other code 0 (λ f. cc) (λ f. cc) (λ f. cc) broken e);
@@ -112,7 +118,8 @@ run_broken number writes journal a b code broken front = record {
   front = λ f. front;
 }
 
-pub run_cut : (number writes : ℕ) (why : Outcome) (journal : List Item) (text : List ℕ) (a b : Option (List ℕ)) (code : ℕ) → IsBrokenOff code → is_whole why ≡ true → TextEnds number writes journal text why
+pub run_cut : (number writes : ℕ) (why : Outcome) (journal : List Item) (text : List ℕ) (a b : Option (List ℕ)) (code : ℕ) → IsBrokenOff code →
+    is_whole why ≡ true → TextEnds number writes journal text why
     → AppendsFront a b (shown_lines text) → RunEnds number writes journal a b code
 run_cut number writes why journal text a b code broken whole t front = run_broken number writes journal a b code broken (shows_front number writes why journal text a b whole t front)
 

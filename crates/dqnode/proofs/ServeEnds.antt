@@ -26,7 +26,8 @@ unfolding served_in
 same_served one other e = ap (served_in one) e
 
 pub served_for : {D H : Type 0} (tells : Bool) (states : D → Disk Text → Type 0) (faults : D → ℕ) (done : H → HostCounts) (one : Serve)
-    (host : H) (disk disk_after : D) (events events_after : Taken Read) (code : ℕ) → WasServed tells states faults done one host disk disk_after events events_after code
+    (host : H) (disk disk_after : D) (events events_after : Taken Read) (code : ℕ) →
+    WasServed tells states faults done one host disk disk_after events events_after code
     → (served : Serve) → ForServed served (Some (asks.Serve one)) → WasServed tells states faults done served host disk disk_after events events_after code
 served_for tells states faults done one host disk disk_after events events_after code h served e =
     subst (λ (s : Serve). WasServed tells states faults done s host disk disk_after events events_after code) (same_served one served e) h
@@ -327,7 +328,8 @@ words_not_fifteen s (inl a) e = let bad : 1 ≡ 15 = sym (ap status_code a) ∙ 
 words_not_fifteen s (inr a) e = let bad : 4 ≡ 15 = sym (ap status_code a) ∙ e in cc
 
 -- what holds of a disk, a network and a status, holds of the same by other names
-pub moved : {D N : Type 0} (disk disk_then : D) (network network_then : N) (s t : Status) (code : ℕ) → disk ≡ disk_then → network ≡ network_then → s ≡ t → code ≡ status_code s
+pub moved : {D N : Type 0} (disk disk_then : D) (network network_then : N) (s t : Status) (code : ℕ) → disk ≡ disk_then → network ≡ network_then → s ≡ t →
+    code ≡ status_code s
     → (P : D → N → ℕ → Type 0) → P disk_then network_then (status_code t) → P disk network code
 moved disk disk_then network network_then s t code disk_is network_is status_is code_is P h =
     subst (λ d. P d network code) (sym disk_is) (subst (λ n. P disk_then n code) (sym network_is) (subst (λ k. P disk_then network_then k) (sym (code_is ∙ ap status_code status_is)) h))

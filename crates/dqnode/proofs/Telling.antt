@@ -37,7 +37,8 @@ pub no_snapshot : (index : ℕ) → IsOfFault (ends.Snapshot index)
 no_snapshot index was now d h = h
 
 -- the line of the fault was written, or a front of it, or nothing
-pub fault_told : (before after : Disk Text → Type 0) (first was now : Option (List ℕ)) (end : CheckEnd) (r : Status) → IsOfFault end → Checks before after first was end → was ≡ first
+pub fault_told : (before after : Disk Text → Type 0) (first was now : Option (List ℕ)) (end : CheckEnd) (r : Status) → IsOfFault end →
+    Checks before after first was end → was ≡ first
     → (r ≡ status.Files → Appends was now (fault_line end)) → (r ≡ status.WriteFault → AppendsFront was now (fault_line end))
     → (r ≡ status.Files) ⊎ ((r ≡ status.WriteFault) ⊎ (r ≡ status.NoMemory)) → CheckEnds before after first now (status_code r)
 fault_told before after first was now end r of c same whole front (inl e) d b p =
