@@ -332,10 +332,10 @@ fn replies_have_their_room_to_the_last_byte(rt: HostRuntime) -> Result<(), Fail>
     Ok(())
 }
 
-/// Has this many clients come, at sockets from this one on, and then peers 2 and 3.
-fn come(places: &mut Places<Script>, alloc: Global, first: usize, count: usize) -> Option<()> {
+/// Has clients come at sockets from the first one to the one before the end, and then peers 2 and 3.
+fn come(places: &mut Places<Script>, alloc: Global, first: usize, end: usize) -> Option<()> {
     let mut letters = Vec::new(alloc);
-    for at in first..first + count {
+    for at in first..end {
         perform(places, alloc, Come(at, 16, 16, false, 0), &mut letters)?;
     }
     perform(places, alloc, Say(324, SECOND, 32), &mut letters)?;
@@ -352,7 +352,7 @@ fn fills(alloc: Global) -> Option<(usize, usize, u64, usize)> {
     places.cut(1);
     places.cut(2);
     let left = places.client_count();
-    come(&mut places, alloc, 80, 10)?;
+    come(&mut places, alloc, 80, 90)?;
     let refused = places.take_refused().clients;
     Some((first, left, refused, places.connection_count()))
 }

@@ -47,6 +47,12 @@ fn signs(alloc: Global, count: usize) -> Option<Vec<u8>> {
     Some(marks)
 }
 
+/// Whether these are the marks.
+fn are_signs(alloc: Global, count: usize, wanted: &[u8]) -> Option<bool> {
+    let marks = signs(alloc, count)?;
+    Some(marks.as_slice() == wanted)
+}
+
 /// Adds the marks of the events that come of the first socket.
 fn read_all(places: &mut Places<Script>, marks: &mut Vec<u8>) -> Option<()> {
     for _ in 0..10 {
@@ -77,8 +83,9 @@ fn mark_of(event: &Event<u8>, sign: Option<PeerSign>) -> u8 {
     }
 }
 
-/// How many connections are closed once a client that said this many bytes of `CLIENT`, and got these answers, is silent.
-fn closes(alloc: Global, count: usize, answers: &[u8]) -> Option<u64> {
+/// How many connections are closed once a client that said this many bytes of `CLIENT`, and got these answers, is silent: within the time that a
+/// transaction may be idle, and after it.
+fn closes(alloc: Global, count: usize, answers: &[u8]) -> Option<(u64, u64)> {
     let mut places = Places::new(alloc).ok()?;
     let mut marks = Vec::new(alloc);
     places.limit_idle_transactions(5_000);
@@ -92,14 +99,16 @@ fn closes(alloc: Global, count: usize, answers: &[u8]) -> Option<u64> {
     places.tick(5_000);
     let early = places.take_idle_count();
     places.tick(5_001);
-    Some(places.take_idle_count() + early * 10)
+    Some((early, places.take_idle_count()))
 }
 
 #[test]
 fn acks_and_questions_of_peers_are_known(rt: HostRuntime) -> Result<(), Fail> {
     for &(count, wanted) in SIGNS {
-        let marks = signs(rt.alloc(), count);
-        assert!(rt; matches!(marks, Some(marks) if marks.as_slice() == wanted));
+        assert!(rt;
+            are_signs(rt.alloc(), count, wanted) == Some(true),
+            "{count} bytes"
+        );
     }
     Ok(())
 }
@@ -108,7 +117,7 @@ fn acks_and_questions_of_peers_are_known(rt: HostRuntime) -> Result<(), Fail> {
 fn idle_transactions_are_closed(rt: HostRuntime) -> Result<(), Fail> {
     for (row, &(count, answers, wanted)) in ROWS.iter().enumerate() {
         assert!(rt;
-            closes(rt.alloc(), count, answers) == Some(wanted),
+            closes(rt.alloc(), count, answers) == Some((0, wanted)),
             "row {row}"
         );
     }
