@@ -103,6 +103,8 @@ fn served_options<'a>(alloc: Global) -> Result<Command<'a>, AllocError>
         .arg(option(alloc, "events"))?
         .arg(option(alloc, "idle-transaction"))?
         .arg(flag(alloc, "new"))?
+        .arg(flag(alloc, "join"))?
+        .arg(flag(alloc, "alone"))?
         .arg(option(alloc, "secret"))
 }
 

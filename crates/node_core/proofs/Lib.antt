@@ -40,7 +40,7 @@ mod StopsOfTurns
 mod StopsOfStep
 mod PeerActs
 mod Carried
-mod PeerLinks
+mod PeerRoutes
 mod Sending
 mod ConnStreams
 mod HeardSo

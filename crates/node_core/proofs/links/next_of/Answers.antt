@@ -2,7 +2,7 @@ use Rattle.std.proofs.Common.{◌≡◌, ◌<◌, ◌≤◌, List, Option, lengt
 use Rattle.node_core.specs.declared.links.Letter.{Letter}
 use Rattle.node_core.specs.declared.links.Link.{Link}
 use Rattle.node_core.specs.Carrying.{LinkTook}
-use Rattle.node_core.proofs.PeerLinks.{found_here, goes_on, never_waits}
+use Rattle.node_core.proofs.PeerRoutes.{found_here, goes_on, never_waits}
 use Rattle.node_core.proofs.links.next_of.Goals as goal
 
 pub returns-in-Some : goal.returns-in-Some

@@ -1,5 +1,5 @@
 use Rattle.std.proofs.Common.{◌≡◌}
-use Rattle.node_core.proofs.PeerLinks.{NoneWaits}
+use Rattle.node_core.proofs.PeerRoutes.{NoneWaits}
 use Rattle.node_core.proofs.links.next_of.Given as goal
 
 abbrev pub invariant-loop-place : goal.invariant-loop-place

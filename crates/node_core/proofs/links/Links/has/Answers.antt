@@ -1,4 +1,4 @@
-use Rattle.node_core.proofs.PeerLinks.{has_place}
+use Rattle.node_core.proofs.PeerRoutes.{has_place}
 use Rattle.node_core.proofs.links.Links.has.Goals as goal
 
 pub returns : goal.returns

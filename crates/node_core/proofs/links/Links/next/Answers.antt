@@ -1,5 +1,5 @@
 use Rattle.std.proofs.Common.{sym, ◌∙◌}
-use Rattle.node_core.proofs.PeerLinks.{no_links, some_links, empty_waits}
+use Rattle.node_core.proofs.PeerRoutes.{no_links, some_links, empty_waits}
 use Rattle.node_core.proofs.links.Links.next.Goals as goal
 
 pub returns-then-is_empty-clause-took : goal.returns-then-is_empty-clause-took

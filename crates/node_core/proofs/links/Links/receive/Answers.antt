@@ -3,7 +3,7 @@ use Rattle.database_state.specs.ByName.{FirstAt}
 use Rattle.node_core.specs.declared.links.Link.{Link}
 use Rattle.node_core.specs.Carrying.{is_of, link_on}
 use Rattle.node_core.proofs.Looping.{on_ok_then}
-use Rattle.node_core.proofs.PeerLinks.{heard_at, heard_nowhere}
+use Rattle.node_core.proofs.PeerRoutes.{heard_at, heard_nowhere}
 use Rattle.node_core.proofs.links.Links.receive.Goals as goal
 
 pub returns-in-Some-clause-heard : goal.returns-in-Some-clause-heard

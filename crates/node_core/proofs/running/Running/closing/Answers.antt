@@ -1,7 +1,7 @@
 use Rattle.node_core.proofs.CoreMoves.{closes_exact, link_exact}
 use Rattle.node_core.proofs.ConnStreams.{closed_conn, link_conn, link_kept_conn}
 use Rattle.std.proofs.Common.{Some, refl, None, sym, ◌∙◌}
-use Rattle.node_core.proofs.PeerLinks.{link_there, link_not, reason_of_link}
+use Rattle.node_core.proofs.PeerRoutes.{link_there, link_not, reason_of_link}
 use Rattle.node_core.specs.declared.running.Running.{Running}
 use Rattle.node_core.specs.Carrying.{link_on}
 use Rattle.node_core.specs.Values.{clients_in}

@@ -3,7 +3,7 @@ use Rattle.node_core.proofs.ConnStreams.{not_full, comes_begins, carried_begins}
 use Rattle.std.proofs.Common.{◌++◌, refl, sym, ap, ◌∙◌}
 use Rattle.client_sessions.specs.declared.connect_result.ConnectResult.{ConnectResult}
 use Rattle.node_core.specs.Carrying.{full_for}
-use Rattle.node_core.proofs.PeerLinks.{link_there, link_not}
+use Rattle.node_core.proofs.PeerRoutes.{link_there, link_not}
 use Rattle.client_sessions.specs.Seen.{clients_of}
 use Rattle.node_core.specs.declared.running.Running.{Running}
 use Rattle.node_core.proofs.ClientMoves.{comes_so}

@@ -1,6 +1,6 @@
 use Rattle.node_core.proofs.Carried.{same_moves, no_moves, sent_moves, wrong_moves}
 use Rattle.node_core.proofs.ConnStreams.{conns_same, kept_same, letter_on, none_letter}
-use Rattle.node_core.proofs.PeerLinks.{sent_so, wrong_so, none_left}
+use Rattle.node_core.proofs.PeerRoutes.{sent_so, wrong_so, none_left}
 use Rattle.node_core.specs.Carrying.{lines_in}
 use Rattle.node_core.specs.declared.links.Letter.{Letter}
 use Rattle.std.proofs.Common.{Some, true≢false, refl, sym, ap, ◌∙◌}
