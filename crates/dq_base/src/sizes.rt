@@ -39,10 +39,15 @@ pub fn stated_lengths(page: &NumberedPage) -> Option<Lengths>
     })
 }
 
+/// Looks at all bytes, without an early end, so that the compiler can take many at a time.
 fn are_zeros(bytes: &[u8]) -> bool
     ensures { result ≡ list_all (λ byte. byte == 0) bytes.now }
 {
-    bytes.iter().all(|byte| *byte == 0)
+    let mut zeros = true;
+    for byte in bytes {
+        zeros &= *byte == 0;
+    }
+    zeros
 }
 
 #[tactic(auto, unfolding(crate::specs::Applying::stated_main))]
