@@ -60,7 +60,7 @@ module _ (v : View) (m : Machine) (g : Gateway) (conn : ℕ) (idle : v.serving �
   does_closed s request (Begins at_once) answers none a = serves_not a.0.serves
   does_closed s request Commits answers none a = serves_not a.0.serves
   does_closed s request RollsBack answers none a = serves_not a.0.serves
-  does_closed s request (Changes servers) answers none a = serves_not a.0
+  does_closed s request (Changes servers short) answers none a = serves_not a.0
   does_closed s request (Runs ss) answers none a = serves_not a.serves
   does_closed s request (Reads statement) answers none a = serves_not a.serves
 
@@ -176,7 +176,7 @@ closed_closed k conn none = cond_both (is_none (closing (k.streams conn))) k (wi
 
 landed_closed : (s : Session) (f : Flight) (kind : Kind) → s.tx ≡ None → (landed s f kind).tx ≡ None
 landed_closed s f Opening none = none
-landed_closed s f Configuring none = none
+landed_closed s f (Configuring short) none = none
 landed_closed s f (Writing reply) none = none
 landed_closed s f Committing none = refl
 landed_closed s f (Querying statement) none = none

@@ -141,7 +141,7 @@ module _ (v : View) (m : Machine) (g : Gateway) (conn : ℕ) (s : Session) (free
   does_kept request (Begins at_once) answers t a = cond_both (at_once && other_holds g conn s.database) _ _ (Keeps s) (λ e. tt) (λ e. (rests s _ refl refl free rest, result_sent 0))
   does_kept request Commits answers t a = commit_kept s.tx
   does_kept request RollsBack answers t a = (rests s _ refl refl free rest, result_sent 0)
-  does_kept request (Changes servers) answers t a = cond_both (log_full v) _ _ (Keeps s) (λ e. tt) (λ e. proposed [] (Configures servers ∷ []) 0 Configuring tt tt)
+  does_kept request (Changes servers short) answers t a = cond_both (log_full v) _ _ (Keeps s) (λ e. tt) (λ e. proposed [] (Configures servers ∷ []) 0 (Configuring short) tt tt)
   does_kept request (Runs ss) answers t a = run_kept s.tx ss false answers
   does_kept request (Reads statement) answers t a = reads_kept statement a.opened answers
 

@@ -142,7 +142,7 @@ module _ (s : Session) (f : Flight) (flight : s.flight ≡ Some f) (listed : IsL
 
   landed_frees : (kind : Kind) → f.kind ≡ kind → Frees s (landed s f kind)
   landed_frees Opening is = record { there = refl; hung = refl; busy = λ busy. flies; sends = tt; listed = listed; awaits = awaits_none f.name s.later alone.0 }
-  landed_frees Configuring is = record { there = refl; hung = refl; busy = λ busy. flies; sends = tt; listed = listed; awaits = awaits_none s.database s.later alone.0 }
+  landed_frees (Configuring short) is = record { there = refl; hung = refl; busy = λ busy. flies; sends = tt; listed = listed; awaits = awaits_none s.database s.later alone.0 }
   landed_frees (Writing reply) is = record { there = refl; hung = refl; busy = λ busy. flies; sends = tt; listed = listed; awaits = awaits_none s.database s.later alone.0 }
   landed_frees Committing is = record { there = refl; hung = refl; busy = λ busy. flies; sends = tt; listed = tt; awaits = awaits_none s.database s.later alone.0 }
   landed_frees (Querying statement) is = record { there = refl; hung = refl; busy = λ busy. flies; sends = tt; listed = listed; awaits = subst (KindIsOpened s.database) is alone.1 }

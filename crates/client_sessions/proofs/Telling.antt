@@ -1,5 +1,5 @@
 -- What applied entries and lost leadership tell can be sent.
-use Rattle.std.proofs.Common.{◌≡◌, ℕ, zero, suc, ◌+◌, ◌<◌, Bool, true, false, cond, ◌==◌, List, [], ◌∷◌, ◌++◌, length, take, get_or, map, Option, Some, None, sym, ap, ◌∙◌, arith}
+use Rattle.std.proofs.Common.{◌≡◌, ℕ, zero, suc, ◌+◌, ◌<◌, Bool, true, false, cond, ◌==◌, List, [], ◌∷◌, ◌++◌, length, take, get_or, map, Option, Some, None, refl, sym, ap, ◌∙◌, arith}
 use Rattle.std.proofs.lemmas.List.{map-append, take_more}
 use Rattle.std.specs.List.{AllByRecursion, flat_map}
 use Rattle.wire_msgs.specs.declared.response.Response.{Response}
@@ -28,7 +28,8 @@ all_told_writable (r ∷ rs) all =
 
 landed_can : (kind : Kind) → KindCanSend kind → ToldCanSend (landed_reply kind)
 landed_can Opening can = ((tt, tt), tt)
-landed_can Configuring can = ((tt, tt), tt)
+landed_can (Configuring false) can = ((tt, tt), tt)
+landed_can (Configuring true) can = ((tt, (refl, tt)), tt)
 landed_can (Writing reply) can = can
 landed_can Committing can = ((tt, (tt, tt)), tt)
 landed_can (Querying statement) can = tt

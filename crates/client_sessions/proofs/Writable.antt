@@ -130,7 +130,7 @@ TellsWell (Forgets response) = IsWritable response
 TellsWell (Begins at_once) = Unit {0}
 TellsWell Commits = Unit {0}
 TellsWell RollsBack = Unit {0}
-TellsWell (Changes servers) = Unit {0}
+TellsWell (Changes servers short) = Unit {0}
 TellsWell (Runs statements) = Unit {0}
 TellsWell (Reads statement) = Unit {0}
 

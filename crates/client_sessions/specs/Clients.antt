@@ -139,7 +139,7 @@ Fits (Some stream) s = (s.there ≡ true) × (s.hung ≡ false)
 -- a query is asked of a database that was opened
 abbrev pub KindIsOpened : List ℕ → Kind → Type 0
 KindIsOpened database Opening = Unit {0}
-KindIsOpened database Configuring = Unit {0}
+KindIsOpened database (Configuring short) = Unit {0}
 KindIsOpened database (Writing reply) = Unit {0}
 KindIsOpened database Committing = Unit {0}
 KindIsOpened database (Querying statement) = nat_lt 0 (length database) ≡ true

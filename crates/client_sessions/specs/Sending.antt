@@ -12,7 +12,7 @@ CanSend reply = AllByRecursion IsWritable (responses_of reply)
 
 abbrev pub KindCanSend : Kind → Type 0
 KindCanSend Opening = Unit {0}
-KindCanSend Configuring = Unit {0}
+KindCanSend (Configuring short) = Unit {0}
 KindCanSend (Writing reply) = CanSend reply
 KindCanSend Committing = Unit {0}
 KindCanSend (Querying statement) = Unit {0}

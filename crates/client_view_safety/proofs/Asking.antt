@@ -17,7 +17,7 @@ use Rattle.session_spec.specs.Causes.{Cause, NotAllowed, OneStatementWanted}
 use Rattle.session_spec.specs.Laws.{has_statement}
 use Rattle.session_spec.specs.Limits.{change_in_flight, one_too_many, log_full, write_hindrance}
 use Rattle.session_spec.specs.Machine.{Machine, is_named}
-use Rattle.session_spec.specs.Servers.{has_server}
+use Rattle.session_spec.specs.Servers.{has_server, is_spare}
 use Rattle.session_spec.specs.Sessions.{Prepared, Session, Gateway, View, in_tx}
 use Rattle.session_spec.specs.Statements.{prepared_from, any_barred, is_left_out, is_write_word, any_write, wrong_params, with_params, with_all, prepared_at, prepared_count}
 use Rattle.session_spec.proofs.Losing.{lost_so}
@@ -168,7 +168,8 @@ module _ (m : Machine) where
 
   role_asked : (v : View) (id role : ℕ) → IsAskedFor m client.Empties (asks_role v id role)
   role_asked v id role = barred (is_promotion v.servers id role && nat_le 7 (length (voters v.servers))) client.Empties _ _
-      (barred (is_promotion v.servers id role && not (among v.even id)) client.Empties _ _ refl)
+      (cond_both (is_promotion v.servers id role && not (among v.near id)) _ _ (IsAskedFor m client.Empties)
+      (λ e. cond_both (is_spare v.servers id) _ _ (IsAskedFor m client.Empties) (λ z. refl) (λ z. tt)) (λ e. refl))
 
   assign_asked : (v : View) (id role : ℕ) → IsAskedFor m client.Empties (asks_assign v id role)
   assign_asked v id role = barred (not (has_server v.servers id)) client.Empties _ _
@@ -348,7 +349,7 @@ module _ (m : Machine) where
   begins_apart p (Begins at_once) plain is = absurd (subst IsApart is plain)
   begins_apart p Commits plain is = tt
   begins_apart p RollsBack plain is = tt
-  begins_apart p (Changes servers) plain is = tt
+  begins_apart p (Changes servers short) plain is = tt
   begins_apart p (Runs statements) plain is = tt
   begins_apart p (Reads statement) plain is = tt
 
@@ -364,7 +365,7 @@ module _ (m : Machine) where
   begins_free (Begins at_once) = refl
   begins_free Commits = tt
   begins_free RollsBack = tt
-  begins_free (Changes servers) = tt
+  begins_free (Changes servers short) = tt
   begins_free (Runs statements) = tt
   begins_free (Reads statement) = tt
 

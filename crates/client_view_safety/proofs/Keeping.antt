@@ -270,10 +270,10 @@ module _ (k : Client) (place : ℕ) (s : Session) (h : KnowsSession k s) where
         (λ answer sent. idle_kept _ refl refl refl refl (open_here may.1)),
         (λ refused. absurd refused),
       )
-  does_kept v m g c r p (Changes servers) answers may begins is =
-      subst (λ q. IsKept q (does v m g c s (Changes servers) answers)) (sym is)
+  does_kept v m g c r p (Changes servers short) answers may begins is =
+      subst (λ q. IsKept q (does v m g c s (Changes servers short) answers)) (sym is)
       (cond_both (log_full v) _ _ (IsKept client.Empties) (λ e. tt)
-      (λ e f flies answer. subst (λ (y : Flight). KnowsLanded k (flying v s [] (Configures servers ∷ []) 0 Configuring) y y.kind) (flight_is _ f flies)
+      (λ e f flies answer. subst (λ (y : Flight). KnowsLanded k (flying v s [] (Configures servers ∷ []) 0 (Configuring short)) y y.kind) (flight_is _ f flies)
       (record { name = h.name; barriers = h.barriers; prepared = h.prepared; idle = h.idle; lost = h.lost; closed = h.closed })))
   does_kept v m g c r p (Runs ss) answers may begins is =
       subst (λ w. IsKept w (does v m g c s (Runs ss) answers)) (sym is) (run_kept v m g c s.tx ss false ss false answers refl)

@@ -54,7 +54,7 @@ IsAskedFor m p (Forgets response) = IsEndFor p response
 IsAskedFor m p (Begins at_once) = p ≡ client.Begins
 IsAskedFor m p Commits = p ≡ client.Commits
 IsAskedFor m p RollsBack = p ≡ client.RollsBack
-IsAskedFor m p (Changes servers) = p ≡ client.Empties
+IsAskedFor m p (Changes servers short) = p ≡ client.Empties
 IsAskedFor m p (Runs statements) = p ≡ client.Runs false statements
 IsAskedFor m p (Reads statement) = p ≡ client.Runs true (statement ∷ [])
 
@@ -71,7 +71,7 @@ IsSentFor (Rows answer) sent = Unit {0}
 -- The client knows what a session becomes when the last entry of its proposal is applied, except if this is the barrier of a query, which is answered later.
 abbrev pub KnowsLanded : Client → Session → Flight → Kind → Type 0
 KnowsLanded k s f Opening = KnowsSession k (landed s f Opening)
-KnowsLanded k s f Configuring = KnowsSession k (landed s f Configuring)
+KnowsLanded k s f (Configuring short) = KnowsSession k (landed s f (Configuring short))
 KnowsLanded k s f (Writing reply) = KnowsSession k (landed s f (Writing reply))
 KnowsLanded k s f Committing = KnowsSession k (landed s f Committing)
 KnowsLanded k s f (Querying statement) = Unit {0}

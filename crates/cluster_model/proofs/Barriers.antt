@@ -30,7 +30,7 @@ use Rattle.cluster_model.proofs.Seeing.{life_after, head_starts, act_fit}
 -- a barrier is past the index
 abbrev QueryPast : ℕ → Flight → Kind → Type 0
 QueryPast k f Opening = Unit {0}
-QueryPast k f Configuring = Unit {0}
+QueryPast k f (Configuring short) = Unit {0}
 QueryPast k f (Writing reply) = Unit {0}
 QueryPast k f Committing = Unit {0}
 QueryPast k f (Querying statement) = k < f.last
@@ -58,14 +58,14 @@ record Asked (k conn : ℕ) (w : Life) : Type 0 where
 
 past_of : (k : ℕ) (f : Flight) (kind : Kind) → k < f.last → QueryPast k f kind
 past_of k f Opening h = tt
-past_of k f Configuring h = tt
+past_of k f (Configuring short) h = tt
 past_of k f (Writing reply) h = tt
 past_of k f Committing h = tt
 past_of k f (Querying statement) h = h
 
 none_past : (k : ℕ) (f : Flight) (kind : Kind) → f.kind ≡ kind → NoneFlies (Some f) → QueryPast k f kind
 none_past k f Opening e h = tt
-none_past k f Configuring e h = tt
+none_past k f (Configuring short) e h = tt
 none_past k f (Writing reply) e h = tt
 none_past k f Committing e h = tt
 none_past k f (Querying statement) e h = absurd (h statement e)
@@ -110,14 +110,14 @@ due_later k a (Some (Lent s)) h = tt
 
 landed_flight : (k : ℕ) (s : Session) (f : Flight) (kind : Kind) → FlightPast k (landed s f kind).flight
 landed_flight k s f Opening = tt
-landed_flight k s f Configuring = tt
+landed_flight k s f (Configuring short) = tt
 landed_flight k s f (Writing reply) = tt
 landed_flight k s f Committing = tt
 landed_flight k s f (Querying statement) = tt
 
 landed_due : (k index : ℕ) (s : Session) (f : Flight) (kind : Kind) → f.last ≡ index → QueryPast k f kind → DuePast k index s.later → DuePast k index (landed s f kind).later
 landed_due k index s f Opening e h d = d
-landed_due k index s f Configuring e h d = d
+landed_due k index s f (Configuring short) e h d = d
 landed_due k index s f (Writing reply) e h d = d
 landed_due k index s f Committing e h d = d
 landed_due k index s f (Querying statement) e h d = subst (λ i. k < i) e h

@@ -56,7 +56,7 @@ ReplyNew k at (Rows answer) = k < at
 
 abbrev pub KindNew : ℕ → ℕ → Flight → Kind → Type 0
 KindNew k at f Opening = Unit {0}
-KindNew k at f Configuring = Unit {0}
+KindNew k at f (Configuring short) = Unit {0}
 KindNew k at f (Writing reply) = ReplyNew k at reply
 KindNew k at f Committing = Unit {0}
 KindNew k at f (Querying statement) = k < f.last
@@ -135,7 +135,7 @@ RowsNew k applied (Rows answer) note = NoteNew k applied note
 
 abbrev WrittenNew : ℕ → ℕ → Kind → Note → Type 0
 WrittenNew k applied Opening note = Unit {0}
-WrittenNew k applied Configuring note = Unit {0}
+WrittenNew k applied (Configuring short) note = Unit {0}
 WrittenNew k applied (Writing reply) note = RowsNew k applied reply note
 WrittenNew k applied Committing note = Unit {0}
 WrittenNew k applied (Querying statement) note = Unit {0}
@@ -203,7 +203,7 @@ module _ (k applied : ℕ) (v : View) (m : Machine) (g : Gateway) (c : ℕ) (s :
   does_new first (Begins at_once) answers = cond_both (at_once && other_holds g c s.database) _ _ (TurnedNew k v.last applied) (λ e. tt) (λ e. tt)
   does_new first Commits answers = commit_new s.tx out
   does_new first RollsBack answers = tt
-  does_new first (Changes servers) answers = cond_both (log_full v) _ _ (TurnedNew k v.last applied) (λ e. tt) (λ e. (_, refl, omega arith, rest, out, tt))
+  does_new first (Changes servers short) answers = cond_both (log_full v) _ _ (TurnedNew k v.last applied) (λ e. tt) (λ e. (_, refl, omega arith, rest, out, tt))
   does_new first (Runs ss) answers = run_new s.tx out ss false (λ e. absurd (true≢false (sym e))) answers
   does_new first (Reads statement) answers = reads_both (TurnedNew k v.last applied) v m g c s statement answers
       (λ e. barrier_both (TurnedNew k v.last applied) v m g c s statement tt (_, refl, omega arith, rest, out, tt))
@@ -245,7 +245,7 @@ rows_at k applied t (Rows answer) (Outside name ss) h = h
 kind_at : (k applied : ℕ) (t : Trail) (f : Flight) (kind : Kind) (note : Note) → k < f.last → WrittenNew k applied kind note →
     KindNew k (proposed_trail applied t note).at f kind
 kind_at k applied t f Opening note e h = tt
-kind_at k applied t f Configuring note e h = tt
+kind_at k applied t f (Configuring short) note e h = tt
 kind_at k applied t f (Writing reply) note e h = rows_at k applied t reply note h
 kind_at k applied t f Committing note e h = tt
 kind_at k applied t f (Querying statement) note e h = e
@@ -448,7 +448,7 @@ by_other i c d t hung (Some f) n =
   where
     landed_other : (k : Kind) → said_to c (said_landed d t f k) ≡ []
     landed_other Opening = to_other c _ [] n
-    landed_other Configuring = to_other c _ [] n
+    landed_other (Configuring short) = to_other c _ [] n
     landed_other (Writing reply) = to_other c _ [] n
     landed_other Committing = to_other c _ [] n
     landed_other (Querying statement) = refl
@@ -510,7 +510,7 @@ written k i (Rows answer) name at ss seen e h = (h, omega (arith, e, h))
 landing : (k conn i : ℕ) (t : Trail) (s : Session) (f : Flight) (kind : Kind) → f.last ≡ i → t.at < i → s.tx ≡ None → KindNew k t.at f kind →
     Rests k i t.at (said_landed conn t f kind) (landed s f kind) ⊎ Lands k conn i (said_landed conn t f kind)
 landing k conn i t s f Opening e low out h = inr (record { one = _; is = refl; conn_is = refl; new = tt })
-landing k conn i t s f Configuring e low out h = inr (record { one = _; is = refl; conn_is = refl; new = tt })
+landing k conn i t s f (Configuring short) e low out h = inr (record { one = _; is = refl; conn_is = refl; new = tt })
 landing k conn i t s f (Writing reply) e low out h = inr (record { one = _; is = refl; conn_is = refl; new = written k i reply f.name t.at t.ran t.seen low h })
 landing k conn i t s f Committing e low out h = inr (record { one = _; is = refl; conn_is = refl; new = tt })
 landing k conn i t s f (Querying statement) e low out h =
@@ -545,7 +545,7 @@ applied_by k conn a i t s (Some f) e up low h l out asks =
 
 trail_kind : (i : ℕ) (t : Trail) (kind : Kind) → (landed_trail i t kind).at ≡ t.at
 trail_kind i t Opening = refl
-trail_kind i t Configuring = refl
+trail_kind i t (Configuring short) = refl
 trail_kind i t (Writing reply) = refl
 trail_kind i t Committing = refl
 trail_kind i t (Querying statement) = refl

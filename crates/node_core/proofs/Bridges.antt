@@ -76,10 +76,10 @@ pub record Sees (v : View) (a : Moment) : Type 0 where
   pub last : v.last ≡ length (node_of a.node.raft).log
 
 abbrev pub standing_of : View → Standing
-standing_of v = record { id = v.id; leader = v.leader; servers = v.servers; links = v.links; readers = v.readers; even = v.even }
+standing_of v = record { id = v.id; leader = v.leader; servers = v.servers; links = v.links; readers = v.readers; even = v.even; near = v.near }
 
 view_is : (v : View) (a : Moment) → Sees v a → view_at a (standing_of v) ≡ v
-view_is v a s = λ i. record { id = v.id; leader = v.leader; serving = sym s.serving i; term = sym s.term i; last = sym s.last i; servers = v.servers; links = v.links; readers = v.readers; even = v.even }
+view_is v a s = λ i. record { id = v.id; leader = v.leader; serving = sym s.serving i; term = sym s.term i; last = sym s.last i; servers = v.servers; links = v.links; readers = v.readers; even = v.even; near = v.near }
 
 -- ---- what comes of a request
 

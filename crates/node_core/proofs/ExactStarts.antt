@@ -73,6 +73,7 @@ pub record StartedSo (me : ℕ) (links readers : Bool) (opening servers : List S
     links = links;
     readers = readers;
     even = [];
+    near = [];
   }
 
 pub started_exactly : (me : ℕ) (links readers : Bool) (opening servers : List Server) (kept : Kept) (replica : ReplicaValue) (members : Configurations) (applied : Applied) (view : View) (n : Running)
@@ -86,7 +87,7 @@ started_exactly me links readers opening servers kept replica members applied vi
     let files : machine_of n.applied.machine ≡ machine_of (restored s.contents) = ap (λ (a : Applied). machine_of a.machine) h.applied_is ∙ ap machine_of p.applies.machine in
     let view_at : n.view ≡ (started me links readers kept s).view =
     h.view_is ∙ p.view_is
-    ∙ (λ i. record { id = me; leader = None; serving = false; term = (raft i).term; last = length (raft i).log; servers = served i; links = links; readers = readers; even = [] }) in
+    ∙ (λ i. record { id = me; leader = None; serving = false; term = (raft i).term; last = length (raft i).log; servers = served i; links = links; readers = readers; even = []; near = [] }) in
     record {
       state = s;
       found = p.applies.found;

@@ -110,7 +110,7 @@ module _ (v : View) (m : Machine) (g : Gateway) (conn : ℕ) (term : ℕ) (h : H
   idle_ends (Begins at_once) answers i = absurd i
   idle_ends Commits answers i = absurd i
   idle_ends RollsBack answers i = absurd i
-  idle_ends (Changes servers) answers i = absurd i
+  idle_ends (Changes servers short) answers i = absurd i
   idle_ends (Runs ss) answers i = absurd i
   idle_ends (ReadsRows statement) answers i = absurd i
 

@@ -6,6 +6,7 @@ mod Causes
 mod Applying
 mod ExactTurns
 mod ExactStarts
+mod Nears
 mod Turning
 mod Waiting
 mod SnapshotOffice

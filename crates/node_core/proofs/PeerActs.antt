@@ -20,7 +20,7 @@ use Rattle.session_spec.specs.Limits.{change_in_flight, one_too_many, log_full, 
 use Rattle.session_spec.specs.Machine.{Machine, is_named}
 use Rattle.session_spec.specs.Requests as rules
 use Rattle.session_spec.specs.Requests.{on_request, on_later, does}
-use Rattle.session_spec.specs.Servers.{has_server}
+use Rattle.session_spec.specs.Servers.{has_server, is_spare}
 use Rattle.session_spec.specs.Sessions.{Prepared, Session, Gateway, Transaction, View, Effect, HandsOver, JoinsPeer, Weighs, in_tx}
 use Rattle.session_spec.specs.Sessions.{Turned, Refused, Lacks, Answers, Proposes, Lends, Affects}
 use Rattle.session_spec.specs.Statements.{prepared_from, prepared_at, prepared_count, is_left_out, is_write_word, any_barred, any_write, wrong_params, with_params, with_all}
@@ -55,7 +55,7 @@ MayAsk P (Forgets response) = Unit {0}
 MayAsk P (Begins at_once) = Unit {0}
 MayAsk P Commits = Unit {0}
 MayAsk P RollsBack = Unit {0}
-MayAsk P (Changes servers) = Unit {0}
+MayAsk P (Changes servers short) = Unit {0}
 MayAsk P (Runs statements) = Unit {0}
 MayAsk P (Reads statement) = Unit {0}
 
@@ -168,18 +168,18 @@ module _ (v : View) (P : ℕ → Type 0) where
       (either (is_named m.names name) (Opens name barriers) _ tt (either (one_too_many m g name) _ _ tt (either (log_full v) _ (Creates name barriers) tt tt))))
 
   adding : (id : ℕ) (address : List ℕ) → MayAsk P (asking.asks_add v.servers id address)
-  adding id address = either (asking.is_barred_node v.servers id address) _ (Changes _) tt tt
+  adding id address = either (asking.is_barred_node v.servers id address) _ (Changes _ _) tt tt
 
   role_too : (id role : ℕ) → MayAsk P (asking.asks_role v id role)
   role_too id role =
       either (asking.is_promotion v.servers id role && nat_le 7 (length (voters v.servers))) _ _ tt
-      (either (asking.is_promotion v.servers id role && not (among v.even id)) _ (Changes _) tt tt)
+      (either (asking.is_promotion v.servers id role && not (among v.near id)) _ (Changes _ _) (either (is_spare v.servers id) (Changes _ _) (Never TargetBehind) tt tt) tt)
 
   assigning : (id role : ℕ) → MayAsk P (asking.asks_assign v id role)
   assigning id role = either (not (has_server v.servers id)) _ _ tt (either (nat_lt 2 role) _ _ tt (of_other id (asking.asks_role v id role) (role_too id role)))
 
   removing : (id : ℕ) → MayAsk P (asking.asks_remove v id)
-  removing id = either (has_server v.servers id) (asking.of_other v id (Changes _)) _ (of_other id (Changes _) tt) tt
+  removing id = either (has_server v.servers id) (asking.of_other v id (Changes _ _)) _ (of_other id (Changes _ _) tt) tt
 
   transferring : (id : ℕ) → MayAsk P (asking.asks_transfer v id)
   transferring id = either (among (voters v.servers) id) _ _ (either (asking.may_take_over v id) (Sets (HandsOver id)) _ tt tt) tt
@@ -268,7 +268,7 @@ module _ (v : View) (P : ℕ → Type 0) where
     does_too (Begins at_once) answers h = search (turns)
     does_too Commits answers h = commit_too s.tx
     does_too RollsBack answers h = tt
-    does_too (Changes servers) answers h = search (turns)
+    does_too (Changes servers short) answers h = search (turns)
     does_too (Runs ss) answers h = run_too s.tx ss false answers
     does_too (Reads statement) answers h = search (turns, read_too)
 

@@ -37,7 +37,7 @@ plain_one f = record { name = f.name; first = f.first; last = f.last; term = f.t
 
 landed_plain : (s : Session) (f : Flight) (k : Kind) → landed (plain_session s) (plain_one f) (plain_kind k) ≡ plain_session (landed s f k)
 landed_plain s f Opening = refl
-landed_plain s f Configuring = refl
+landed_plain s f (Configuring short) = refl
 landed_plain s f (Writing reply) = refl
 landed_plain s f Committing = refl
 landed_plain s f (Querying statement) = refl
@@ -53,7 +53,7 @@ settled_plain index s (Some f) = at (f.last == index) s.hung
 
 commits_plain : (k : Kind) → commits (plain_kind k) ≡ commits k
 commits_plain Opening = refl
-commits_plain Configuring = refl
+commits_plain (Configuring short) = refl
 commits_plain (Writing reply) = refl
 commits_plain Committing = refl
 commits_plain (Querying statement) = refl
@@ -142,7 +142,7 @@ told_as replies = all_told replies
 
 told_kind : (conn : ℕ) (k : Kind) → told_as (told_to conn (landed_reply (plain_kind k))) ≡ told_as (told_to conn (landed_reply k))
 told_kind conn Opening = refl
-told_kind conn Configuring = refl
+told_kind conn (Configuring short) = refl
 told_kind conn (Writing reply) = ap (λ (rs : List (ℕ × Response)). rs ++ []) (told_reply conn reply)
 told_kind conn Committing = refl
 told_kind conn (Querying statement) = refl

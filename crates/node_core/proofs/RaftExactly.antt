@@ -40,7 +40,7 @@ use Rattle.applied_state.specs.declared.leadership.Leadership.{Leadership}
 use Rattle.applied_state.specs.declared.leadership.LeadershipPhase.TheVariants.{Barrier}
 use Rattle.node_core.specs.declared.outs.StepOutputs.{StepOutputs}
 use Rattle.node_core.specs.declared.running.Running.{Running}
-use Rattle.node_core.specs.Core.{Core, are_others, core_of, ended, evens, followed, has_lost, is_even, leaving, looked, losing, replaced, showing_servers, won, won_by}
+use Rattle.node_core.specs.Core.{Core, are_others, core_of, ended, evens, followed, has_lost, is_even, leaving, looked, losing, nears, replaced, showing_servers, won, won_by}
 use Rattle.node_core.specs.Exact.{ChangesFrom, ExactDue, ExactInstall, OnOffered, OnPut, ExactOwnStep, ExactRaft, ExactStep, ExactTold, brings, change_for, change_in, index_of, is_follower, puts, told_behind}
 use Rattle.node_core.specs.Exact as exactly
 use Rattle.node_core.specs.ExactRaft.{ExactSnapshot, ExactLeadershipEnd, ExactMembersFollow, IsFrom}
@@ -198,11 +198,12 @@ win_so n office term index none leads in_term ends value =
 -- only these of its view have changed
 pub looked_is : (old new : Running) (view : View) → new ≡ record old { view = view } → view.id ≡ old.view.id → view.serving ≡ old.view.serving → view.servers ≡ old.view.servers
     → view.links ≡ old.view.links → view.readers ≡ old.view.readers → view.leader ≡ leader_at old.replica.raft.leader → view.term ≡ old.replica.raft.term
-    → view.last ≡ length (node_of old.replica.raft).log → view.even ≡ evens (node_of old.replica.raft) old.view.servers → core_of new ≡ looked (core_of old)
+    → view.last ≡ length (node_of old.replica.raft).log → view.even ≡ evens (node_of old.replica.raft) old.view.servers
+    → view.near ≡ nears old.replica.id (node_of old.replica.raft) old.view.servers → core_of new ≡ looked (core_of old)
 unfolding core_of
-looked_is old new view is id serving servers links readers leader term last even =
+looked_is old new view is id serving servers links readers leader term last even near =
     ap core_of is ∙ (λ i. record (core_of old) {
-      view = record { id = id i; leader = leader i; serving = serving i; term = term i; last = last i; servers = servers i; links = links i; readers = readers i; even = even i };
+      view = record { id = id i; leader = leader i; serving = serving i; term = term i; last = last i; servers = servers i; links = links i; readers = readers i; even = even i; near = near i };
     })
 
 -- the applied servers are seen first

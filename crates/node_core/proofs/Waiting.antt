@@ -20,7 +20,7 @@ use Rattle.session_spec.specs.Causes.{LeadershipLost}
 use Rattle.session_spec.specs.Events.{tidy, landed, settled_by, on_applied, landed_reply, told_to, told_by, told_applied, still_lent, loses, lost, on_lost, placed, ordered, last_of, waits, told_lost, left, on_hangup, connected}
 use Rattle.session_spec.specs.Machine.{Machine}
 use Rattle.session_spec.specs.Requests.{with_session, without_later, affected_by}
-use Rattle.session_spec.specs.Sessions.{Reply, Refusal, Single, Rows as RowsOf, responses_of, result, empty, db, Kind, Opening, Configuring, Writing, Committing, Querying, Flight, Later, Due, Lent, Session, Gateway, View, absent, fresh, is_flying, is_due, is_busy, Effect, HandsOver, JoinsPeer, Weighs, Turned, Refused, Lacks, Answers, Proposes, Lends, Affects}
+use Rattle.session_spec.specs.Sessions.{Reply, Refusal, Single, Rows as RowsOf, responses_of, result, empty, change_reply, db, Kind, Opening, Configuring, Writing, Committing, Querying, Flight, Later, Due, Lent, Session, Gateway, View, absent, fresh, is_flying, is_due, is_busy, Effect, HandsOver, JoinsPeer, Weighs, Turned, Refused, Lacks, Answers, Proposes, Lends, Affects}
 use Rattle.session_table.specs.declared.session.Session.{Session as TableSession}
 use Rattle.session_table.specs.Sweeping.{told_in, all_told}
 use Rattle.session_table.specs.Table.{has_conn, session_found, session_at, table_of}
@@ -330,7 +330,7 @@ told_itself other r e = let same : (other == other) ≡ true = eq-eqb other othe
 
 landed_by : (other : ℕ) (s : Session) (f : Flight) (kind : Kind) (x : Option Conn) → list_any (is_to other) (told_to other (landed_reply kind)) ≡ false → offered_on other [] (is_busy (landed s f kind)) x ≡ None
 landed_by other s f Opening x e = absurd (told_itself other db e)
-landed_by other s f Configuring x e = absurd (told_itself other empty e)
+landed_by other s f (Configuring short) x e = absurd (told_itself other (change_reply short) e)
 landed_by other s f (Writing reply) x e = absurd (told_itself other reply e)
 landed_by other s f Committing x e = absurd (told_itself other (result 0) e)
 landed_by other s f (Querying statement) x e = refl

@@ -1,5 +1,5 @@
 -- What of a node decides what it does and says, and what the parts of a turn make of it.
-use Rattle.std.specs.Prelude.{ℕ, suc, ◌+◌, ◌-◌, ◌==◌, Bool, true, false, not, ◌&&◌, ◌||◌, cond, nat_lt}
+use Rattle.std.specs.Prelude.{ℕ, suc, ◌+◌, ◌-◌, ◌==◌, Bool, true, false, not, ◌&&◌, ◌||◌, cond, nat_le, nat_lt}
 use Rattle.std.specs.Prelude.{List, [], ◌∷◌, ◌++◌, length, map, drop, is_none, Option, Some, None}
 use Rattle.std.specs.List.{filter, list_all, slice_get}
 use Rattle.client_connection.specs.declared.connection.CloseReason.{CloseReason}
@@ -97,6 +97,17 @@ is_even r server = is_leader r.role && (r.match_of server.id == length r.log)
 abbrev pub evens : raft.Node → List Server → List ℕ
 evens r servers = map (λ (server : Server). server.id) (filter (is_even r) servers)
 
+-- up to which index a leader knows that a server's log agrees with its own, which agrees whole
+abbrev pub known_match : ℕ → raft.Node → ℕ → ℕ
+known_match me r id = cond (id == me) (length r.log) (r.match_of id)
+
+-- a leader knows that the server has entries, and that it lacks at most the last 16
+abbrev pub is_near : ℕ → raft.Node → Server → Bool
+is_near me r server = is_leader r.role && nat_lt 0 (known_match me r server.id) && nat_le (length r.log - known_match me r server.id) 16
+
+abbrev pub nears : ℕ → raft.Node → List Server → List ℕ
+nears me r servers = map (λ (server : Server). server.id) (filter (is_near me r) servers)
+
 -- after a step of Raft
 abbrev pub looked : Core → Core
 looked w = record w {
@@ -105,6 +116,7 @@ looked w = record w {
     term = w.raft.term;
     last = length w.raft.log;
     even = evens w.raft w.view.servers;
+    near = nears w.me w.raft w.view.servers;
   };
 }
 

@@ -54,6 +54,7 @@ started me links readers kept s =
         links = links;
         readers = readers;
         even = [];
+        near = [];
       };
       office = None;
       due = [];

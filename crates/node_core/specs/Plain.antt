@@ -13,7 +13,7 @@ plain_reply (Rows answer) = Rows (plain_ran answer)
 
 abbrev pub plain_kind : Kind → Kind
 plain_kind Opening = Opening
-plain_kind Configuring = Configuring
+plain_kind (Configuring short) = Configuring short
 plain_kind (Writing reply) = Writing (plain_reply reply)
 plain_kind Committing = Committing
 plain_kind (Querying statement) = Querying statement

@@ -1,9 +1,9 @@
 //! What a node is for its sessions.
 
-ghost use Rattle.std.specs.Prelude.{◌≡◌, ◌≢◌, ◌++◌, [], ◌∷◌, None, true, false, IfOk, OnOk};
+ghost use Rattle.std.specs.Prelude.{◌≡◌, ◌≢◌, ◌++◌, ◌×◌, [], ◌∷◌, None, true, false, IfOk, OnOk};
 ghost use Rattle.raft_spec.specs.Node.{Follower};
 ghost use Rattle.raft_spec.specs.NodeValues.{node_of};
-ghost use Rattle.node_core.specs.Core.{core_of, evens, looked, showing_servers};
+ghost use Rattle.node_core.specs.Core.{core_of, evens, is_near, looked, nears, showing_servers};
 ghost use Rattle.node_core.specs.Whole.{Holds, InOffice, IsGoing};
 
 use crate::running::Running;
@@ -12,6 +12,7 @@ use raft_core::{RaftRole, RaftView};
 use raft_messages::{Server, Servers};
 use raft_on_disk::Replica;
 use session_gateway::{StepLimits, View};
+use session_table::MAX_VOTER_LAG;
 use std::alloc::{AllocError, Global};
 use std::mem;
 
@@ -52,6 +53,7 @@ pub(crate) fn starting_view(
       links = links;
       readers = readers;
       even = [];
+      near = [];
     } }
 {
     View {
@@ -64,6 +66,7 @@ pub(crate) fn starting_view(
         links,
         readers,
         even: Items::new(Vec::new(alloc)),
+        near: Items::new(Vec::new(alloc)),
         steps,
     }
 }
@@ -85,6 +88,43 @@ fn refill(even: &mut Vec<u64>, replica: &Replica, servers: &[Server]) -> Result<
     even.clear();
     for server in servers {
         add_even(even, replica, server)?;
+    }
+    Ok(())
+}
+
+/// Whether a leader knows that a server has entries of its log, and that it lacks at most the last ones.
+#[tactic(auto, unfolding(raft_spec::specs::Log::log_end), using(crate::proofs::Nears::near_as, crate::proofs::Nears::near_none))]
+fn is_near(replica: &Replica, server: &Server) -> bool
+    ensures { result ≡ is_near replica.now.raft.id (node_of replica.now.raft) server.now }
+{
+    let Some(matched) = replica.matched(server.id) else {
+        return false;
+    };
+    let last = replica.view().last;
+    0 < matched && last.index.saturating_sub(matched) <= MAX_VOTER_LAG
+}
+
+/// Adds the id of a peer, if its log is known to lack at most the last entries of a leader's.
+fn add_near(near: &mut Vec<u64>, replica: &Replica, server: &Server) -> Result<(), AllocError>
+    ensures { OnOk result (near.new.items ≡ near.old.items ++ nears replica.now.raft.id (node_of replica.now.raft) (server.now ∷ [])) }
+{
+    if is_near(replica, server) {
+        near.push(server.id)?;
+    }
+    Ok(())
+}
+
+/// Puts the ids of these peers whose log is known to lack at most the last entries of a leader's in the place of what is there.
+fn refill_near(
+    near: &mut Vec<u64>,
+    replica: &Replica,
+    servers: &[Server],
+) -> Result<(), AllocError>
+    ensures { OnOk result (near.new.items ≡ nears replica.now.raft.id (node_of replica.now.raft) servers.now) }
+{
+    near.clear();
+    for server in servers {
+        add_near(near, replica, server)?;
     }
     Ok(())
 }
@@ -117,8 +157,28 @@ impl Running {
         self.view.leader = raft.leader;
     }
 
-    /// The peers whose log is known to reach a leader's last index.
+    /// The peers whose log is known to reach a leader's last index, and those whose log is known to lack at most the last entries.
     fn look_at_peers(&mut self) -> Result<(), AllocError>
+        ensures is { self.new ≡ record self.old { view = record self.old.view { even = self.new.view.even; near = self.new.view.near } } }
+        ensures peers { OnOk result ((self.new.view.even ≡ evens (node_of self.old.replica.raft) self.old.view.servers)
+            × (self.new.view.near ≡ nears self.old.replica.raft.id (node_of self.old.replica.raft) self.old.view.servers)) }
+    {
+        self.look_at_even()?;
+        self.look_at_near()
+    }
+
+    fn look_at_near(&mut self) -> Result<(), AllocError>
+        ensures is { self.new ≡ record self.old { view = record self.old.view { near = self.new.view.near } } }
+        ensures near { OnOk result (self.new.view.near ≡ nears self.old.replica.raft.id (node_of self.old.replica.raft) self.old.view.servers) }
+    {
+        let kept = mem::replace(&mut self.view.near, Items::new(Vec::new(self.alloc)));
+        let mut near = kept.into_vec();
+        refill_near(&mut near, &self.replica, self.view.servers.as_slice())?;
+        self.view.near = Items::new(near);
+        Ok(())
+    }
+
+    fn look_at_even(&mut self) -> Result<(), AllocError>
         ensures is { self.new ≡ record self.old { view = record self.old.view { even = self.new.view.even } } }
         ensures even { OnOk result (self.new.view.even ≡ evens (node_of self.old.replica.raft) self.old.view.servers) }
     {

@@ -86,7 +86,7 @@ again lacks since m Other = (since, refl)
 
 told_kind : (conn : ℕ) (t : Trail) (f : Flight) (k : Kind) → map told (said_landed conn t f k) ≡ told_to conn (landed_reply k)
 told_kind conn t f Opening = refl
-told_kind conn t f Configuring = refl
+told_kind conn t f (Configuring short) = refl
 told_kind conn t f (Writing reply) = refl
 told_kind conn t f Committing = refl
 told_kind conn t f (Querying statement) = refl
@@ -114,7 +114,7 @@ told_all index trail g = told_each index trail g.session g.conns
 -- what is reported is of the term in which the node serves
 landed_in : (w : Life) (conn : ℕ) (t : Trail) (f : Flight) (k : Kind) → (f.term ≡ w.term) × (w.leads ≡ true) → InTerm w (said_landed conn t f k)
 landed_in w conn t f Opening h = ((λ some. h), tt)
-landed_in w conn t f Configuring h = ((λ some. h), tt)
+landed_in w conn t f (Configuring short) h = ((λ some. h), tt)
 landed_in w conn t f (Writing reply) h = ((λ some. h), tt)
 landed_in w conn t f Committing h = ((λ some. h), tt)
 landed_in w conn t f (Querying statement) h = tt

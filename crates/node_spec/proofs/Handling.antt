@@ -143,7 +143,7 @@ view_is vs a s w standing x idle =
     let log : w.log ≡ log_seen s.log = subst (λ l. w.log ≡ log_seen (with_due s.term s.log l)) idle x.log in
     let last : length w.log ≡ length (node_of a.node.raft).log = ap length log ∙ size_of s.log ∙ x.twin.same.len ∙ sym (ap (λ (z : Node). length z.log) x.twin.node) in
     let term : w.term ≡ a.node.raft.term = x.term ∙ sym (ap (λ (z : Node). z.term) x.twin.node) in
-    λ i. record { id = standing.id; leader = standing.leader; serving = x.serving i; term = term i; last = last i; servers = standing.servers; links = standing.links; readers = standing.readers; even = standing.even }
+    λ i. record { id = standing.id; leader = standing.leader; serving = x.serving i; term = term i; last = last i; servers = standing.servers; links = standing.links; readers = standing.readers; even = standing.even; near = standing.near }
 
 pub handling_goes_holds : CountsRestart → (m : Meaning) (kind : EngineKind) → HandlingGoes m kind
 unfolding happens

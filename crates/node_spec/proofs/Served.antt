@@ -100,7 +100,7 @@ module _ (v : View) (m : Machine) (g : Gateway) (c : ℕ) (s : Session) where
   does_next r (Begins at_once) answers h = cond_both (at_once && other_holds g c s.database) _ _ So (λ e. tt) (λ e. same)
   does_next r Commits answers h = commit_next h.0.serves s.tx
   does_next r RollsBack answers h = same
-  does_next r (Changes servers) answers h = cond_both (log_full v) _ _ So (λ e. tt) (λ e. flies [] (Configures servers ∷ []) 0 Configuring Nothing h.0 e)
+  does_next r (Changes servers short) answers h = cond_both (log_full v) _ _ So (λ e. tt) (λ e. flies [] (Configures servers ∷ []) 0 (Configuring short) Nothing h.0 e)
   does_next r (Runs ss) answers h = run_next h.serves s.tx ss false answers
   does_next r (Reads statement) answers h = reads_both So v m g c s statement answers
       (λ e. barrier_next h.serves statement)
@@ -144,7 +144,7 @@ put_by term serving conn s session own h other = cond_both (other == conn) s (se
 
 landed_by : (term : ℕ) (serving : Bool) (s : Session) (f : Flight) (k : Kind) → IsServed term serving (landed s f k).flight
 landed_by term serving s f Opening = tt
-landed_by term serving s f Configuring = tt
+landed_by term serving s f (Configuring short) = tt
 landed_by term serving s f (Writing reply) = tt
 landed_by term serving s f Committing = tt
 landed_by term serving s f (Querying statement) = tt

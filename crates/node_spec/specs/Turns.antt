@@ -50,6 +50,7 @@ view_at a standing = record {
   links = standing.links;
   readers = standing.readers;
   even = standing.even;
+  near = standing.near;
 }
 
 -- the sessions after what comes of a request

@@ -99,7 +99,7 @@ does_once v m g c s (Forgets response) answers = tt
 does_once v m g c s (Begins at_once) answers = cond_both (at_once && other_holds g c s.database) _ _ ProposesOneIfAny (λ p. tt) (λ p. tt)
 does_once v m g c s Commits answers = commit_once v m g c s s.tx
 does_once v m g c s RollsBack answers = tt
-does_once v m g c s (Changes servers) answers =
+does_once v m g c s (Changes servers short) answers =
     cond_both (log_full v) _ _ ProposesOneIfAny (λ p. tt) (λ p. record { flight = _; is = refl; count = refl; reply = tt })
 does_once v m g c s (Runs ss) answers = run_once v m g c s s.tx ss false answers
 does_once v m g c s (Reads statement) answers = reads_both ProposesOneIfAny v m g c s statement answers

@@ -12,7 +12,7 @@ use Rattle.session_spec.specs.Causes.{LeadershipLost}
 use Rattle.session_spec.specs.Engines.{Answer}
 use Rattle.session_spec.specs.Events.{tidy, landed, settled_by, on_applied, lost, on_lost, waits, last_of, placed, ordered, told_lost, left, on_hangup, connects, connected}
 use Rattle.session_spec.specs.Requests.{with_later, with_session, affected_by, on_request}
-use Rattle.session_spec.specs.Sessions.{Reply, Refusal, result, empty, db, Kind, Opening, Configuring, Writing, Committing, Querying, Flight, Later, later_query, lent_query, Session, Gateway, absent, fresh, may_ask, Effect, HandsOver, JoinsPeer, Weighs, Turned, Refused, Lacks, Answers, Proposes, Lends, Affects}
+use Rattle.session_spec.specs.Sessions.{Reply, Refusal, result, empty, change_reply, db, Kind, Opening, Configuring, Writing, Committing, Querying, Flight, Later, later_query, lent_query, Session, Gateway, absent, fresh, may_ask, Effect, HandsOver, JoinsPeer, Weighs, Turned, Refused, Lacks, Answers, Proposes, Lends, Affects}
 use Rattle.session_safety.specs.Answering.{outcome, said_to}
 use Rattle.session_safety.specs.Laws.{NoneComes}
 use Rattle.session_safety.specs.Life.{query_for, query_by, commit_of, Event, Connect, Hangup, Call, Resume, Done, Apply, Lose, Lead, Serve, Append, Follow, tells, called, undue, outcome_later, resumed, told_at, said_read, read_by, read, said_landed, said_by, said_applied, told_all, joined, happens, run_from, AllFit}
@@ -95,7 +95,7 @@ one_other c d r q k o index term n = to_other c (record { conn = d; reply = r; q
 
 landed_other : (c d : ℕ) (t : Trail) (f : Flight) (k : Kind) → d ≢ c → said_to c (said_landed d t f k) ≡ []
 landed_other c d t f Opening n = one_other c d db None None (Some f.name) f.last f.term n
-landed_other c d t f Configuring n = one_other c d empty None None None f.last f.term n
+landed_other c d t f (Configuring short) n = one_other c d (change_reply short) None None None f.last f.term n
 landed_other c d t f (Writing reply) n =
     one_other c d reply (query_for reply f.name t.at [] t.ran t.seen) (Some (commit_of f t.ran)) None f.last f.term n
 landed_other c d t f Committing n = one_other c d (result 0) None (Some (commit_of f t.ran)) None f.last f.term n
@@ -128,7 +128,7 @@ one_here c r q k o index term rest h =
 
 landed_here : (c : ℕ) (t : Trail) (f : Flight) (k : Kind) (rest : List Said) → 0 < kind_count k → HasReply k → HasAnswer c (said_landed c t f k ++ rest)
 landed_here c t f Opening rest pos r = one_here c db None None (Some f.name) f.last f.term rest tt
-landed_here c t f Configuring rest pos r = absurd (omega (arith, pos))
+landed_here c t f (Configuring short) rest pos r = absurd (omega (arith, pos))
 landed_here c t f (Writing reply) rest pos r =
     one_here c reply (query_for reply f.name t.at [] t.ran t.seen) (Some (commit_of f t.ran)) None f.last f.term rest r
 landed_here c t f Committing rest pos r = one_here c (result 0) None (Some (commit_of f t.ran)) None f.last f.term rest tt

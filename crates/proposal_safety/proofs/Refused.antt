@@ -14,7 +14,7 @@ use Rattle.proposal_safety.proofs.Counting.{logs_grow_hold}
 
 most_one : (kind : Kind) → kind_count kind ≤ 1
 most_one Opening = omega arith
-most_one Configuring = omega arith
+most_one (Configuring short) = omega arith
 most_one (Writing reply) = omega arith
 most_one Committing = omega arith
 most_one (Querying statement) = omega arith

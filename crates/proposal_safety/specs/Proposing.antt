@@ -39,7 +39,7 @@ change_count (content ∷ contents) = content_count content + change_count conte
 -- how many changes a pending proposal makes, by its kind
 abbrev pub kind_count : Kind → ℕ
 kind_count Opening = 1
-kind_count Configuring = 0
+kind_count (Configuring short) = 0
 kind_count (Writing reply) = 1
 kind_count Committing = 1
 kind_count (Querying statement) = 0
@@ -63,7 +63,7 @@ IsLossIfRefused (Rows answer) = Unit {0}
 
 abbrev pub HasReply : Kind → Type 0
 HasReply Opening = Unit {0}
-HasReply Configuring = Unit {0}
+HasReply (Configuring short) = Unit {0}
 HasReply (Writing reply) = IsLossIfRefused reply
 HasReply Committing = Unit {0}
 HasReply (Querying statement) = Unit {0}

@@ -59,7 +59,7 @@ ProposalRests m w conn ss contents f (Writing reply) = (f.name ≡ (w.gate.sessi
     ((to : Image) × LeadsToImage w contents f (newest_of w conn) to × RanWithReply m (newest_of w conn) ss to reply)
 ProposalRests m w conn ss contents f (Querying statement) = ss ≡ statement ∷ []
 ProposalRests m w conn ss contents f Opening = ⊥
-ProposalRests m w conn ss contents f Configuring = ⊥
+ProposalRests m w conn ss contents f (Configuring short) = ⊥
 ProposalRests m w conn ss contents f Committing = ⊥
 
 -- What comes of statements, by the transaction that is open: a refusal, an answer at once, a proposal, or a query that a reader runs over the newest image.

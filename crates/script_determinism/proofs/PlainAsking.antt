@@ -44,7 +44,7 @@ reply_twice (Rows answer) = refl
 
 kind_twice : (k : Kind) → plain_kind (plain_kind k) ≡ plain_kind k
 kind_twice Opening = refl
-kind_twice Configuring = refl
+kind_twice (Configuring short) = refl
 kind_twice (Writing reply) = ap (λ (r : Reply). Writing r) (reply_twice reply)
 kind_twice Committing = refl
 kind_twice (Querying statement) = refl
@@ -74,7 +74,7 @@ without_plain g conn = λ i. record { conns = g.conns; session = λ other. at ot
 
 write_plain : (k : Kind) → is_write (plain_kind k) ≡ is_write k
 write_plain Opening = refl
-write_plain Configuring = refl
+write_plain (Configuring short) = refl
 write_plain (Writing reply) = refl
 write_plain Committing = refl
 write_plain (Querying statement) = refl
@@ -93,7 +93,7 @@ other_plain g conn name = λ i. list_any (λ (other : ℕ). not (other == conn) 
 
 configures_plain : (k : Kind) → configures (plain_kind k) ≡ configures k
 configures_plain Opening = refl
-configures_plain Configuring = refl
+configures_plain (Configuring short) = refl
 configures_plain (Writing reply) = refl
 configures_plain Committing = refl
 configures_plain (Querying statement) = refl
@@ -108,7 +108,7 @@ change_plain g = λ i. list_any (λ (conn : ℕ). configuring_plain (g.session c
 
 opens_plain : (k : Kind) (name : List ℕ) → opens (plain_kind k) name ≡ opens k name
 opens_plain Opening name = refl
-opens_plain Configuring name = refl
+opens_plain (Configuring short) name = refl
 opens_plain (Writing reply) name = refl
 opens_plain Committing name = refl
 opens_plain (Querying statement) name = refl
@@ -330,9 +330,9 @@ module _ (v : View) (m : Machine) (g : Gateway) (conn : ℕ) (s : Session) where
       (tx_twice s (Some (begun_over s.database (m.base s.database) at_once)) (result 0) Began)
   does_at Commits a = commit_at s.tx
   does_at RollsBack a = tx_twice s None (result 0) Nothing
-  does_at (Changes servers) a =
-      both (log_full v) (Refused LogFull) (Proposes (flying v (plain_session s) [] (Configures servers ∷ []) 0 Configuring) (Configures servers ∷ []) Nothing)
-      (Refused LogFull) (Proposes (flying v s [] (Configures servers ∷ []) 0 Configuring) (Configures servers ∷ []) Nothing) refl refl
+  does_at (Changes servers short) a =
+      both (log_full v) (Refused LogFull) (Proposes (flying v (plain_session s) [] (Configures servers ∷ []) 0 (Configuring short)) (Configures servers ∷ []) Nothing)
+      (Refused LogFull) (Proposes (flying v s [] (Configures servers ∷ []) 0 (Configuring short)) (Configures servers ∷ []) Nothing) refl refl
   does_at (Runs ss) a = run_at s.tx ss false a
   does_at (Reads q) a =
       both (waits_first s) (barrier_first v (plain_session s) q) (read_in v m (plain_gate g) conn (plain_session s) s.tx q a) (barrier_first v s q) (read_in v m g conn s s.tx q a)

@@ -137,7 +137,7 @@ module _ (v : View) (m : Machine) (g : Gateway) (conn : ℕ) (a b : List Answer)
   does_alike s (Begins at_once) p q e f l r = none_alike a b e f
   does_alike s Commits p q e f l r = none_alike a b e f
   does_alike s RollsBack p q e f l r = none_alike a b e f
-  does_alike s (Changes servers) p q e f l r = none_alike a b e f
+  does_alike s (Changes servers short) p q e f l r = none_alike a b e f
 
 pub asked_alike : (v : View) (m : Machine) (g : Gateway) (conn : ℕ) (r : Request) (a b : List Answer)
     → AllowsFor cells Cells (handed v m g conn r) a → AllowsFor cells Cells (handed v m g conn r) b → AllByRecursion IsAmple a → AllByRecursion IsAmple b

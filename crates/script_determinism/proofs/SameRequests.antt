@@ -72,7 +72,7 @@ module _ (v : View) (m : Machine) (g : Gateway) (conn : ℕ) (a b : List Answer)
   does_same s (Begins at_once) p q n k l r = refl
   does_same s Commits p q n k l r = refl
   does_same s RollsBack p q n k l r = refl
-  does_same s (Changes servers) p q n k l r = refl
+  does_same s (Changes servers short) p q n k l r = refl
   does_same s (Runs ss) p q n k l r = run_same s s.tx ss false p q n k l r
   does_same s (Reads statement) p q n k l r = elim (cases_Bool (waits_first s)) [
     | inl waits ↦ ap plain_turned (cond-true (waits_first s) (barrier_first v s statement) _ waits ∙ sym (cond-true (waits_first s) (barrier_first v s statement) _ waits))

@@ -16,7 +16,7 @@ use Rattle.session_spec.specs.Causes.{Cause, NotLeader, NoDatabase, ChangeInFlig
 use Rattle.session_spec.specs.Engines.{Answer, Ending, Lacking, TooLarge, Stopped, Ended, no_answer, runs}
 use Rattle.session_spec.specs.Limits.{change_in_flight, one_too_many, log_full, other_holds, write_hindrance}
 use Rattle.session_spec.specs.Machine.{Machine, is_named}
-use Rattle.session_spec.specs.Servers.{has_server}
+use Rattle.session_spec.specs.Servers.{has_server, is_spare}
 use Rattle.session_spec.specs.Sessions.{Prepared, Transaction, Session, Gateway, View, JoinsPeer, HandsOver, Weighs, Turned, Refused, Lacks, Answers, Proposes, Lends, Affects, in_tx}
 use Rattle.session_spec.specs.Statements.{prepared_from, prepared_at, prepared_count, is_left_out, is_write_word, any_barred, any_write, wrong_params, with_params, with_all}
 use Rattle.session_spec.specs.Asking as asking
@@ -41,7 +41,7 @@ Stays (Forgets response) = Unit {0}
 Stays (Begins at_once) = Unit {0}
 Stays Commits = Unit {0}
 Stays RollsBack = Unit {0}
-Stays (Changes servers) = Unit {0}
+Stays (Changes servers short) = Unit {0}
 Stays (Runs ss) = Unit {0}
 Stays (Reads s) = Unit {0}
 
@@ -133,7 +133,7 @@ other_stays v id x h = by (id == v.id) (Never TransferFirst) x tt h
 
 role_stays : (v : View) (id role : ℕ) → Stays (asking.asks_role v id role)
 role_stays v id role =
-    by (asking.is_promotion v.servers id role && nat_le 7 (length (voters v.servers))) _ _ tt (by (asking.is_promotion v.servers id role && not (among v.even id)) _ _ tt tt)
+    by (asking.is_promotion v.servers id role && nat_le 7 (length (voters v.servers))) _ _ tt (by (asking.is_promotion v.servers id role && not (among v.near id)) _ _ (by (is_spare v.servers id) _ _ tt tt) tt)
 
 assign_stays : (v : View) (id role : ℕ) → Stays (asking.asks_assign v id role)
 assign_stays v id role = by (not (has_server v.servers id)) _ _ tt (by (nat_lt 2 role) _ _ tt (other_stays v id (asking.asks_role v id role) (role_stays v id role)))
@@ -240,7 +240,7 @@ module _ (v : View) (m : Machine) (g : Gateway) (conn : ℕ) (s : Session) where
   does_told (Begins at_once) a unread h = on (at_once && other_holds g conn s.database) _ _ tt tt
   does_told Commits a unread h = commit_told s.tx
   does_told RollsBack a unread h = tt
-  does_told (Changes servers) a unread h = on (log_full v) _ _ tt tt
+  does_told (Changes servers short) a unread h = on (log_full v) _ _ tt tt
   does_told (Runs ss) a unread h = run_told s.tx ss false a
   does_told (Reads q) a unread h = on (waits_first s) _ _ (on (log_full v) _ _ tt tt) (read_told s.tx q a unread)
 

@@ -14,7 +14,7 @@ use Rattle.session_spec.specs.Asking as asking
 use Rattle.session_spec.specs.Asking.{Asked, Never, Changes, fits_one_voter, asked_unless_lost, asked_by, is_barred_node, is_promotion, is_taken}
 use Rattle.session_spec.specs.Limits.{change_in_flight, one_too_many, log_full}
 use Rattle.session_spec.specs.Machine.{Machine, is_named}
-use Rattle.session_spec.specs.Servers.{has_server, has_address, with_server, with_role, without_server}
+use Rattle.session_spec.specs.Servers.{has_server, has_address, is_spare, with_server, with_role, without_server}
 use Rattle.session_spec.specs.Sessions.{Session, Gateway, View}
 use Rattle.session_spec.specs.Allowed.{IsAllowed}
 use Rattle.session_spec.proofs.Asked.{all_allowed}
@@ -252,7 +252,7 @@ module _ (id role : ℕ) where
 
 -- servers that are asked for may stand together
 abbrev May : Asked → Type 0
-May (Changes servers) = IsConfiguration servers
+May (Changes servers short) = IsConfiguration servers
 May asked = Unit {0}
 
 if_may : (b : Bool) (x y : Asked) → (b ≡ true → May x) → (b ≡ false → May y) → May (cond b x y)
@@ -268,7 +268,7 @@ module _ (v : View) (g : Gateway) (c : IsConfiguration v.servers) where
 
   add_may : (id : ℕ) (address : List ℕ) → has_nul address ≡ false → May (asking.asks_add v.servers id address)
   add_may id address text =
-      if_may (is_barred_node v.servers id address) (Never _) (Changes (with_server (record { id = id; address = address; role = 2 }) v.servers)) (λ e. tt) (λ e. by e)
+      if_may (is_barred_node v.servers id address) (Never _) (Changes (with_server (record { id = id; address = address; role = 2 }) v.servers) false) (λ e. tt) (λ e. by e)
     where
       by : is_barred_node v.servers id address ≡ false → IsConfiguration (with_server (record { id = id; address = address; role = 2 }) v.servers)
       by e =
@@ -285,10 +285,14 @@ module _ (v : View) (g : Gateway) (c : IsConfiguration v.servers) where
   of_other_may : (id : ℕ) (asked : Asked) → May asked → May (asking.of_other v id asked)
   of_other_may id asked m = if_may (id == v.id) (Never _) asked (λ e. tt) (λ e. m)
 
+  catch_up_may : (id : ℕ) → May (asking.asks_to_catch_up v id)
+  catch_up_may id =
+      if_may (is_spare v.servers id) (Changes (with_role id 1 v.servers) true) (Never _) (λ e. turned id 1 v.servers c (omega arith) refl) (λ e. tt)
+
   role_may : (id role : ℕ) → role ≤ 2 → May (asking.asks_role v id role)
   role_may id role low =
       if_may (is_promotion v.servers id role && nat_le 7 (length (voters v.servers))) (Never _) _ (λ e. tt)
-      (λ room. if_may (is_promotion v.servers id role && not (among v.even id)) (Never _) (Changes (with_role id role v.servers)) (λ e. tt) (λ e. turned id role v.servers c low room))
+      (λ room. if_may (is_promotion v.servers id role && not (among v.near id)) (asking.asks_to_catch_up v id) (Changes (with_role id role v.servers) false) (λ e. catch_up_may id) (λ e. turned id role v.servers c low room))
 
   assign_may : (id role : ℕ) → May (asking.asks_assign v id role)
   assign_may id role =
@@ -296,7 +300,7 @@ module _ (v : View) (g : Gateway) (c : IsConfiguration v.servers) where
       (λ e. if_may (nat_lt 2 role) (Never _) (asking.of_other v id (asking.asks_role v id role)) (λ high. tt) (λ low. of_other_may id (asking.asks_role v id role) (role_may id role (ltb-false 2 role low))))
 
   remove_may : (id : ℕ) → May (asking.asks_remove v id)
-  remove_may id = if_may (has_server v.servers id) (asking.of_other v id (Changes (without_server id v.servers))) (Never _) (λ e. of_other_may id (Changes (without_server id v.servers)) (left id v.servers c)) (λ e. tt)
+  remove_may id = if_may (has_server v.servers id) (asking.of_other v id (Changes (without_server id v.servers) false)) (Never _) (λ e. of_other_may id (Changes (without_server id v.servers) false) (left id v.servers c)) (λ e. tt)
 
 module _ (v : View) (m : Machine) (g : Gateway) (conn : ℕ) (s : Session) (c : IsConfiguration v.servers) where
   open_may : (name : List ℕ) (barriers : Bool) → May (asking.asks_open v m g s name barriers)
@@ -319,7 +323,7 @@ module _ (v : View) (m : Machine) (g : Gateway) (conn : ℕ) (s : Session) (c : 
   plain_may request (asking.Begins at_once) fits is = tt
   plain_may request asking.Commits fits is = tt
   plain_may request asking.RollsBack fits is = tt
-  plain_may request (Changes servers) fits is = absurd (true≢false (sym fits ∙ is.2))
+  plain_may request (Changes servers short) fits is = absurd (true≢false (sym fits ∙ is.2))
   plain_may request (asking.Runs statements) fits is = tt
   plain_may request (asking.Reads statement) fits is = tt
 
@@ -378,7 +382,7 @@ module _ (v : View) (m : Machine) (g : Gateway) (conn : ℕ) (s : Session) (c : 
 
 -- so are those that are wanted
 pub configured : (v : View) (m : Machine) (g : Gateway) (conn : ℕ) (s : Session) (request : Request) (params : List Value) (w : RequestPlan) → IsConfiguration v.servers → AddressHasNoNul request → meant params w ≡ asked_by v m g conn s request → MayConfigure w
-configured v m g conn s request params (wanted.Changes servers) c text is = subst May (sym is) (all_may v m g conn s c request text)
+configured v m g conn s request params (wanted.Changes servers short) c text is = subst May (sym is) (all_may v m g conn s c request text)
 configured v m g conn s request params (wanted.Never cause) c text is = tt
 configured v m g conn s request params (wanted.Tells response) c text is = tt
 configured v m g conn s request params (wanted.Sets effect) c text is = tt

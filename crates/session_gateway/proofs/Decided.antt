@@ -97,9 +97,9 @@ module _ (v : View) (m : Machine) (g : Gateway) (conn : ℕ) (s : Session) (answ
   unfolding does
   creates_plain name barriers = either (pages_full m g name empty_image) (Refused causes.DatabaseFull) (Proposes (flying v (with_barriers s barriers) name (Does (OpenDb name) ∷ []) 0 Opening) (Does (OpenDb name) ∷ []) Nothing) tt tt
 
-  pub changes_plain : (servers : List Server) → IsPlain (does v m g conn s (asking.Changes servers) answers)
+  pub changes_plain : (servers : List Server) (short : Bool) → IsPlain (does v m g conn s (asking.Changes servers short) answers)
   unfolding does
-  changes_plain servers = either (log_full v) (Refused causes.LogFull) (Proposes (flying v s [] (Configures servers ∷ []) 0 Configuring) (Configures servers ∷ []) Nothing) tt tt
+  changes_plain servers short = either (log_full v) (Refused causes.LogFull) (Proposes (flying v s [] (Configures servers ∷ []) 0 (Configuring short)) (Configures servers ∷ []) Nothing) tt tt
 
   pub begins_plain : (at_once : Bool) → IsPlain (does v m g conn s (asking.Begins at_once) answers)
   unfolding does

@@ -86,7 +86,7 @@ module _ (v : View) (m : Machine) (g : Gateway) (conn : ℕ) (s : Session) where
   does_listed (Begins at_once) answers h = cond_both (at_once && other_holds g conn s.database) _ _ StaysListed (λ e. tt) (λ e. begun_listed m s at_once)
   does_listed Commits answers h = commit_listed s.tx h
   does_listed RollsBack answers h = tt
-  does_listed (Changes servers) answers h = cond_both (log_full v) _ _ StaysListed (λ e. tt) (λ e. h)
+  does_listed (Changes servers short) answers h = cond_both (log_full v) _ _ StaysListed (λ e. tt) (λ e. h)
   does_listed (Runs ss) answers h = run_listed s.tx ss false answers refl h
   does_listed (Reads statement) answers h = cond_both (waits_first s) _ _ StaysListed (λ e. cond_both (log_full v) _ _ StaysListed (λ f. tt) (λ f. h)) (λ e. read_listed s.tx statement answers refl h)
 

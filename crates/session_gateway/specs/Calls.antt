@@ -68,7 +68,7 @@ IsConfigured v = IsConfiguration v.servers
 
 -- so are those that it is to get
 abbrev pub MayConfigure : RequestPlan → Type 0
-MayConfigure (wanted.Changes servers) = IsConfiguration servers
+MayConfigure (wanted.Changes servers short) = IsConfiguration servers
 MayConfigure other = Unit {0}
 
 -- a serving leader's term has 32 bits, so that the number of a transaction has 64

@@ -88,7 +88,7 @@ fn decision_of<E: Engine>(
         RequestPlan::Creates(name, barriers) => {
             creating(alloc, view, machine, known, session, name, barriers)
         }
-        RequestPlan::Changes(servers) => changing(alloc, view, &servers),
+        RequestPlan::Changes(servers, reply) => changing(alloc, view, &servers, reply),
         RequestPlan::Prepares(prepared, tail) => Ok(preparing(session, prepared, tail)),
         RequestPlan::Drops(id) => Ok(finalizing(session, id)),
         RequestPlan::Forgets(response) => Ok(forgetting(response)),

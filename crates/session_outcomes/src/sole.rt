@@ -20,7 +20,7 @@ use crate::ends::flight;
 use dq_base::Items;
 use raft_messages::{Entries, Entry, EntryKind, Servers, SharedBytes, write_servers};
 use session_requests::{View, log_full};
-use session_table::{Cause, ProposalKind, Query};
+use session_table::{Cause, ChangeReply, ProposalKind, Query};
 use std::alloc::{AllocError, Global};
 
 /// The entry that gives the cluster these servers, in a term.
@@ -68,20 +68,25 @@ fn proposed_alone(
     Ok(Decision::Proposes(flight, entries))
 }
 
-/// What comes of ADD, ASSIGN and REMOVE where the cluster is to get these servers: one entry, which is answered once it is applied;
+/// What comes of ADD, ASSIGN and REMOVE where the cluster is to get these servers: one entry, which gets this reply once it is applied;
 /// or a refusal where nothing more is appended to the log.
 #[tactic(auto, unfolding(session_spec::specs::Requests::does))]
-pub fn changing(alloc: Global, view: &View, servers: &Servers) -> Result<Decision, AllocError>
+pub fn changing(
+    alloc: Global,
+    view: &View,
+    servers: &Servers,
+    reply: ChangeReply,
+) -> Result<Decision, AllocError>
     requires { IsConfiguration servers.now }
     ensures works { IfOk result (λ decision. (tx : Option TransactionValue) → work_in decision tx ≡ []) }
     ensures comes { (m : RuleMachine) (g : Gateway) (conn : ℕ) (s : RuleSession) (answers : List Answer)
-        → IfOk result (MatchesOutcome view.now m s (does view.now m g conn s (asking.Changes servers.now) answers)) }
+        → IfOk result (MatchesOutcome view.now m s (does view.now m g conn s (asking.Changes servers.now reply) answers)) }
 {
     if log_full(view) {
         return Ok(Decision::Refused(Cause::LogFull));
     }
     let entry = servers_entry(alloc, view.term, servers)?;
-    proposed_alone(alloc, view, entry, ProposalKind::Configuring)
+    proposed_alone(alloc, view, entry, ProposalKind::Configuring { reply })
 }
 
 /// What comes of a query that waits for a barrier: the barrier, after which the query is run; or a refusal where nothing more is

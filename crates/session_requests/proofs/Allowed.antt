@@ -71,7 +71,7 @@ allowed_of v g s r (asking.Forgets response) h = tt
 allowed_of v g s r (asking.Begins at_once) h = h
 allowed_of v g s r asking.Commits h = h
 allowed_of v g s r asking.RollsBack h = tt
-allowed_of v g s r (asking.Changes servers) h = (h.0, h.3)
+allowed_of v g s r (asking.Changes servers short) h = (h.0, h.3)
 allowed_of v g s r (asking.Runs statements) h = h
 allowed_of v g s r (asking.Reads statement) h = h
 

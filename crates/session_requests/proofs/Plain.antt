@@ -26,7 +26,7 @@ Plain (Forgets response) = Unit {0}
 Plain (Begins at_once) = ⊥
 Plain Commits = ⊥
 Plain RollsBack = ⊥
-Plain (Changes servers) = Unit {0}
+Plain (Changes servers short) = Unit {0}
 Plain (Runs ss) = ⊥
 Plain (Reads s) = ⊥
 
@@ -36,7 +36,7 @@ plain_can statements params none (wanted.Tells response) asked e h = tt
 plain_can statements params none (wanted.Sets effect) asked e h = tt
 plain_can statements params none (wanted.Opens name barriers) asked e h = tt
 plain_can statements params none (wanted.Creates name barriers) asked e h = tt
-plain_can statements params none (wanted.Changes servers) asked e h = tt
+plain_can statements params none (wanted.Changes servers short) asked e h = tt
 plain_can statements params none (wanted.Prepares p tail) asked e h = absurd (subst Plain (sym e) h)
 plain_can statements params none (wanted.Drops id) asked e h = absurd (subst Plain (sym e) h)
 plain_can statements params none (wanted.Forgets response) asked e h = tt

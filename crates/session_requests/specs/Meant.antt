@@ -36,7 +36,7 @@ meant params (wanted.Tells response) = rules.Tells response
 meant params (wanted.Sets effect) = rules.Sets (effect_named effect)
 meant params (wanted.Opens name barriers) = rules.Opens name barriers
 meant params (wanted.Creates name barriers) = rules.Creates name barriers
-meant params (wanted.Changes servers) = rules.Changes servers
+meant params (wanted.Changes servers short) = rules.Changes servers short
 meant params (wanted.Prepares prepared tail) = rules.Prepares prepared tail
 meant params (wanted.Drops id) = rules.Drops id
 meant params (wanted.Forgets response) = rules.Forgets response
@@ -104,7 +104,7 @@ IsPlainCause cause = Unit {0}
 abbrev pub IsAllowed : View → Session → Asked → Type 0
 IsAllowed v s (rules.Never cause) = IsPlainCause cause
 IsAllowed v s (rules.Creates name barriers) = log_full v ≡ false
-IsAllowed v s (rules.Changes servers) = (v.serving ≡ true) × IsOneChange v v.servers servers
+IsAllowed v s (rules.Changes servers short) = (v.serving ≡ true) × IsOneChange v v.servers servers
 IsAllowed v s (rules.Begins at_once) = IsServed v s × (in_tx s ≡ false)
 IsAllowed v s rules.Commits = IsServed v s × (in_tx s ≡ true)
 IsAllowed v s (rules.Runs statements) = IsServed v s

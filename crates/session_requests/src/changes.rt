@@ -1,6 +1,7 @@
 //! ADD, ASSIGN and REMOVE.
 
-ghost use Rattle.std.specs.Prelude.{◌≡◌, ◌≤◌, ◌==◌, ℕ, List, [], length, nat_lt, bytes_eq, IfOk};
+ghost use Rattle.std.specs.Prelude.{◌≡◌, ◌≤◌, ◌==◌, ◌&&◌, not, ℕ, List, [], length, nat_le, nat_lt, bytes_eq, IfOk};
+ghost use Rattle.raft_spec.specs.Node.{among, voters};
 ghost use Rattle.raft_messages.specs.Kinds.{role_number};
 ghost use Rattle.database_state.specs.declared.database.Database.{Database};
 ghost use Rattle.session_spec.specs.Asking as rules;
@@ -17,7 +18,7 @@ use dq_base::Items;
 use raft_messages::{
     MAX_ADDRESS_LENGTH, MAX_SERVERS, MAX_VOTERS, Server, ServerRole, Servers, voter_count,
 };
-use session_table::{Cause, GREATEST_ID, Session};
+use session_table::{Cause, ChangeReply, GREATEST_ID, Session};
 use std::alloc::{AllocError, Global};
 use wire_words::WireText;
 
@@ -125,7 +126,8 @@ pub(crate) fn wanted_by_add(
         address: copied_address(alloc, address)?,
         role: ServerRole::Spare,
     };
-    Ok(RequestPlan::Changes(with_server(alloc, servers, new)?))
+    let joined = with_server(alloc, servers, new)?;
+    Ok(RequestPlan::Changes(joined, ChangeReply::done()))
 }
 
 /// Whether a server isn't a voter yet, and is to be one.
@@ -161,23 +163,44 @@ fn with_role(
     Ok(Items::new(all))
 }
 
-/// Why a server can't have a role.
-fn role_hindrance(view: &View, id: u64, role: ServerRole) -> Option<Cause>
-    ensures { rules.asks_role view.now id (role_number role) ≡ refused_by result
-        (rules.Changes (rule_servers.with_role id (role_number role) view.now.servers)) }
+/// Whether a server is to be a voter more than there may be.
+fn is_one_voter_too_many(servers: &[Server], id: u64, role: ServerRole) -> bool
+    ensures { result ≡ (rules.is_promotion servers.now id (role_number role) && nat_le 7 (length (voters servers.now))) }
+{
+    is_promotion(servers, id, role) && voter_count(servers) >= MAX_VOTERS
+}
+
+/// Whether a server is to be a voter that isn't caught up.
+fn falls_short(view: &View, id: u64, role: ServerRole) -> bool
+    ensures { result ≡ (rules.is_promotion view.now.servers id (role_number role) && not (among view.now.near id)) }
+{
+    is_promotion(view.servers.as_slice(), id, role) && !is_among(view.near.as_slice(), id)
+}
+
+/// Whether a server has an id, and is a spare.
+fn is_spare_with(server: &Server, id: u64) -> bool
+    ensures { result ≡ ((server.now.id == id) && (server.now.role == 2)) }
+{
+    server.id == id && server.role.number() == ServerRole::Spare.number()
+}
+
+/// Whether the server of an id is a spare.
+fn is_spare(servers: &[Server], id: u64) -> bool
+    ensures { result ≡ rule_servers.is_spare servers.now id }
+{
+    servers.iter().any(|server| is_spare_with(server, id))
+}
+
+/// What ASSIGN wants of a serving leader for a server that is to be a voter and isn't caught up.
+fn wanted_to_catch_up(alloc: Global, view: &View, id: u64) -> Result<RequestPlan, AllocError>
+    ensures { IfOk result (λ wanted. meant [] wanted ≡ rules.asks_to_catch_up view.now id) }
 {
     let servers = view.servers.as_slice();
-    if !is_promotion(servers, id, role) {
-        return None;
+    if !is_spare(servers, id) {
+        return Ok(RequestPlan::Never(Cause::TargetBehind));
     }
-    if voter_count(servers) >= MAX_VOTERS {
-        return Some(Cause::TooManyVoters);
-    }
-    if is_among(view.even.as_slice(), id) {
-        None
-    } else {
-        Some(Cause::TargetBehind)
-    }
+    let changed = with_role(alloc, servers, id, ServerRole::Standby)?;
+    Ok(RequestPlan::Changes(changed, ChangeReply::short(alloc)?))
 }
 
 /// What ASSIGN wants of a serving leader for another server than this one.
@@ -189,10 +212,15 @@ fn wanted_by_role(
 ) -> Result<RequestPlan, AllocError>
     ensures { IfOk result (λ wanted. meant [] wanted ≡ rules.asks_role view.now id (role_number role)) }
 {
-    match role_hindrance(view, id, role) {
-        Some(cause) => Ok(RequestPlan::Never(cause)),
-        None => Ok(RequestPlan::Changes(with_role(alloc, view.servers.as_slice(), id, role)?)),
+    let servers = view.servers.as_slice();
+    if is_one_voter_too_many(servers, id, role) {
+        return Ok(RequestPlan::Never(Cause::TooManyVoters));
     }
+    if falls_short(view, id, role) {
+        return wanted_to_catch_up(alloc, view, id);
+    }
+    let changed = with_role(alloc, servers, id, role)?;
+    Ok(RequestPlan::Changes(changed, ChangeReply::done()))
 }
 
 /// Whether this node has an id.
@@ -251,5 +279,6 @@ pub(crate) fn wanted_by_remove(
     if is_this_node(view, id) {
         return Ok(RequestPlan::Never(Cause::TransferFirst));
     }
-    Ok(RequestPlan::Changes(without_server(alloc, servers, id)?))
+    let rest = without_server(alloc, servers, id)?;
+    Ok(RequestPlan::Changes(rest, ChangeReply::done()))
 }

@@ -222,7 +222,7 @@ fn is_change(kind: &ProposalKind) -> bool
     ensures { result ≡ limits.configures (kind_named kind.now) }
 {
     match kind {
-        ProposalKind::Configuring => true,
+        ProposalKind::Configuring { .. } => true,
         ProposalKind::Opening { .. }
         | ProposalKind::Writing { .. }
         | ProposalKind::Committing { .. }

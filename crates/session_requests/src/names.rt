@@ -55,7 +55,7 @@ fn proposed_by(session: &Session) -> Option<&Name>
     let flight = session.flight.as_ref()?;
     match &flight.kind {
         ProposalKind::Opening { name } => Some(name),
-        ProposalKind::Configuring
+        ProposalKind::Configuring { .. }
         | ProposalKind::Writing { .. }
         | ProposalKind::Committing { .. }
         | ProposalKind::Querying { .. } => None,

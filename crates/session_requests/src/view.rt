@@ -53,6 +53,8 @@ pub struct View {
     pub readers: bool,
     /// At a leader, the peers whose log is known to reach its last index.
     pub even: Items<u64>,
+    /// At a leader, the peers whose log is known to lack at most the last `MAX_VOTER_LAG` entries.
+    pub near: Items<u64>,
     /// How many steps statements may take.
     pub steps: StepLimits,
 }
@@ -72,6 +74,7 @@ impl Model for View {
       links = v.links;
       readers = v.readers;
       even = v.even;
+      near = v.near;
     } };
 }
 

@@ -1,6 +1,6 @@
 use dq_base::{Items, Name};
 use raft_messages::Servers;
-use session_table::{Cause, Prepared};
+use session_table::{Cause, ChangeReply, Prepared};
 use sql_scan::StatementSpan;
 use wire_msgs::Response;
 use wire_words::WireText;
@@ -38,8 +38,8 @@ pub enum RequestPlan {
     Opens(Name, bool),
     /// A new database, with barrier reads or not.
     Creates(Name, bool),
-    /// Other servers of the cluster.
-    Changes(Servers),
+    /// Other servers of the cluster, and the reply to the change.
+    Changes(Servers, ChangeReply),
     /// A statement is to be prepared, with the place of the rest of its text where that is reported.
     Prepares(Prepared, Option<u64>),
     /// A prepared statement is to be let go.

@@ -115,7 +115,7 @@ idle_log w c standing (Forgets response) answers h = refl
 idle_log w c standing (Begins at_once) answers h = absurd h
 idle_log w c standing Commits answers h = absurd h
 idle_log w c standing RollsBack answers h = absurd h
-idle_log w c standing (Changes servers) answers h = absurd h
+idle_log w c standing (Changes servers short) answers h = absurd h
 idle_log w c standing (Runs ss) answers h = absurd h
 idle_log w c standing (Reads s) answers h = absurd h
 

@@ -27,14 +27,14 @@ to_left c P (x ∷ xs) ys h = ⊎_elim (λ (y : (x.conn ≡ c) × P x). inl y) (
 -- the proposal is the barrier of a query
 abbrev pub is_query : Kind → Bool
 is_query Opening = false
-is_query Configuring = false
+is_query (Configuring short) = false
 is_query (Writing reply) = false
 is_query Committing = false
 is_query (Querying statement) = true
 
 landed_to : (c : ℕ) (t : Trail) (f : Flight) (k : Kind) → is_query k ≡ false → SaidTo c (λ x. x.index ≡ f.last) (said_landed c t f k)
 landed_to c t f Opening q = inl (refl, refl)
-landed_to c t f Configuring q = inl (refl, refl)
+landed_to c t f (Configuring short) q = inl (refl, refl)
 landed_to c t f (Writing reply) q = inl (refl, refl)
 landed_to c t f Committing q = inl (refl, refl)
 landed_to c t f (Querying statement) q = absurd (true≢false q)
@@ -98,7 +98,7 @@ apply_due mean w c f s k e h l =
 
 lands : (mean : Meaning) (w : Node) (c : ℕ) (f : Flight) (k : Kind) → f.kind ≡ k → NodeOk mean w → (w.gate.session c).flight ≡ Some f → (w.gate.session c).hung ≡ false → f.last ≡ suc w.applied → Lands w c f k
 lands mean w c f Opening k a e h l = apply_answers mean w c f a e h l (ap is_query k)
-lands mean w c f Configuring k a e h l = apply_answers mean w c f a e h l (ap is_query k)
+lands mean w c f (Configuring short) k a e h l = apply_answers mean w c f a e h l (ap is_query k)
 lands mean w c f (Writing reply) k a e h l = apply_answers mean w c f a e h l (ap is_query k)
 lands mean w c f Committing k a e h l = apply_answers mean w c f a e h l (ap is_query k)
 lands mean w c f (Querying s) k a e h l = apply_due mean w c f s k e h l

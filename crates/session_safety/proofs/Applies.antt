@@ -7,7 +7,7 @@ use Rattle.sql_engine.specs.Replies.{Statement}
 use Rattle.raft_spec.specs.Node.{Server}
 use Rattle.sql_engine.specs.Meanings.{Meaning}
 use Rattle.session_spec.specs.Entries.{Content, Configures, Entry}
-use Rattle.session_spec.specs.Sessions.{Reply, Refusal, Single, Rows, empty, db, Kind, Opening, Configuring, Writing, Committing, Querying, Flight, Transaction, Session, absent}
+use Rattle.session_spec.specs.Sessions.{Reply, Refusal, Single, Rows, empty, change_reply, db, Kind, Opening, Configuring, Writing, Committing, Querying, Flight, Transaction, Session, absent}
 use Rattle.session_spec.specs.Limits.{writes_to}
 use Rattle.session_spec.specs.Events.{landed, settled_by, on_applied, tidy}
 use Rattle.session_safety.specs.Nodes.{Said, Trail, Node}
@@ -29,6 +29,10 @@ calm_next n k log c =
 db_empty : db ≡ empty → ⊥
 db_empty e = cc
 
+no_db : (short : Bool) → change_reply short ≡ db → ⊥
+no_db false e = cc
+no_db true e = cc
+
 -- a later index, if neither transaction nor proposal reads it
 tx_seen : (mean : Meaning) (log : List Entry) (t : Trail) (o : Option Transaction) (index : ℕ) → o ≡ None → TxIs mean log (record { seen = max t.seen index; at = t.at; ran = t.ran }) o
 tx_seen mean log t o index e = subst (TxIs mean log (record { seen = max t.seen index; at = t.at; ran = t.ran })) (sym e) tt
@@ -36,14 +40,14 @@ tx_seen mean log t o index e = subst (TxIs mean log (record { seen = max t.seen 
 module _ (mean : Meaning) (log : List Entry) (applied term : ℕ) (within : suc applied ≤ length log) where
   landed_ok : (s : Session) (t : Trail) (f : Flight) (k : Kind) → t.at ≤ applied → t.seen ≤ applied → TxIs mean log t s.tx → ApartBy k s.tx → s.later ≡ None → SessionOk mean log (suc applied) term (landed s f k) (landed_trail (suc applied) t k)
   landed_ok s t f Opening at seen tx apart none = record { at = omega arith; seen = omega arith; tx = tx; flight = tt; apart = tt; free = free_when _ _ _ _ none }
-  landed_ok s t f Configuring at seen tx apart none = record { at = omega arith; seen = omega arith; tx = tx; flight = tt; apart = tt; free = free_when _ _ _ _ none }
+  landed_ok s t f (Configuring short) at seen tx apart none = record { at = omega arith; seen = omega arith; tx = tx; flight = tt; apart = tt; free = free_when _ _ _ _ none }
   landed_ok s t f (Writing reply) at seen tx apart none = record { at = omega arith; seen = omega arith; tx = tx_seen mean log t s.tx (suc applied) apart; flight = tt; apart = tt; free = free_when _ _ _ _ none }
   landed_ok s t f Committing at seen tx apart none = record { at = omega arith; seen = omega arith; tx = tt; flight = tt; apart = tt; free = free_when _ _ _ _ none }
   landed_ok s t f (Querying statement) at seen tx apart none = record { at = omega arith; seen = omega arith; tx = tx; flight = tt; apart = tt; free = refl }
 
   gone_ok : (t : Trail) (k : Kind) → t.at ≤ applied → t.seen ≤ applied → SessionOk mean log (suc applied) term absent (landed_trail (suc applied) t k)
   gone_ok t Opening at seen = bare_ok mean log (suc applied) term absent t absent_bare tt (omega arith) (omega arith)
-  gone_ok t Configuring at seen = bare_ok mean log (suc applied) term absent t absent_bare tt (omega arith) (omega arith)
+  gone_ok t (Configuring short) at seen = bare_ok mean log (suc applied) term absent t absent_bare tt (omega arith) (omega arith)
   gone_ok t (Writing reply) at seen = bare_ok mean log (suc applied) term absent _ absent_bare tt (omega arith) (omega arith)
   gone_ok t Committing at seen = bare_ok mean log (suc applied) term absent _ absent_bare tt (omega arith) (omega arith)
   gone_ok t (Querying statement) at seen = bare_ok mean log (suc applied) term absent t absent_bare tt (omega arith) (omega arith)
@@ -82,7 +86,8 @@ module _ (mean : Meaning) (log : List Entry) (applied term : ℕ) (within : suc 
 
   landed_said : (c : ℕ) (t : Trail) (f : Flight) (k : Kind) (content : Content) → f.last ≡ suc applied → t.at ≤ applied → StandsAt log f.last f.term content → IsOf k f.name content → KindOk mean log t f k → AllSaid mean (take (suc applied) log) (said_landed c t f k)
   landed_said c t f Opening content e at s of a = (record { rows = tt; query = tt; commit = tt; ends = tt; entry = λ h. entry_said _ f content e s (λ z. of) (λ z. absurd (db_empty z)) }, tt)
-  landed_said c t f Configuring content e at s of a = (record { rows = tt; query = tt; commit = tt; ends = tt; entry = λ h. entry_said _ f content e s (λ z. absurd (db_empty (sym z))) (λ z. of) }, tt)
+  landed_said c t f (Configuring false) content e at s of a = (record { rows = tt; query = tt; commit = tt; ends = tt; entry = λ h. entry_said _ f content e s (λ z. absurd (no_db false z)) (λ z. of) }, tt)
+  landed_said c t f (Configuring true) content e at s of a = (record { rows = tt; query = tt; commit = tt; ends = tt; entry = λ h. entry_said _ f content e s (λ z. absurd (no_db true z)) (λ z. of) }, tt)
   landed_said c t f (Writing reply) content e at s of a = (
     record {
       rows = rows_are reply f.name t.at [] t.ran t.seen;

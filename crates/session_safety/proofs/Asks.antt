@@ -67,7 +67,7 @@ IsIdle (Forgets response) = Unit {0}
 IsIdle (Begins at_once) = ⊥
 IsIdle Commits = ⊥
 IsIdle RollsBack = ⊥
-IsIdle (Changes servers) = ⊥
+IsIdle (Changes servers short) = ⊥
 IsIdle (Runs ss) = ⊥
 IsIdle (Reads s) = ⊥
 
@@ -84,7 +84,7 @@ idle_of v g s r (Forgets response) off h = tt
 idle_of v g s r (Begins at_once) off h = no (sym off ∙ h.0.serves)
 idle_of v g s r Commits off h = no (sym off ∙ h.0.serves)
 idle_of v g s r RollsBack off h = no (sym off ∙ h.0.serves)
-idle_of v g s r (Changes servers) off h = no (sym off ∙ h.0)
+idle_of v g s r (Changes servers short) off h = no (sym off ∙ h.0)
 idle_of v g s r (Runs ss) off h = no (sym off ∙ h.serves)
 idle_of v g s r (Reads s') off h = no (sym off ∙ h.serves)
 
@@ -269,7 +269,7 @@ module _ (mean : Meaning) (standing : Standing) (w : Node) (a : NodeOk mean w) (
   does_ok kind (Begins at_once) answers serves h = cond_both (at_once && other_holds w.gate c (w.gate.session c).database) _ _ (λ t. NodeOk mean (called w c t)) (λ e. refuse Locked) (λ e. begin_ok at_once serves)
   does_ok kind Commits answers serves h = commit_ok (w.gate.session c).tx serves refl
   does_ok kind RollsBack answers serves h = roll_ok serves
-  does_ok kind (Changes servers) answers serves h = cond_both (log_full (view_of w standing)) _ _ (λ t. NodeOk mean (called w c t)) (λ e. refuse LogFull) (λ e. other_ok (w.gate.session c) [] (Configures servers) Configuring here refl rest serves (λ n. refl) tt (λ l t f. tt) (servers, refl) (λ o. tt))
+  does_ok kind (Changes servers short) answers serves h = cond_both (log_full (view_of w standing)) _ _ (λ t. NodeOk mean (called w c t)) (λ e. refuse LogFull) (λ e. other_ok (w.gate.session c) [] (Configures servers) (Configuring short) here refl rest serves (λ n. refl) tt (λ l t f. tt) (servers, refl) (λ o. tt))
   does_ok kind (Runs ss) answers serves h = run_in_ok kind (w.gate.session c).tx ss false answers serves refl tt h
   does_ok kind (Reads s) answers serves h = reads_ok (waits_first (w.gate.session c)) h
     where
@@ -294,7 +294,7 @@ module _ (mean : Meaning) (standing : Standing) (w : Node) (a : NodeOk mean w) (
   idle_ok (Begins at_once) answers h = absurd h
   idle_ok Commits answers h = absurd h
   idle_ok RollsBack answers h = absurd h
-  idle_ok (Changes servers) answers h = absurd h
+  idle_ok (Changes servers short) answers h = absurd h
   idle_ok (Runs ss) answers h = absurd h
   idle_ok (Reads s) answers h = absurd h
 

@@ -81,7 +81,7 @@ module _ (v : View) (m : Machine) (g : Gateway) (c : ℕ) (s : Session) (free : 
   does_next (Begins at_once) answers = cond_both (at_once && other_holds g c s.database) _ _ (FlightNext v.last) (λ e. tt) (λ e. (free, rest))
   does_next Commits answers = commit_next s.tx
   does_next RollsBack answers = (free, rest)
-  does_next (Changes servers) answers = cond_both (log_full v) _ _ (FlightNext v.last) (λ e. tt) (λ e. (_, refl, omega arith, rest))
+  does_next (Changes servers short) answers = cond_both (log_full v) _ _ (FlightNext v.last) (λ e. tt) (λ e. (_, refl, omega arith, rest))
   does_next (Runs ss) answers = run_next s.tx ss false answers
   does_next (Reads statement) answers = reads_both (FlightNext v.last) v m g c s statement answers
       (λ e. barrier_both (FlightNext v.last) v m g c s statement tt (_, refl, omega arith, rest))

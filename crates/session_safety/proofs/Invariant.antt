@@ -49,7 +49,7 @@ pub record WriteOk (mean : Meaning) (log : List Entry) (t : Trail) (f : Flight) 
 
 abbrev pub KindOk : Meaning → List Entry → Trail → Flight → Kind → Type 0
 KindOk mean log t f Opening = Unit {0}
-KindOk mean log t f Configuring = Unit {0}
+KindOk mean log t f (Configuring short) = Unit {0}
 KindOk mean log t f (Writing reply) = WriteOk mean log t f × QueryIs mean log (query_for reply f.name t.at [] t.ran t.seen)
 KindOk mean log t f Committing = WriteOk mean log t f
 KindOk mean log t f (Querying statement) = Unit {0}
@@ -66,7 +66,7 @@ result_plain n = record { not_db = λ e. cc; not_empty = λ e. cc; not_lost = λ
 -- what the last entry of a proposal has, by its kind
 abbrev pub IsOf : Kind → List ℕ → Content → Type 0
 IsOf Opening name content = content ≡ Does (OpenDb name)
-IsOf Configuring name content = (servers : List Server) × (content ≡ Configures servers)
+IsOf (Configuring short) name content = (servers : List Server) × (content ≡ Configures servers)
 IsOf (Writing reply) name content = IsResult reply
 IsOf Committing name content = Unit {0}
 IsOf (Querying statement) name content = Unit {0}
@@ -91,7 +91,7 @@ FlightIs mean log applied term t (Some f) = FlightOk mean log applied term t f
 -- a statement's write is pending outside a transaction alone
 abbrev pub ApartBy : Kind → Option Transaction → Type 0
 ApartBy Opening o = Unit {0}
-ApartBy Configuring o = Unit {0}
+ApartBy (Configuring short) o = Unit {0}
 ApartBy (Writing reply) o = o ≡ None
 ApartBy Committing o = Unit {0}
 ApartBy (Querying statement) o = Unit {0}
@@ -255,7 +255,7 @@ module _ (mean : Meaning) where
 
   kind_grown : (log es : List Entry) (t : Trail) (f : Flight) (k : Kind) → f.last ≤ length log → (is_write k ≡ true → Free f.name es) → KindOk mean log t f k → KindOk mean (log ++ es) t f k
   kind_grown log es t f Opening h x a = tt
-  kind_grown log es t f Configuring h x a = tt
+  kind_grown log es t f (Configuring short) h x a = tt
   kind_grown log es t f (Writing reply) h x a = (write_grown log es t f h (x refl) a.0, query_is_grown log es (query_for reply f.name t.at [] t.ran t.seen) a.1)
   kind_grown log es t f Committing h x a = write_grown log es t f h (x refl) a
   kind_grown log es t f (Querying statement) h x a = tt
@@ -293,7 +293,7 @@ module _ (mean : Meaning) where
 
   pub write_of : (log : List Entry) (t : Trail) (f : Flight) (k : Kind) → KindOk mean log t f k → is_write k ≡ true → WriteOk mean log t f
   write_of log t f Opening a e = absurd (true≢false (sym e))
-  write_of log t f Configuring a e = absurd (true≢false (sym e))
+  write_of log t f (Configuring short) a e = absurd (true≢false (sym e))
   write_of log t f (Writing reply) a e = a.0
   write_of log t f Committing a e = a
   write_of log t f (Querying statement) a e = absurd (true≢false (sym e))

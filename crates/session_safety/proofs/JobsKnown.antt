@@ -129,7 +129,7 @@ module _ (v : View) (m : Machine) (g : Gateway) (c : ℕ) (s : Session) where
   does_new (Begins at_once) answers = cond_both (at_once && other_holds g c s.database) _ _ (LendsNew m s) (λ e. tt) (λ e. refl)
   does_new Commits answers = none_new m s _ (commit_none s.tx)
   does_new RollsBack answers = refl
-  does_new (Changes servers) answers = cond_both (log_full v) _ _ (LendsNew m s) (λ e. tt) (λ e. refl)
+  does_new (Changes servers short) answers = cond_both (log_full v) _ _ (LendsNew m s) (λ e. tt) (λ e. refl)
   does_new (Runs ss) answers = none_new m s _ (run_none s.tx ss false answers)
   does_new (Reads statement) answers = reads_both (LendsNew m s) v m g c s statement answers
       (λ e. barrier_both (LendsNew m s) v m g c s statement tt refl)
@@ -260,7 +260,7 @@ settled_query i x seen at (Some f) free =
   where
     landed_query : (k : Kind) → x.later ≡ None → lent_query (landed x f k).later ≡ None
     landed_query Opening n = ap lent_query n
-    landed_query Configuring n = ap lent_query n
+    landed_query (Configuring short) n = ap lent_query n
     landed_query (Writing reply) n = ap lent_query n
     landed_query Committing n = ap lent_query n
     landed_query (Querying statement) n = refl

@@ -53,7 +53,7 @@ here_told w v (r ∷ rs) = ((λ h. absurd (omega (arith, h))), here_told w v rs)
 
 landed_here : (w v : Node) (c : ℕ) (t : Trail) (f : Flight) (k : Kind) → w.applied < f.last → f.last ≡ v.applied → f.term ≡ v.term → v.leads ≡ true → AllHere w v (said_landed c t f k)
 landed_here w v c t f Opening low i t' l = ((λ h. (low, i, t', l)), tt)
-landed_here w v c t f Configuring low i t' l = ((λ h. (low, i, t', l)), tt)
+landed_here w v c t f (Configuring short) low i t' l = ((λ h. (low, i, t', l)), tt)
 landed_here w v c t f (Writing reply) low i t' l = ((λ h. (low, i, t', l)), tt)
 landed_here w v c t f Committing low i t' l = ((λ h. (low, i, t', l)), tt)
 landed_here w v c t f (Querying statement) low i t' l = tt

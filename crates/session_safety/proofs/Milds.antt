@@ -102,7 +102,7 @@ IsMild (Forgets response) = Unit {0}
 IsMild (Begins at_once) = Unit {0}
 IsMild Commits = Unit {0}
 IsMild RollsBack = Unit {0}
-IsMild (Changes servers) = ⊥
+IsMild (Changes servers short) = ⊥
 IsMild (Runs ss) = Unit {0}
 IsMild (Reads s) = Unit {0}
 
@@ -119,7 +119,7 @@ mild_of v g s r (Forgets response) fits h = tt
 mild_of v g s r (Begins at_once) fits h = tt
 mild_of v g s r Commits fits h = tt
 mild_of v g s r RollsBack fits h = tt
-mild_of v g s r (Changes servers) fits h = absurd (true≢false (sym fits ∙ h.2))
+mild_of v g s r (Changes servers short) fits h = absurd (true≢false (sym fits ∙ h.2))
 mild_of v g s r (Runs ss) fits h = tt
 mild_of v g s r (Reads st) fits h = tt
 
@@ -214,7 +214,7 @@ module _ (v : View) (m : Machine) (g : Gateway) (c : ℕ) (s : Session) where
   does_mild (Begins at_once) answers h = cond_both (at_once && other_holds g c s.database) _ _ TurnedMild (λ e. tt) (λ e. single_mild _)
   does_mild Commits answers h = commit_mild s.tx
   does_mild RollsBack answers h = single_mild _
-  does_mild (Changes servers) answers h = absurd h
+  does_mild (Changes servers short) answers h = absurd h
   does_mild (Runs ss) answers h = run_mild s.tx ss false answers
   does_mild (Reads st) answers h = reads_both TurnedMild v m g c s st answers
       (λ e. barrier_both TurnedMild v m g c s st tt (tt, tt))
@@ -268,7 +268,8 @@ called_mild w c (Affects effect) h p a = record { servers = a.servers; kept = lo
 
 landed_kept : (c : ℕ) (t : Trail) (f : Flight) (k : Kind) (content : Content) → IsOf k f.name content → NoneLost (said_landed c t f k)
 landed_kept c t f Opening content h = (single_mild _, tt)
-landed_kept c t f Configuring content h = (single_mild _, tt)
+landed_kept c t f (Configuring false) content h = (single_mild _, tt)
+landed_kept c t f (Configuring true) content h = (single_mild _, tt)
 landed_kept c t f (Writing reply) content h = (h.not_lost, tt)
 landed_kept c t f Committing content h = (single_mild _, tt)
 landed_kept c t f (Querying statement) content h = tt
@@ -307,7 +308,7 @@ module _ (mean : Meaning) (kind : EngineKind) where
   mild_event w (Hangup c) h a m = record { servers = m.servers; kept = m.kept; plain = λ d. cond_both (d == c) (left (w.gate.session c) (w.gate.session c).flight) (w.gate.session d) Plain (λ z. left_plain (w.gate.session c) (w.gate.session c).flight (m.plain c)) (λ z. m.plain d) }
   mild_event w (Call c standing r answers) h a m = cond_both (may_ask (w.gate.session c)) _ w Mild (λ e. called_mild w c _ (turned_mild (view_of w standing) (databases w) w.gate c r answers h.0) (request_plain (view_of w standing) (databases w) w.gate c r answers (m.plain c) h.0 h.1) m) (λ e. m)
   mild_event w (Resume c standing answers) h a m = subst Mild (sym (later_none w c standing answers m).0) m
-  mild_event w (Done c answers) h a m = subst Mild (sym (later_none w c (record { id = 0; leader = None; servers = []; links = false; readers = false; even = [] }) answers m).1) m
+  mild_event w (Done c answers) h a m = subst Mild (sym (later_none w c (record { id = 0; leader = None; servers = []; links = false; readers = false; even = []; near = [] }) answers m).1) m
   mild_event w Apply h a m = record { servers = m.servers; kept = lost_append w.said _ m.kept (applied_kept w _ w.gate.conns a); plain = λ d. settled_plain (suc w.applied) (w.gate.session d) (w.gate.session d).flight refl (m.plain d) }
   mild_event w (Lose t) h a m = absurd h
   mild_event w (Lead t) h a m = record { servers = m.servers; kept = m.kept; plain = m.plain }

@@ -109,7 +109,7 @@ module _ (v : View) (m : Machine) (g : Gateway) (c : ℕ) (s : Session) (free : 
   does_opened r (Begins at_once) answers h = cond_both (at_once && other_holds g c s.database) _ _ LeavesOpened (λ e. tt) (λ e. at_rest _ free rest)
   does_opened r Commits answers h = commit_opened s.tx
   does_opened r RollsBack answers h = at_rest _ free rest
-  does_opened r (Changes servers) answers h = cond_both (log_full v) _ _ LeavesOpened (λ e. tt) (λ e. asks_none _ refl rest)
+  does_opened r (Changes servers short) answers h = cond_both (log_full v) _ _ LeavesOpened (λ e. tt) (λ e. asks_none _ refl rest)
   does_opened r (Runs ss) answers h = run_opened s.tx ss false answers
   does_opened r (Reads statement) answers h = reads_both LeavesOpened v m g c s statement answers
       (λ e. barrier_both LeavesOpened v m g c s statement tt (waits _ h.opened rest))
@@ -146,7 +146,7 @@ called_opened w c (Affects (Weighs weight)) a h = a
 -- the sessions after their proposals' entries were applied
 landed_opened : (s : Session) (f : Flight) (k : Kind) → f.kind ≡ k → s.flight ≡ Some f → IsOpened s → IsOpened (landed s f k)
 landed_opened s f Opening e q h = at_rest _ refl (h.sole f q)
-landed_opened s f Configuring e q h = at_rest _ refl (h.sole f q)
+landed_opened s f (Configuring short) e q h = at_rest _ refl (h.sole f q)
 landed_opened s f (Writing reply) e q h = at_rest _ refl (h.sole f q)
 landed_opened s f Committing e q h = at_rest _ refl (h.sole f q)
 landed_opened s f (Querying statement) e q h = follows _ (h.opened.awaits (ap awaits_barrier q ∙ ap is_barrier e)) refl

@@ -49,7 +49,7 @@ TxAfter s t (Outside name ss) = in_tx t ≡ false
 -- what is noted of a proposal goes with its kind, and a barrier is for the query that is asked for
 abbrev pub KindNote : List Statement → Option Transaction → Kind → Note → Type 0
 KindNote own o Opening note = note ≡ Nothing
-KindNote own o Configuring note = note ≡ Nothing
+KindNote own o (Configuring short) note = note ≡ Nothing
 KindNote own o (Writing r) note = (o ≡ None) × (name : List ℕ) × (ss : List Statement) × (note ≡ Outside name ss) × OneIfRows r ss
 KindNote own o Committing note = (is_none o ≡ false) × (note ≡ Nothing)
 KindNote own o (Querying statement) note = (o ≡ None) × (note ≡ Nothing) × (own ≡ statement ∷ [])
@@ -149,7 +149,7 @@ does_ok v m g c s (Forgets response) answers = record { still = record { there =
 does_ok v m g c s (Begins at_once) answers = cond_both (at_once && other_holds g c s.database) _ _ (TurnedOk [] s) (λ p. tt) (λ p. record { still = record { there = refl; hung = refl }; free = λ f. f; kept = refl; noted = tt; tx = tt })
 does_ok v m g c s Commits answers = commit_ok v m g c s [] s.tx refl
 does_ok v m g c s RollsBack answers = record { still = record { there = refl; hung = refl }; free = λ f. f; kept = refl; noted = tt; tx = λ q. over s q }
-does_ok v m g c s (Changes servers) answers = cond_both (log_full v) _ _ (TurnedOk [] s) (λ p. tt) (λ p. record { still = record { there = refl; hung = refl }; flight = _; is = refl; tx = refl; kept = refl; kind = refl })
+does_ok v m g c s (Changes servers short) answers = cond_both (log_full v) _ _ (TurnedOk [] s) (λ p. tt) (λ p. record { still = record { there = refl; hung = refl }; flight = _; is = refl; tx = refl; kept = refl; kind = refl })
 does_ok v m g c s (Runs ss) answers = run_ok v m g c s s.tx ss ss false answers refl (λ e. absurd (true≢false (sym e)))
 does_ok v m g c s (Reads statement) answers = reads_both (TurnedOk (statement ∷ []) s) v m g c s statement answers
     (λ e. barrier_both (TurnedOk (statement ∷ []) s) v m g c s statement tt (record { still = record { there = refl; hung = refl }; flight = _; is = refl; tx = refl; kept = refl; kind = (none_is s.tx (and_parts s.barriers (is_none s.tx) e).1, refl, refl) }))
@@ -195,7 +195,7 @@ does_owns v m g c s (Forgets response) answers = inl refl
 does_owns v m g c s (Begins at_once) answers = inl refl
 does_owns v m g c s Commits answers = inl refl
 does_owns v m g c s RollsBack answers = inl refl
-does_owns v m g c s (Changes servers) answers = inl refl
+does_owns v m g c s (Changes servers short) answers = inl refl
 does_owns v m g c s (Runs ss) answers = inl refl
 does_owns v m g c s (Reads statement) answers = by (waits_first s)
   where

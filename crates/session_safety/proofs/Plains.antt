@@ -91,7 +91,7 @@ module _ (v : View) (m : Machine) (g : Gateway) (c : ℕ) (s : Session) (p : Pla
   does_plain r (Begins at_once) answers fits off h = cond_both (at_once && other_holds g c s.database) _ _ TurnedPlain (λ e. tt) (λ e. record { barriers = p.barriers; later = p.later; flown = p.flown })
   does_plain r Commits answers fits off h = commit_plain s.tx
   does_plain r RollsBack answers fits off h = record { barriers = p.barriers; later = p.later; flown = p.flown }
-  does_plain r (Changes servers) answers fits off h = cond_both (log_full v) _ _ TurnedPlain (λ e. tt) (λ e. record { barriers = p.barriers; later = p.later; flown = refl })
+  does_plain r (Changes servers short) answers fits off h = cond_both (log_full v) _ _ TurnedPlain (λ e. tt) (λ e. record { barriers = p.barriers; later = p.later; flown = refl })
   does_plain r (Runs ss) answers fits off h = run_plain s.tx ss false answers
   does_plain r (Reads st) answers fits off h = reads_both TurnedPlain v m g c s st answers
       (λ e. absurd (true≢false (sym e ∙ ap (λ b. b && is_none s.tx) p.barriers)))
@@ -111,7 +111,7 @@ fresh_plain = record { barriers = refl; later = refl; flown = tt }
 
 landed_plain : (s : Session) (f : Flight) (k : Kind) → is_query k ≡ false → Plain s → Plain (landed s f k)
 landed_plain s f Opening q p = record { barriers = p.barriers; later = p.later; flown = tt }
-landed_plain s f Configuring q p = record { barriers = p.barriers; later = p.later; flown = tt }
+landed_plain s f (Configuring short) q p = record { barriers = p.barriers; later = p.later; flown = tt }
 landed_plain s f (Writing reply) q p = record { barriers = p.barriers; later = p.later; flown = tt }
 landed_plain s f Committing q p = record { barriers = p.barriers; later = p.later; flown = tt }
 landed_plain s f (Querying statement) q p = absurd (true≢false q)

@@ -89,7 +89,7 @@ AllReply b h (x ∷ xs) = Replies b h x × AllReply b h xs
 -- what the proposal leads to when it lands is for this request: its reply, or the query after its barrier
 abbrev pub LandsFor : Bool → ℕ → Option Transaction → Trail → Handled → Flight → Kind → Type 0
 LandsFor b c o t h f Opening = AllReply b h (said_landed c t f Opening)
-LandsFor b c o t h f Configuring = AllReply b h (said_landed c t f Configuring)
+LandsFor b c o t h f (Configuring short) = AllReply b h (said_landed c t f (Configuring short))
 LandsFor b c o t h f (Writing reply) = AllReply b h (said_landed c t f (Writing reply))
 LandsFor b c o t h f Committing = AllReply b h (said_landed c t f Committing)
 LandsFor b c o t h f (Querying statement) = AsksFor b o h statement
@@ -116,7 +116,7 @@ Pending b c s t (Some h) = Waiting b c s t h ⊎ Deferred b s h
 -- of a request of which nothing is known all is so
 pub any_lands : (c : ℕ) (o : Option Transaction) (t : Trail) (h : Handled) (f : Flight) (k : Kind) → LandsFor false c o t h f k
 any_lands c o t h f Opening = ((λ z. absurd (true≢false (sym z))), tt)
-any_lands c o t h f Configuring = ((λ z. absurd (true≢false (sym z))), tt)
+any_lands c o t h f (Configuring short) = ((λ z. absurd (true≢false (sym z))), tt)
 any_lands c o t h f (Writing reply) = ((λ z. absurd (true≢false (sym z))), tt)
 any_lands c o t h f Committing = ((λ z. absurd (true≢false (sym z))), tt)
 any_lands c o t h f (Querying statement) = λ z. absurd (true≢false (sym z))
@@ -228,7 +228,7 @@ no_barrier own o s contents note f is q (inr x) k = absurd (true≢false (sym (a
 
 flight_noted : (b : Bool) (w : Node) (c : ℕ) (h : Handled) (own : List Statement) (o : Option Handed) (f : Flight) (k : Kind) (note : Note) → (b ≡ true → Fits w c own h) → (is_query k ≡ false → statements_in o ≡ own) → KindNote own (w.gate.session c).tx k note → NoteTells o note → LandsFor b c (w.gate.session c).tx (proposed_trail w.applied (w.trail c) note) h f k
 flight_noted b w c h own o f Opening note is e n t = ((λ y. record { query = tt; commit = tt }), tt)
-flight_noted b w c h own o f Configuring note is e n t = ((λ y. record { query = tt; commit = tt }), tt)
+flight_noted b w c h own o f (Configuring short) note is e n t = ((λ y. record { query = tt; commit = tt }), tt)
 flight_noted b w c h own o f (Writing r) note is e n t =
     let ss = n.2 in
     let told : statements_in o ≡ ss = told_outside o n.1 ss (subst (NoteTells o) n.3 t) in
@@ -390,7 +390,7 @@ by_other i c d t hung (Some f) n = cond_both (f.last == i) (cond hung [] (said_l
   where
     landed_other : (k : Kind) → said_to c (said_landed d t f k) ≡ []
     landed_other Opening = to_other c _ [] n
-    landed_other Configuring = to_other c _ [] n
+    landed_other (Configuring short) = to_other c _ [] n
     landed_other (Writing reply) = to_other c _ [] n
     landed_other Committing = to_other c _ [] n
     landed_other (Querying statement) = refl
@@ -434,7 +434,7 @@ record Landed (b : Bool) (c : ℕ) (s : Session) (t u : Trail) (h : Handled) (f 
 
 landed_next : (b : Bool) (c : ℕ) (s : Session) (t u : Trail) (h : Handled) (f : Flight) (k : Kind) → LandsFor b c s.tx t h f k → s.later ≡ None → s.hung ≡ false → Landed b c s t u h f k
 landed_next b c s t u h f Opening reply rest here = record { after = None; pending = (refl, rest); paired = pair_one b c _ h refl reply.0 }
-landed_next b c s t u h f Configuring reply rest here = record { after = None; pending = (refl, rest); paired = pair_one b c _ h refl reply.0 }
+landed_next b c s t u h f (Configuring short) reply rest here = record { after = None; pending = (refl, rest); paired = pair_one b c _ h refl reply.0 }
 landed_next b c s t u h f (Writing r) reply rest here = record { after = None; pending = (refl, rest); paired = pair_one b c _ h refl reply.0 }
 landed_next b c s t u h f Committing reply rest here = record { after = None; pending = (refl, rest); paired = pair_one b c _ h refl reply.0 }
 landed_next b c s t u h f (Querying statement) reply rest here = record { after = Some h; pending = inr (record { statement = statement; is = refl; free = refl; here = here; asks = reply }); paired = refl }
@@ -696,7 +696,7 @@ settled_open i s (Some f) a = cond_both (f.last == i) (cond s.hung absent (lande
   where
     landed_open : (k : Kind) → IsOpen (landed s f k) → IsOpen s
     landed_open Opening b = record { there = b.there; here = b.here }
-    landed_open Configuring b = record { there = b.there; here = b.here }
+    landed_open (Configuring short) b = record { there = b.there; here = b.here }
     landed_open (Writing reply) b = record { there = b.there; here = b.here }
     landed_open Committing b = record { there = b.there; here = b.here }
     landed_open (Querying statement) b = record { there = b.there; here = b.here }
@@ -848,7 +848,7 @@ trail_ran i t (Some f) = cond_both (f.last == i) (landed_trail i t f.kind) t (λ
   where
     by : (k : Kind) → (landed_trail i t k).ran ≡ t.ran
     by Opening = refl
-    by Configuring = refl
+    by (Configuring short) = refl
     by (Writing reply) = refl
     by Committing = refl
     by (Querying statement) = refl
@@ -861,7 +861,7 @@ settled_in i s (Some f) e = cond_both (f.last == i) (cond s.hung absent (landed 
   where
     by : (k : Kind) → in_tx (landed s f k) ≡ true → in_tx s ≡ true
     by Opening z = z
-    by Configuring z = z
+    by (Configuring short) z = z
     by (Writing reply) z = z
     by Committing z = absurd (true≢false (sym z))
     by (Querying statement) z = z
@@ -908,7 +908,7 @@ own_ran w c own o (Proposes s contents note) ok told owns =
 
     by : (k : Kind) → KindNote own (w.gate.session c).tx k note → in_tx (w.gate.session c) ≡ true → (proposed_trail w.applied (w.trail c) note).ran ≡ (w.trail c).ran
     by Opening n i = still n
-    by Configuring n i = still n
+    by (Configuring short) n i = still n
     by (Writing r) n i = absurd (true≢false (sym i ∙ ap (λ (x : Option Transaction). not (is_none x)) n.0))
     by Committing n i = still n.1
     by (Querying statement) n i = still n.1

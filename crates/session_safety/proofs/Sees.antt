@@ -181,7 +181,7 @@ read_steps w c d answers (Some s) = told_steps w c d s (told_at w d s answers)
 
 landed_not : (c d : ℕ) (t : Trail) (f : Flight) (k : Kind) → d ≢ c → NotTo c (said_landed d t f k)
 landed_not c d t f Opening h = (h, tt)
-landed_not c d t f Configuring h = (h, tt)
+landed_not c d t f (Configuring short) h = (h, tt)
 landed_not c d t f (Writing reply) h = (h, tt)
 landed_not c d t f Committing h = (h, tt)
 landed_not c d t f (Querying statement) h = tt
@@ -201,14 +201,14 @@ applied_not index c trail session (d ∷ cs) e =
 
 landed_step : (index c : ℕ) (t : Trail) (f : Flight) (k : Kind) → f.last ≡ index → t.at ≤ index → Step c t.seen (landed_trail index t k).seen (said_landed c t f k)
 landed_step index c t f Opening e h = step_one c t.seen t.seen _ (omega arith) (λ z. (record { query = tt; commit = tt }, tt))
-landed_step index c t f Configuring e h = step_one c t.seen t.seen _ (omega arith) (λ z. (record { query = tt; commit = tt }, tt))
+landed_step index c t f (Configuring short) e h = step_one c t.seen t.seen _ (omega arith) (λ z. (record { query = tt; commit = tt }, tt))
 landed_step index c t f (Writing reply) e h = step_one c t.seen (max t.seen index) _ (omega arith) (λ z. (record { query = up_query reply f.name t.at [] t.ran t.seen (max t.seen index) (omega arith); commit = omega arith }, at_query reply f.name t.at [] t.ran t.seen))
 landed_step index c t f Committing e h = step_one c t.seen (max t.seen index) _ (omega arith) (λ z. (record { query = tt; commit = omega arith }, tt))
 landed_step index c t f (Querying statement) e h = step_none c t.seen
 
 landed_more : (index : ℕ) (t : Trail) (k : Kind) → t.seen ≤ (landed_trail index t k).seen
 landed_more index t Opening = omega arith
-landed_more index t Configuring = omega arith
+landed_more index t (Configuring short) = omega arith
 landed_more index t (Writing reply) = omega arith
 landed_more index t Committing = omega arith
 landed_more index t (Querying statement) = omega arith

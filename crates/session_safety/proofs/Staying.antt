@@ -103,7 +103,7 @@ module _ (v : View) (m : Machine) (g : Gateway) (c : ℕ) (s : Session) where
   bare_stays (Begins at_once) answers h bare = absurd bare
   bare_stays Commits answers h bare = inl tt
   bare_stays RollsBack answers h bare = inl tt
-  bare_stays (Changes servers) answers h bare = inr (cond_both (log_full v) _ _ StaysInside (λ e. tt) (λ e. (h, tt)))
+  bare_stays (Changes servers short) answers h bare = inr (cond_both (log_full v) _ _ StaysInside (λ e. tt) (λ e. (h, tt)))
   bare_stays (Runs ss) answers h bare = absurd bare
   bare_stays (Reads statement) answers h bare = absurd bare
 
@@ -127,7 +127,7 @@ module _ (v : View) (m : Machine) (g : Gateway) (c : ℕ) (s : Session) where
   open_stays r (Forgets response) answers h e allowed = inl tt
   open_stays r Commits answers h e allowed = inl tt
   open_stays r RollsBack answers h e allowed = inl tt
-  open_stays r (Changes servers) answers h e allowed = inr (cond_both (log_full v) _ _ StaysInside (λ e. tt) (λ e. (h, tt)))
+  open_stays r (Changes servers short) answers h e allowed = inr (cond_both (log_full v) _ _ StaysInside (λ e. tt) (λ e. (h, tt)))
 
 is_open : (a b : Bool) → (not a || b) ≡ true → b ≡ false → a ≡ false
 is_open false b h e = refl
@@ -146,7 +146,7 @@ requests_stay v m g c r answers h = by (g.session c).lost refl
 
 landed_stays : (s : Session) (f : Flight) (k : Kind) → has_transaction s ≡ true → commits k ≡ false → has_transaction (landed s f k) ≡ true
 landed_stays s f Opening h e = h
-landed_stays s f Configuring h e = h
+landed_stays s f (Configuring short) h e = h
 landed_stays s f (Writing reply) h e = h
 landed_stays s f Committing h e = absurd (true≢false e)
 landed_stays s f (Querying statement) h e = h

@@ -97,7 +97,7 @@ settled_bare i s b = subst (λ o. Bare (settled_by i s o)) (sym b.flight) b
 
 landed_there : (s : Session) (f : Flight) (k : Kind) → (landed s f k).there ≡ s.there
 landed_there s f Opening = refl
-landed_there s f Configuring = refl
+landed_there s f (Configuring short) = refl
 landed_there s f (Writing reply) = refl
 landed_there s f Committing = refl
 landed_there s f (Querying statement) = refl

@@ -98,7 +98,7 @@ turn_next log applied f g (Some x) h a = record {
 turn_landed : (log : List Entry) (applied : ℕ) (s : Session) (f : Flight) (k : Kind) → f.kind ≡ k → s.flight ≡ Some f → ApartBy k s.tx → TurnIs log applied s.flight s.tx → TurnIs log (suc applied) (landed s f k).flight (landed s f k).tx
 turn_landed log applied s f Opening e q p a =
     turn_next log applied s.flight None s.tx (λ n w. ap (λ o. writes_to o n) q ∙ ap (λ k. is_write k && bytes_eq f.name n) e) a
-turn_landed log applied s f Configuring e q p a =
+turn_landed log applied s f (Configuring short) e q p a =
     turn_next log applied s.flight None s.tx (λ n w. ap (λ o. writes_to o n) q ∙ ap (λ k. is_write k && bytes_eq f.name n) e) a
 turn_landed log applied s f (Writing reply) e q p a = subst (TurnIs log (suc applied) None) (sym p) tt
 turn_landed log applied s f Committing e q p a = tt
@@ -115,7 +115,7 @@ turn_settled log applied index s (Some f) q p a =
 landed_holds : (s : Session) (f : Flight) (k : Kind) (n : List ℕ) → holds (landed s f k) n ≡ true → holds s n ≡ true
 unfolding holds
 landed_holds s f Opening n e = or_right (writes_to s.flight n) (holds_write_lock s.tx n) e
-landed_holds s f Configuring n e = or_right (writes_to s.flight n) (holds_write_lock s.tx n) e
+landed_holds s f (Configuring short) n e = or_right (writes_to s.flight n) (holds_write_lock s.tx n) e
 landed_holds s f (Writing reply) n e = or_right (writes_to s.flight n) (holds_write_lock s.tx n) e
 landed_holds s f Committing n e = no e
 landed_holds s f (Querying statement) n e = or_right (writes_to s.flight n) (holds_write_lock s.tx n) e
@@ -311,7 +311,7 @@ module _ (mean : Meaning) (standing : Standing) (w : Node) (a : NodeOk mean w) (
       cond_both (now && other_holds w.gate c (w.gate.session c).database) _ _ (λ y. WTurn (called w c y)) (λ e. refuse Locked) (λ e. begin_turn now serves e)
   does_turn Commits answers serves = commit_turn (w.gate.session c).tx refl
   does_turn RollsBack answers serves = rolls
-  does_turn (Changes servers) answers serves = cond_both (log_full (view_of w standing)) _ _ (λ y. WTurn (called w c y)) (λ e. refuse LogFull) (λ e. other_turn (w.gate.session c) [] (Configures servers) Configuring refl refl (λ n. refl))
+  does_turn (Changes servers short) answers serves = cond_both (log_full (view_of w standing)) _ _ (λ y. WTurn (called w c y)) (λ e. refuse LogFull) (λ e. other_turn (w.gate.session c) [] (Configures servers) (Configuring short) refl refl (λ n. refl))
   does_turn (Runs ss) answers serves = run_turn (w.gate.session c).tx ss false answers serves refl
   does_turn (Reads s) answers serves = reads_both (λ y. WTurn (called w c y)) (view_of w standing) (databases w) w.gate c (w.gate.session c) s answers
       (λ e. barrier_both (λ y. WTurn (called w c y)) (view_of w standing) (databases w) w.gate c (w.gate.session c) s (refuse LogFull) (other_turn (w.gate.session c) [] Other (Querying s) refl refl (λ n. refl)))

@@ -36,7 +36,7 @@ got_on image = record { after = record { tx = 0; pages = [] }; affected = 0; col
 -- ---- events
 
 abbrev pub alone_here : Standing
-alone_here = record { id = 1; leader = None; servers = []; links = false; readers = false; even = [] }
+alone_here = record { id = 1; leader = None; servers = []; links = false; readers = false; even = []; near = [] }
 
 abbrev pub opens : ℕ → Event
 opens conn = Call conn alone_here (Open (codes "d") 0 (codes "volatile")) []

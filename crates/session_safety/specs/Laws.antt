@@ -61,7 +61,7 @@ SaidTo conn P (x ∷ xs) = ((x.conn ≡ conn) × P x) ⊎ SaidTo conn P xs
 -- A proposal is answered where its last entry is applied; if it is a barrier its query is due then.
 abbrev pub Lands : Node → ℕ → Flight → Kind → Type 0
 Lands w conn f Opening = SaidTo conn (λ x. x.index ≡ f.last) (happens w Apply).said
-Lands w conn f Configuring = SaidTo conn (λ x. x.index ≡ f.last) (happens w Apply).said
+Lands w conn f (Configuring short) = SaidTo conn (λ x. x.index ≡ f.last) (happens w Apply).said
 Lands w conn f (Writing reply) = SaidTo conn (λ x. x.index ≡ f.last) (happens w Apply).said
 Lands w conn f Committing = SaidTo conn (λ x. x.index ≡ f.last) (happens w Apply).said
 Lands w conn f (Querying statement) = ((happens w Apply).gate.session conn).later ≡ Some (Due statement)
@@ -169,7 +169,7 @@ FlightsStand m kind = OfLives m kind (λ w. (conn : ℕ) (f : Flight) → (w.gat
 
 abbrev pub is_barrier : Kind → Bool
 is_barrier Opening = false
-is_barrier Configuring = false
+is_barrier (Configuring short) = false
 is_barrier (Writing reply) = false
 is_barrier Committing = false
 is_barrier (Querying statement) = true

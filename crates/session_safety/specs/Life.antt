@@ -9,7 +9,7 @@ use Rattle.sql_engine.specs.Meanings.{Meaning}
 use Rattle.session_spec.specs.Entries.{Content, Does, Configures, Other, Entry, entries_of}
 use Rattle.session_spec.specs.Machine.{base_at, image_at}
 use Rattle.session_spec.specs.Engines.{Answer, no_answer, runs, AllowsAll, AllowsFor}
-use Rattle.session_spec.specs.Sessions.{Reply, Refusal, Single, Rows, result, empty, db, Kind, Opening, Configuring, Writing, Committing, Querying, Flight, later_query, lent_query, Session, may_ask, Job, Note, Nothing, Began, Inside, Outside, Turned, Refused, Lacks, Answers, Proposes, Lends, Affects}
+use Rattle.session_spec.specs.Sessions.{Reply, Refusal, Single, Rows, result, empty, change_reply, db, Kind, Opening, Configuring, Writing, Committing, Querying, Flight, later_query, lent_query, Session, may_ask, Job, Note, Nothing, Began, Inside, Outside, Turned, Refused, Lacks, Answers, Proposes, Lends, Affects}
 use Rattle.session_spec.specs.Requests.{job_reply, on_request, handed, on_later, handed_later, with_session, without_later, affected_by}
 use Rattle.session_spec.specs.Events.{on_applied, on_lost, told_lost, on_hangup, connects, connected}
 use Rattle.session_safety.specs.Nodes.{Query, Commit, Said, Trail, Node, Standing, databases, view_of, unseen}
@@ -101,7 +101,7 @@ commit_of f ss = record { name = f.name; first = f.first; last = f.last; term = 
 -- what is said when a proposal's last entry is applied
 abbrev pub said_landed : ℕ → Trail → Flight → Kind → List Said
 said_landed conn t f Opening = record { conn = conn; reply = db; query = None; commit = None; opened = Some f.name; index = f.last; term = f.term } ∷ []
-said_landed conn t f Configuring = record { conn = conn; reply = empty; query = None; commit = None; opened = None; index = f.last; term = f.term } ∷ []
+said_landed conn t f (Configuring short) = record { conn = conn; reply = change_reply short; query = None; commit = None; opened = None; index = f.last; term = f.term } ∷ []
 said_landed conn t f (Writing reply) = record { conn = conn; reply = reply; query = query_for reply f.name t.at [] t.ran t.seen; commit = Some (commit_of f t.ran); opened = None; index = f.last; term = f.term } ∷ []
 said_landed conn t f Committing = record { conn = conn; reply = result 0; query = None; commit = Some (commit_of f t.ran); opened = None; index = f.last; term = f.term } ∷ []
 said_landed conn t f (Querying statement) = []
@@ -117,7 +117,7 @@ said_applied index trail session (conn ∷ conns) =
 
 abbrev pub landed_trail : ℕ → Trail → Kind → Trail
 landed_trail index t Opening = t
-landed_trail index t Configuring = t
+landed_trail index t (Configuring short) = t
 landed_trail index t (Writing reply) = record t { seen = max t.seen index }
 landed_trail index t Committing = record t { seen = max t.seen index }
 landed_trail index t (Querying statement) = t

@@ -57,8 +57,8 @@ pub record Node : Type 0 where
   pub trail : ℕ → Trail
   pub said : List Said
 
--- what else a node is at a moment: who it is, the leader that it knows, the servers, its peer connections and readers, and who is even
--- with it
+-- what else a node is at a moment: who it is, the leader that it knows, the servers, its peer connections and readers, who is even
+-- with it and who is near
 pub record Standing : Type 0 where
   pub id : ℕ
   pub leader : Option ℕ
@@ -66,6 +66,7 @@ pub record Standing : Type 0 where
   pub links : Bool
   pub readers : Bool
   pub even : List ℕ
+  pub near : List ℕ
 
 -- the databases of a node: those of the entries that it has applied
 abbrev pub databases : Node → Machine
@@ -83,6 +84,7 @@ view_of w standing = record {
   links = standing.links;
   readers = standing.readers;
   even = standing.even;
+  near = standing.near;
 }
 
 abbrev pub unseen : Trail

@@ -1,5 +1,5 @@
 -- Whatever a request asks for, it may: the one walk over the rules that come before the engine.
-use Rattle.std.proofs.Common.{◌≡◌, ◌≢◌, inl, inr, ℕ, ◌≤◌, Bool, true, false, true≢false, cond, not, ◌&&◌, ◌||◌, List, [], ◌∷◌, map, Option, Some, None, Result, Ok, Err, refl, sym, ap, length}
+use Rattle.std.proofs.Common.{◌≡◌, ◌≢◌, inl, inr, ℕ, ◌≤◌, Bool, true, false, true≢false, cond, not, ◌&&◌, ◌||◌, List, [], ◌∷◌, map, Option, Some, None, Result, Ok, Err, refl, sym, ap, length, arith}
 use Rattle.std.specs.Prelude.{◌==◌, nat_lt, nat_le}
 use Rattle.std.proofs.lemmas.Bool.{eqb-false, leb-false, ltb-false}
 use Rattle.wire_words.specs.declared.value.Value.{Value}
@@ -16,12 +16,12 @@ use Rattle.sql_scan.specs.declared.fault.ScanFault.TheVariants as scan_faults
 use Rattle.session_spec.specs.Causes.{Cause, scan_cause, Locked, OutOfDate, NotLeader, NoDatabase, DatabaseOpen, ChangeInFlight, BadName, BadNode, BadRole, BadFormat, TransferFirst, TooManyVoters, TargetBehind, TooManyDatabases, TooManyStatements, AnswerTooBig, LogFull, NotAllowed, WrongParameters, OneStatementWanted}
 use Rattle.session_spec.specs.Limits.{change_in_flight, other_holds, one_too_many, log_full, first_cause, hinders_in, write_hindrance}
 use Rattle.session_spec.specs.Machine.{Machine, is_named}
-use Rattle.session_spec.specs.Servers.{has_server, has_address, server_of}
+use Rattle.session_spec.specs.Servers.{has_server, has_address, is_spare, server_of}
 use Rattle.session_spec.specs.Sessions.{Prepared, Transaction, Session, Gateway, View, JoinsPeer, HandsOver, in_tx}
 use Rattle.session_spec.specs.Statements.{prepared_from, prepared_at, prepared_count, is_left_out, is_write_word, any_barred, any_write, wrong_params, with_params, with_all}
 use Rattle.session_spec.specs.Asking as asking
 use Rattle.session_spec.specs.Asking.{Asked, Never, Tells, Sets, Opens, Creates, Prepares, Changes, Runs, Reads, has_database, barriers_asked, fits_one_voter, asked_unless_lost, asked_by}
-use Rattle.session_spec.specs.Allowed.{IsFailure, IsEarlyCause, IsServed, IsOneChange, IsAllowed, AllAreAllowed}
+use Rattle.session_spec.specs.Allowed.{IsFailure, IsEarlyCause, IsServed, IsOneChange, IsMadeStandby, IsAllowed, AllAreAllowed}
 use Rattle.session_spec.proofs.Losing.{asked_both}
 
 -- none of five tests is passed
@@ -207,8 +207,9 @@ module _ (v : View) (g : Gateway) (s : Session) (r : Request) where
       (either (is_named m.names name) (Opens name barriers) _ (e, f)
       (either (one_too_many m g name) (Never TooManyDatabases) _ tt (if_allowed (log_full v) (Never LogFull) (Creates name barriers) (λ q. tt) (λ q. (e, q, f))))))
 
-  changes_too : (servers : List Server) → v.serving ≡ true → fits_one_voter r ≡ false → change_in_flight g ≡ false → IsOneChange v v.servers servers → IsAllowed v g s r (Changes servers)
-  changes_too servers e f q h = (e, q, f, h)
+  changes_too : (servers : List Server) (short : Bool) → v.serving ≡ true → fits_one_voter r ≡ false → change_in_flight g ≡ false → IsOneChange v v.servers servers
+      → (short ≡ true → IsMadeStandby v.servers servers) → IsAllowed v g s r (Changes servers short)
+  changes_too servers short e f q h made = (e, q, f, h, made)
 
   settled_too : (asked : Asked) → (change_in_flight g ≡ false → IsAllowed v g s r asked) → IsAllowed v g s r (asking.if_settled g asked)
   settled_too asked f = if_allowed (change_in_flight g) (Never ChangeInFlight) asked (λ e. tt) f
@@ -221,13 +222,21 @@ module _ (v : View) (g : Gateway) (s : Session) (r : Request) where
     add_too id address q = if_allowed (asking.is_barred_node v.servers id address) (Never BadNode) _ (λ b. tt)
         (λ b. let all = none_of_five (id == 0) (nat_lt 9 id) (asking.is_taken v.servers id address) (nat_lt 255 (length address)) (nat_le 9 (length v.servers)) b in
         let free = neither_of (has_server v.servers id) (has_address v.servers address) all.third in
-        changes_too _ e f q (inl (record { server = record { id = id; address = address; role = 2 }; unknown = free.0; apart = free.1; spare = refl; named = eqb-false id 0 all.first; low = ltb-false 9 id all.second; short = ltb-false 255 (length address) all.fourth; room = leb-false 9 (length v.servers) all.fifth; is = refl })))
+        changes_too _ _ e f q (inl (record { server = record { id = id; address = address; role = 2 }; unknown = free.0; apart = free.1; spare = refl; named = eqb-false id 0 all.first; low = ltb-false 9 id all.second; short = ltb-false 255 (length address) all.fourth; room = leb-false 9 (length v.servers) all.fifth; is = refl })) (λ p. absurd (true≢false (sym p))))
+
+    -- it has the role 1, which makes no voter
+    catch_up_too : (id : ℕ) → change_in_flight g ≡ false → has_server v.servers id ≡ true → id ≢ v.id → IsAllowed v g s r (asking.asks_to_catch_up v id)
+    catch_up_too id q known other =
+        if_allowed (is_spare v.servers id) _ (Never TargetBehind)
+        (λ spare. changes_too _ _ e f q (inr (inl (record { id = id; role = 1; known = known; other = other; low = omega arith; room = λ p. absurd (true≢false (sym p)); near = λ p. absurd (true≢false (sym p)); is = refl })))
+            (λ p. record { id = id; spare = spare; is = refl }))
+        (λ b. tt)
 
     role_too : (id role : ℕ) → change_in_flight g ≡ false → has_server v.servers id ≡ true → role ≤ 2 → id ≢ v.id → IsAllowed v g s r (asking.asks_role v id role)
     role_too id role q known low other =
         if_allowed (asking.is_promotion v.servers id role && nat_le 7 (length (voters v.servers))) (Never TooManyVoters) _ (λ b. tt)
-        (λ few. if_allowed (asking.is_promotion v.servers id role && not (among v.even id)) (Never TargetBehind) _ (λ b. tt)
-        (λ all. changes_too _ e f q (inr (inl (record { id = id; role = role; known = known; other = other; low = low; room = λ p. leb-false 7 (length (voters v.servers)) (not_both _ _ few p); even = λ p. if_not_not _ (not_both _ _ all p); is = refl })))))
+        (λ few. if_allowed (asking.is_promotion v.servers id role && not (among v.near id)) (asking.asks_to_catch_up v id) _ (λ b. catch_up_too id q known other)
+        (λ all. changes_too _ _ e f q (inr (inl (record { id = id; role = role; known = known; other = other; low = low; room = λ p. leb-false 7 (length (voters v.servers)) (not_both _ _ few p); near = λ p. if_not_not _ (not_both _ _ all p); is = refl }))) (λ p. absurd (true≢false (sym p)))))
 
     assign_too : (id role : ℕ) → change_in_flight g ≡ false → IsAllowed v g s r (asking.asks_assign v id role)
     assign_too id role q = by (has_server v.servers id) refl
@@ -237,7 +246,7 @@ module _ (v : View) (g : Gateway) (s : Session) (r : Request) where
         by false known = tt
 
     remove_too : (id : ℕ) → change_in_flight g ≡ false → IsAllowed v g s r (asking.asks_remove v id)
-    remove_too id q = if_allowed (has_server v.servers id) _ (Never BadNode) (λ known. other_too id _ (λ other. changes_too _ e f q (inr (inr (record { id = id; known = known; other = other; is = refl }))))) (λ b. tt)
+    remove_too id q = if_allowed (has_server v.servers id) _ (Never BadNode) (λ known. other_too id _ (λ other. changes_too _ _ e f q (inr (inr (record { id = id; known = known; other = other; is = refl }))) (λ p. absurd (true≢false (sym p))))) (λ b. tt)
 
 unlost_allowed : (v : View) (m : Machine) (g : Gateway) (conn : ℕ) (s : Session) (request : Request) → IsAllowed v g s request (asked_unless_lost v m g conn s request)
 unfolding asked_unless_lost fits_one_voter

@@ -118,7 +118,7 @@ does_good v m g c s r (Forgets response) answers fair = (forgets_good s response
 does_good v m g c s r (Begins at_once) answers fair = cond_both (at_once && other_holds g c s.database) _ _ (Good s None v) (λ e. tt) (λ e. ((λ h. absurd h), tt))
 does_good v m g c s r Commits answers fair = commit_good s v m g c s s.tx
 does_good v m g c s r RollsBack answers fair = ((λ h. absurd h), tt)
-does_good v m g c s r (Changes servers) answers fair = cond_both (log_full v) _ _ (Good s None v) (λ e. tt) (λ e. (inr (inr (inl (servers, refl))), tt))
+does_good v m g c s r (Changes servers short) answers fair = cond_both (log_full v) _ _ (Good s None v) (λ e. tt) (λ e. (inr (inr (inl (servers, refl))), tt))
 does_good v m g c s r (Runs ss) answers fair = run_good s v m g c s s.tx ss false answers
 does_good v m g c s r (Reads statement) answers fair = reads_good (waits_first s)
   where

@@ -21,7 +21,7 @@ module _ (lacks : List ℕ → ℕ) where
 
   landed_same : (s : Session) (f : Flight) (k : Kind) → landed (shifted_session lacks s) f k ≡ shifted_session lacks (landed s f k)
   landed_same s f Opening = refl
-  landed_same s f Configuring = refl
+  landed_same s f (Configuring short) = refl
   landed_same s f (Writing reply) = refl
   landed_same s f Committing = refl
   landed_same s f (Querying statement) = refl

@@ -200,7 +200,7 @@ module _ (lacks since : List ℕ → ℕ) where
         ∙ if_turned (at_once && other_holds g c s.database) (Refused Locked) (Answers (begun m s at_once) (result 0) Began)
     does_same s Commits answers = commit_same s s.tx
     does_same s RollsBack answers = refl
-    does_same s (Changes servers) answers = if_turned (log_full v) _ _
+    does_same s (Changes servers short) answers = if_turned (log_full v) _ _
     does_same s (Runs ss) answers = run_same s s.tx ss false answers
     does_same s (Reads statement) answers =
         ap (λ b. cond b (barrier_first v (shifted_session lacks s) statement) (read_in v (restarted lacks since m) (shifted lacks g) c (shifted_session lacks s) (option_map (shifted_tx lacks) s.tx) statement answers)) (waits_same s)
@@ -224,7 +224,7 @@ module _ (lacks since : List ℕ → ℕ) where
     handed_same s o (Begins at_once) e = refl
     handed_same s o Commits e = refl
     handed_same s o RollsBack e = refl
-    handed_same s o (Changes servers) e = refl
+    handed_same s o (Changes servers short) e = refl
     handed_same s o (Runs ss) e = ap (λ i. handed_over i ss) (ground_same s s.tx)
     handed_same s o (Reads statement) e =
         ap (λ b. cond b None (handed_over (ground (restarted lacks since m) (shifted_session lacks s) (option_map (shifted_tx lacks) s.tx)) (statement ∷ []))) (waits_same s)

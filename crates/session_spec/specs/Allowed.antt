@@ -7,7 +7,7 @@ use Rattle.raft_spec.specs.Node.{Server, among, voters}
 use Rattle.session_spec.specs.Causes.{Cause, failure, NotLeader, BadRequest, FloatParameter, LeadershipLost, ConstraintFailed, SqlError, NotADatabase, FloatColumn, NotUtf8, NulInText, DatabaseFull}
 use Rattle.session_spec.specs.Machine.{Machine}
 use Rattle.session_spec.specs.Sessions.{Session, Gateway, View, in_tx}
-use Rattle.session_spec.specs.Servers.{has_server, has_address, with_server, with_role, without_server}
+use Rattle.session_spec.specs.Servers.{has_server, has_address, is_spare, with_server, with_role, without_server}
 use Rattle.session_spec.specs.Limits.{change_in_flight, log_full}
 use Rattle.session_spec.specs.Asking.{Asked, Never, Tells, Sets, Opens, Creates, Prepares, Drops, Forgets, Begins, Commits, RollsBack, Changes, Runs, Reads, has_database, fits_one_voter, is_promotion, asked_by}
 
@@ -47,7 +47,8 @@ pub record IsJoin (old new : List Server) : Type 0 where
   pub room : length old < 9
   pub is : new ≡ with_server server old
 
--- Another server than this node has another role. If it becomes a voter, there were fewer than 7, and it has all of the log.
+-- Another server than this node has another role. If it becomes a voter, there were fewer than 7, and it has all of the log but the last
+-- 16 entries at most.
 pub record IsRole (v : View) (old new : List Server) : Type 0 where
   pub id : ℕ
   pub role : ℕ
@@ -55,7 +56,7 @@ pub record IsRole (v : View) (old new : List Server) : Type 0 where
   pub other : id ≢ v.id
   pub low : role ≤ 2
   pub room : is_promotion old id role ≡ true → length (voters old) < 7
-  pub even : is_promotion old id role ≡ true → among v.even id ≡ true
+  pub near : is_promotion old id role ≡ true → among v.near id ≡ true
   pub is : new ≡ with_role id role old
 
 -- another server than this node has left
@@ -68,6 +69,12 @@ pub record IsLeave (v : View) (old new : List Server) : Type 0 where
 -- the servers differ in one, which isn't this node where it was there before
 abbrev pub IsOneChange : View → List Server → List Server → Type 0
 IsOneChange v old new = IsJoin old new ⊎ (IsRole v old new ⊎ IsLeave v old new)
+
+-- a spare becomes a standby, which falls short of a voter
+pub record IsMadeStandby (old new : List Server) : Type 0 where
+  pub id : ℕ
+  pub spare : is_spare old id ≡ true
+  pub is : new ≡ with_role id 1 old
 
 -- COMMIT ends a lost transaction and is refused, ROLLBACK ends one and gets a RESULT.
 pub record EndsLost (s : Session) (response : Response) : Type 0 where
@@ -89,7 +96,8 @@ IsAllowed v g s request (Forgets response) = EndsLost s response
 IsAllowed v g s request (Begins at_once) = IsServed v s × (in_tx s ≡ false)
 IsAllowed v g s request Commits = IsServed v s × (in_tx s ≡ true)
 IsAllowed v g s request RollsBack = IsServed v s × (in_tx s ≡ true)
-IsAllowed v g s request (Changes servers) = (v.serving ≡ true) × (change_in_flight g ≡ false) × (fits_one_voter request ≡ false) × IsOneChange v v.servers servers
+IsAllowed v g s request (Changes servers short) = (v.serving ≡ true) × (change_in_flight g ≡ false) × (fits_one_voter request ≡ false) × IsOneChange v v.servers servers ×
+    (short ≡ true → IsMadeStandby v.servers servers)
 IsAllowed v g s request (Runs statements) = IsServed v s
 IsAllowed v g s request (Reads statement) = IsServed v s
 

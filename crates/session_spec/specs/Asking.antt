@@ -19,13 +19,13 @@ use Rattle.raft_spec.specs.Node.{Server, among, voters}
 use Rattle.session_spec.specs.Causes.{Cause, NotLeader, DatabaseOpen, ChangeInFlight, NoDatabase, NoStatement, NotAllowed, OneStatementWanted, WrongParameters, InTransaction, NoTransaction, BadName, BadNode, BadRole, BadFormat, TargetBehind, TransferFirst, TooManyVoters, TooManyStatements, TooManyDatabases, LogFull, AnswerTooBig, scan_cause, failure}
 use Rattle.session_spec.specs.Machine.{Machine, is_named}
 use Rattle.session_spec.specs.Sessions.{Prepared, Session, Gateway, View, Effect, HandsOver, JoinsPeer, Weighs, in_tx}
-use Rattle.session_spec.specs.Servers.{has_server, has_address, server_of, with_server, with_role, without_server}
+use Rattle.session_spec.specs.Servers.{has_server, has_address, is_spare, server_of, with_server, with_role, without_server}
 use Rattle.session_spec.specs.Statements.{prepared_from, any_barred, is_left_out, is_write_word, any_write, wrong_params, with_params, with_all, prepared_at, prepared_count}
 use Rattle.session_spec.specs.Limits.{change_in_flight, one_too_many, log_full, write_hindrance}
 
 -- What is asked for: nothing, as it is refused; a response, and nothing else; an effect outside the sessions; a database
 -- that is there, or a new one (with barrier reads or without); a statement to be prepared, with the place of the rest of its text if that is reported, or to be
--- let go; a lost transaction to end, with a response; a transaction to begin (at once with the write lock, or not) or to end; other servers of the cluster; statements
+-- let go; a lost transaction to end, with a response; a transaction to begin (at once with the write lock, or not) or to end; other servers of the cluster, with whether a server falls short of what it was to be; statements
 -- to run, or one whose rows are reported.
 pub data Asked : Type 0 where
   Never : (cause : Cause) → Asked
@@ -39,7 +39,7 @@ pub data Asked : Type 0 where
   Begins : (at_once : Bool) → Asked
   Commits : Asked
   RollsBack : Asked
-  Changes : (servers : List Server) → Asked
+  Changes : (servers : List Server) (short : Bool) → Asked
   Runs : (statements : List Statement) → Asked
   Reads : (statement : Statement) → Asked
 
@@ -97,7 +97,7 @@ is_barred_node servers id address = (id == 0) || nat_lt 9 id || is_taken servers
 
 -- a node joins as a spare
 abbrev pub asks_add : List Server → ℕ → List ℕ → Asked
-asks_add servers id address = if is_barred_node servers id address then Never BadNode else Changes (with_server (record { id = id; address = address; role = 2 }) servers)
+asks_add servers id address = if is_barred_node servers id address then Never BadNode else Changes (with_server (record { id = id; address = address; role = 2 }) servers) false
 
 -- another server than this node, which would have to hand over its leadership first
 abbrev pub of_other : View → ℕ → Asked → Asked
@@ -107,12 +107,17 @@ of_other v id asked = if id == v.id then Never TransferFirst else asked
 abbrev pub is_promotion : List Server → ℕ → ℕ → Bool
 is_promotion servers id role = (role == 0) && not (among (voters servers) id)
 
--- there are at most 7 voters, and each joins them with all of the log
+-- A server that isn't caught up can't be a voter. If it is a spare it becomes a standby, so that it is sent the log, and the client is
+-- told once that is applied.
+abbrev pub asks_to_catch_up : View → ℕ → Asked
+asks_to_catch_up v id = if is_spare v.servers id then Changes (with_role id 1 v.servers) true else Never TargetBehind
+
+-- there are at most 7 voters, and each joins them with all of the log but the last 16 entries at most
 abbrev pub asks_role : View → ℕ → ℕ → Asked
 asks_role v id role =
     if is_promotion v.servers id role && nat_le 7 (length (voters v.servers)) then Never TooManyVoters
-    else if is_promotion v.servers id role && not (among v.even id) then Never TargetBehind
-    else Changes (with_role id role v.servers)
+    else if is_promotion v.servers id role && not (among v.near id) then asks_to_catch_up v id
+    else Changes (with_role id role v.servers) false
 
 abbrev pub asks_assign : View → ℕ → ℕ → Asked
 asks_assign v id role =
@@ -121,7 +126,7 @@ asks_assign v id role =
     else of_other v id (asks_role v id role)
 
 abbrev pub asks_remove : View → ℕ → Asked
-asks_remove v id = if has_server v.servers id then of_other v id (Changes (without_server id v.servers)) else Never BadNode
+asks_remove v id = if has_server v.servers id then of_other v id (Changes (without_server id v.servers) false) else Never BadNode
 
 -- ---- files
 

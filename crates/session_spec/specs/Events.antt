@@ -2,7 +2,7 @@
 use Rattle.std.specs.Prelude.{ℕ, Bool, true, false, not, ◌&&◌, ◌||◌, ◌==◌, nat_lt, nat_le, List, [], ◌∷◌, ◌++◌, length, map, Option, Some, None, if◌then◌else◌}
 use Rattle.std.specs.List.{filter, flat_map}
 use Rattle.session_spec.specs.Causes.{LeadershipLost}
-use Rattle.session_spec.specs.Sessions.{Reply, Refusal, result, empty, db, Kind, Opening, Configuring, Writing, Committing, Querying, Flight, Later, Due, Lent, Session, Gateway, absent, fresh, in_tx, is_flying, is_due}
+use Rattle.session_spec.specs.Sessions.{Reply, Refusal, result, change_reply, db, Kind, Opening, Configuring, Writing, Committing, Querying, Flight, Later, Due, Lent, Session, Gateway, absent, fresh, in_tx, is_flying, is_due}
 use Rattle.session_spec.specs.Requests.{with_tx, with_flight, with_database, with_later, with_lost}
 
 -- only connections that have a session are searched
@@ -14,7 +14,7 @@ tidy g session = record { conns = filter (λ (conn : ℕ). (session conn).there)
 -- the session after all entries of its proposal were applied
 abbrev pub landed : Session → Flight → Kind → Session
 landed s f Opening = with_database s f.name
-landed s f Configuring = with_flight s None
+landed s f (Configuring short) = with_flight s None
 landed s f (Writing reply) = with_flight s None
 landed s f Committing = with_flight (with_tx s None) None
 landed s f (Querying statement) = with_later (with_flight s None) (Some (Due statement))
@@ -30,7 +30,7 @@ on_applied index g = tidy g (λ conn. settled_by index (g.session conn) (g.sessi
 -- the reply to a proposal that is done; the query after a barrier has not been run yet
 abbrev pub landed_reply : Kind → Option Reply
 landed_reply Opening = Some db
-landed_reply Configuring = Some empty
+landed_reply (Configuring short) = Some (change_reply short)
 landed_reply (Writing reply) = Some reply
 landed_reply Committing = Some (result 0)
 landed_reply (Querying statement) = None
@@ -57,7 +57,7 @@ still_lent (Some (Lent statement)) = Some (Lent statement)
 
 abbrev pub commits : Kind → Bool
 commits Opening = false
-commits Configuring = false
+commits (Configuring short) = false
 commits (Writing reply) = false
 commits Committing = true
 commits (Querying statement) = false

@@ -14,7 +14,7 @@ use Rattle.session_spec.specs.Sessions.{Kind, Opening, Configuring, Writing, Com
 -- the proposal changes the pages of its database
 abbrev pub is_write : Kind → Bool
 is_write Opening = false
-is_write Configuring = false
+is_write (Configuring short) = false
 is_write (Writing reply) = true
 is_write Committing = true
 is_write (Querying statement) = false
@@ -39,7 +39,7 @@ other_holds g conn name = list_any (λ (other : ℕ). not (other == conn) && hol
 
 abbrev pub configures : Kind → Bool
 configures Opening = false
-configures Configuring = true
+configures (Configuring short) = true
 configures (Writing reply) = false
 configures Committing = false
 configures (Querying statement) = false
@@ -56,7 +56,7 @@ change_in_flight g = list_any (λ (conn : ℕ). is_configuring (g.session conn).
 
 abbrev pub opens : Kind → List ℕ → List (List ℕ)
 opens Opening name = name ∷ []
-opens Configuring name = []
+opens (Configuring short) name = []
 opens (Writing reply) name = []
 opens Committing name = []
 opens (Querying statement) name = []

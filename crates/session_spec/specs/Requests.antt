@@ -227,7 +227,7 @@ does v m g conn s (Forgets response) answers = Answers (with_lost s false) (Sing
 does v m g conn s (Begins at_once) answers = begins m g conn s at_once
 does v m g conn s Commits answers = commit_in v m g conn s s.tx
 does v m g conn s RollsBack answers = Answers (with_tx s None) (result 0) Nothing
-does v m g conn s (Changes servers) answers = if log_full v then Refused LogFull else Proposes (flying v s [] (Configures servers ∷ []) 0 Configuring) (Configures servers ∷ []) Nothing
+does v m g conn s (Changes servers short) answers = if log_full v then Refused LogFull else Proposes (flying v s [] (Configures servers ∷ []) 0 (Configuring short)) (Configures servers ∷ []) Nothing
 does v m g conn s (Runs ss) answers = run_in v m g conn s s.tx ss false answers
 does v m g conn s (Reads statement) answers = reads v m g conn s statement answers
 

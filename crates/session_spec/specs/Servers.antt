@@ -1,11 +1,15 @@
 -- How ADD, ASSIGN and REMOVE change the servers of the cluster: one server at a time, ids ascending.
-use Rattle.std.specs.Prelude.{ℕ, Bool, not, ◌==◌, nat_lt, List, [], ◌∷◌, map, bytes_eq, Option, Some, None, if◌then◌else◌}
+use Rattle.std.specs.Prelude.{ℕ, Bool, not, ◌&&◌, ◌==◌, nat_lt, List, [], ◌∷◌, map, bytes_eq, Option, Some, None, if◌then◌else◌}
 use Rattle.std.specs.List.{filter, list_any}
 use Rattle.raft_spec.specs.Node.{Server}
 
 -- a server has this id
 abbrev pub has_server : List Server → ℕ → Bool
 has_server servers id = list_any (λ (server : Server). server.id == id) servers
+
+-- the server of this id is a spare
+abbrev pub is_spare : List Server → ℕ → Bool
+is_spare servers id = list_any (λ (server : Server). (server.id == id) && (server.role == 2)) servers
 
 -- a server has this address
 abbrev pub has_address : List Server → List ℕ → Bool

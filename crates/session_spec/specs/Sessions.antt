@@ -8,7 +8,7 @@ use Rattle.sql_scan.specs.declared.heading.WordKind.{WordKind}
 use Rattle.sql_engine.specs.declared.answer.StatementResult.{StatementResult}
 use Rattle.sql_engine.specs.Replies.{Statement}
 use Rattle.raft_spec.specs.Node.{Server}
-use Rattle.session_spec.specs.Causes.{Cause, failure}
+use Rattle.session_spec.specs.Causes.{Cause, TargetBehind, failure}
 use Rattle.session_spec.specs.Entries.{Content}
 
 -- ---- replies
@@ -32,6 +32,11 @@ result affected = Single (responses.Result 0 affected)
 abbrev pub empty : Reply
 empty = Single responses.Empty
 
+-- of a change of servers: EMPTY, or a refusal where a server was to be a voter and falls short of it
+abbrev pub change_reply : Bool → Reply
+change_reply false = empty
+change_reply true = Single (failure TargetBehind)
+
 -- a connection has one database, of the number 0
 abbrev pub db : Reply
 db = Single (responses.Db 0)
@@ -44,11 +49,12 @@ pub record Prepared : Type 0 where
   pub word : WordKind
   pub params : ℕ
 
--- what a pending proposal is for: a new database; other servers of the cluster; the write of statements outside a
+-- what a pending proposal is for: a new database; other servers of the cluster, with whether a
+-- server falls short of what it was to be; the write of statements outside a
 -- transaction, with the reply that it gets; the commit of the open transaction; the barrier before a query
 pub data Kind : Type 0 where
   Opening : Kind
-  Configuring : Kind
+  Configuring : (short : Bool) → Kind
   Writing : (reply : Reply) → Kind
   Committing : Kind
   Querying : (statement : Statement) → Kind
@@ -147,7 +153,7 @@ may_ask s = s.there && not s.hung && is_none s.flight && is_none s.later
 
 -- What a node is at the moment: its id; the leader that it knows in its term; whether it serves as the leader; its term and
 -- its last index; the servers of the applied configuration; whether it has peer connections to other nodes, and readers that work for it; and,
--- at a leader, the peers whose log is known to reach its last index.
+-- at a leader, the peers whose log is known to reach its last index, and those whose log is known to lack at most the last 16 entries.
 pub record View : Type 0 where
   pub id : ℕ
   pub leader : Option ℕ
@@ -158,6 +164,7 @@ pub record View : Type 0 where
   pub links : Bool
   pub readers : Bool
   pub even : List ℕ
+  pub near : List ℕ
 
 -- ---- what comes of a request
 

@@ -59,7 +59,7 @@ module _ (old new : List Database) where
 
   done_fits : (s : Session) (f : Flight) (kind : Kind) → AreSame (done s f.name kind ∷ []) → Fits new s.conn (events.landed (session_of old s) f kind) (done s f.name kind ∷ [])
   done_fits s f Opening same = (refl, ap (λ (tx : Option RuleTransaction). record { there = true; hung = s.hung; database = f.name; barriers = s.barriers; later = option_map later_named s.later; statements = s.statements.items; tx = tx; lost = s.lost; flight = None }) same.0)
-  done_fits s f Configuring same = (refl, ap (λ (tx : Option RuleTransaction). record { there = true; hung = s.hung; database = database_of s.database; barriers = s.barriers; later = option_map later_named s.later; statements = s.statements.items; tx = tx; lost = s.lost; flight = None }) same.0)
+  done_fits s f (Configuring short) same = (refl, ap (λ (tx : Option RuleTransaction). record { there = true; hung = s.hung; database = database_of s.database; barriers = s.barriers; later = option_map later_named s.later; statements = s.statements.items; tx = tx; lost = s.lost; flight = None }) same.0)
   done_fits s f (Writing reply) same = (refl, ap (λ (tx : Option RuleTransaction). record { there = true; hung = s.hung; database = database_of s.database; barriers = s.barriers; later = option_map later_named s.later; statements = s.statements.items; tx = tx; lost = s.lost; flight = None }) same.0)
   done_fits s f Committing same = (refl, refl)
   done_fits s f (Querying statement) same = (refl, ap (λ (tx : Option RuleTransaction). record { there = true; hung = s.hung; database = database_of s.database; barriers = s.barriers; later = Some (Due statement); statements = s.statements.items; tx = tx; lost = s.lost; flight = None }) same.0)

@@ -21,7 +21,7 @@ IsOf conn (t ∷ u ∷ more) = ⊥
 
 done_of : (s : Session) (name : List ℕ) (kind : Kind) → IsOf s.conn (done s name kind ∷ [])
 done_of s name Opening = refl
-done_of s name Configuring = refl
+done_of s name (Configuring short) = refl
 done_of s name (Writing reply) = refl
 done_of s name Committing = refl
 done_of s name (Querying statement) = refl

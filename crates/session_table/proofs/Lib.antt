@@ -1,3 +1,4 @@
+pub mod ChangeReplies
 pub mod Found
 pub mod Numbered
 pub mod Marked

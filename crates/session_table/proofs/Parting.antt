@@ -21,7 +21,7 @@ Parts all kept gone = ((kept ≡ all) × (gone ≡ [])) ⊎ ((kept ≡ []) × (g
 
 parts_done : (s : Session) (name : List ℕ) (kind : Kind) → Parts (pin_of s.transaction) (pins_of (done s name kind ∷ [])) (freed_done s kind)
 parts_done s name Opening = inl (append-nil (pin_of s.transaction), refl)
-parts_done s name Configuring = inl (append-nil (pin_of s.transaction), refl)
+parts_done s name (Configuring short) = inl (append-nil (pin_of s.transaction), refl)
 parts_done s name (Writing reply) = inl (append-nil (pin_of s.transaction), refl)
 parts_done s name Committing = inr (refl, refl)
 parts_done s name (Querying statement) = inl (append-nil (pin_of s.transaction), refl)

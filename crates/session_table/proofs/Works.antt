@@ -53,7 +53,7 @@ module _ (P : Known → Type 0) where
 
   done_works : (s : Session) (name : List ℕ) (kind : Kind) → AllByRecursion P (work_of s.transaction) → AllByRecursion P (works_of (done s name kind ∷ []))
   done_works s name Opening so = alone s so
-  done_works s name Configuring so = alone s so
+  done_works s name (Configuring short) so = alone s so
   done_works s name (Writing reply) so = alone s so
   done_works s name Committing so = tt
   done_works s name (Querying statement) so = alone s so

@@ -62,7 +62,7 @@ reply_named (replies.Rows answer) = Rows answer
 
 abbrev pub kind_named : ProposalKind → Kind
 kind_named (kinds.Opening name) = Opening
-kind_named kinds.Configuring = Configuring
+kind_named (kinds.Configuring short) = Configuring short
 kind_named (kinds.Writing name pages reply) = Writing (reply_named reply)
 kind_named (kinds.Committing name pages) = Committing
 kind_named (kinds.Querying query) = Querying query
@@ -70,7 +70,7 @@ kind_named (kinds.Querying query) = Querying query
 -- the database of a proposal; the empty name where it is for none
 abbrev pub name_for : ProposalKind → List ℕ
 name_for (kinds.Opening name) = name
-name_for kinds.Configuring = []
+name_for (kinds.Configuring short) = []
 name_for (kinds.Writing name pages reply) = name
 name_for (kinds.Committing name pages) = name
 name_for (kinds.Querying query) = []
@@ -78,7 +78,7 @@ name_for (kinds.Querying query) = []
 -- how many pages it has after the proposal, if that changes them
 abbrev pub pages_for : ProposalKind → ℕ
 pages_for (kinds.Opening name) = 0
-pages_for kinds.Configuring = 0
+pages_for (kinds.Configuring short) = 0
 pages_for (kinds.Writing name pages reply) = pages
 pages_for (kinds.Committing name pages) = pages
 pages_for (kinds.Querying query) = 0

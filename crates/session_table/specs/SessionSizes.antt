@@ -26,7 +26,7 @@ reply_size (Rows answer) = total_size (bodies answer.columns (cut answer.columns
 -- the reply that waits for its entry, or the query after a barrier
 abbrev pub kind_size : Kind → ℕ
 kind_size Opening = 0
-kind_size Configuring = 0
+kind_size (Configuring short) = 0
 kind_size (Writing reply) = reply_size reply
 kind_size Committing = 0
 kind_size (Querying statement) = statement_size statement

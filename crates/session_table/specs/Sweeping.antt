@@ -57,7 +57,7 @@ lost s = record { conn = s.conn; hung = s.hung; database = s.database; barriers 
 -- a session whose proposal is done
 abbrev pub done : Session → List ℕ → Kind → Session
 done s name Opening = opened_at s name
-done s name Configuring = landed s
+done s name (Configuring short) = landed s
 done s name (Writing reply) = landed s
 done s name Committing = ended s
 done s name (Querying statement) = due_at s statement
@@ -90,7 +90,7 @@ all_kept event sessions = flat_map (kept event) sessions
 -- the read marks that it lets go
 abbrev pub freed_done : Session → Kind → List Pinning
 freed_done s Opening = []
-freed_done s Configuring = []
+freed_done s (Configuring short) = []
 freed_done s (Writing reply) = []
 freed_done s Committing = pin_of s.transaction
 freed_done s (Querying statement) = []

@@ -28,11 +28,11 @@ pub use change::{Change, make_change};
 pub use laws::{commands_make_no_marks, marks_change_no_database, released_marks_are_spent};
 pub use limits::{
     GREATEST_ID, HEARTBEAT_TIMEOUT, MAX_DATABASES, MAX_INDEX, MAX_PAGES, MAX_QUERY_ANSWER,
-    MAX_SESSIONS, MAX_STATEMENTS,
+    MAX_SESSIONS, MAX_STATEMENTS, MAX_VOTER_LAG,
 };
 pub use open_work::{flown, other_holds};
 pub use query::Query;
-pub use reply::{Reply, ToldRows};
+pub use reply::{ChangeReply, Reply, ToldRows};
 pub use session::{PendingProposal, Prepared, ProposalKind, Session, Transaction, WaitingQuery};
 pub use sizes::{kept_size, kept_size_at};
 pub use statements::{finalize, free_id, prepare, prepared_at, prepared_count};

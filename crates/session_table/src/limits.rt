@@ -20,6 +20,9 @@ pub const MAX_INDEX: u64 = 4_294_900_000;
 /// How many bytes the body of an answer may have.
 pub const MAX_QUERY_ANSWER: u64 = MAX_ANSWER_BYTES;
 
+/// How many of the last entries of the log a server may lack that becomes a voter.
+pub const MAX_VOTER_LAG: u64 = 16;
+
 /// The greatest id of a server.
 pub const GREATEST_ID: u64 = 9;
 

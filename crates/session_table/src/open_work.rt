@@ -15,7 +15,7 @@ impl ProposalKind {
     {
         match self {
             ProposalKind::Opening { .. }
-            | ProposalKind::Configuring
+            | ProposalKind::Configuring { .. }
             | ProposalKind::Querying { .. } => false,
             ProposalKind::Writing { .. } | ProposalKind::Committing { .. } => true,
         }
@@ -29,7 +29,7 @@ impl ProposalKind {
     {
         match self {
             ProposalKind::Opening { .. }
-            | ProposalKind::Configuring
+            | ProposalKind::Configuring { .. }
             | ProposalKind::Querying { .. } => false,
             ProposalKind::Writing { name: own, .. } => own.as_str() == name,
             ProposalKind::Committing { name: own, .. } => own.as_str() == name,
@@ -42,7 +42,7 @@ impl ProposalKind {
     {
         match self {
             ProposalKind::Opening { .. }
-            | ProposalKind::Configuring
+            | ProposalKind::Configuring { .. }
             | ProposalKind::Querying { .. } => 0,
             ProposalKind::Writing { pages, .. } => *pages,
             ProposalKind::Committing { pages, .. } => *pages,

@@ -1,9 +1,9 @@
 //! Replies to requests.
 
-ghost use Rattle.std.specs.Prelude.{◌≡◌, ◌<◌, ◌≤◌, ◌+◌, ◌++◌, [], ◌∷◌, length, map, vec_len, vec_capacity, IfOk};
+ghost use Rattle.std.specs.Prelude.{◌≡◌, ◌<◌, ◌≤◌, ◌+◌, ◌++◌, [], ◌∷◌, true, false, length, map, vec_len, vec_capacity, IfOk};
 ghost use Rattle.wire_rows.specs.Spelling.{HaveNoNul, HaveWidth};
 ghost use Rattle.wire_msgs.specs.declared.response.Response.TheVariants as responses;
-ghost use Rattle.session_spec.specs.Sessions.{responses_of};
+ghost use Rattle.session_spec.specs.Sessions.{change_reply, responses_of};
 ghost use Rattle.wire_rows.specs.Answering.{held};
 ghost use Rattle.wire_rows.specs.Cut.{cut, bodies, total_size};
 ghost use Rattle.session_table.specs.Named.{TellsRows, reply_named};
@@ -108,6 +108,62 @@ fn tell_rows(told: &mut Vec<(u64, Response)>, conn: u64, bodies: &mut VecDeque<W
 {
     while let Some(body) = bodies.pop_front() {
         tell_one(told, conn, Response::Rows { body });
+    }
+}
+
+/// The reply to a change of the servers: EMPTY, or a refusal if a server was to be a voter and becomes a standby first. Clauses
+/// see whether it falls short so.
+#[derive(Drop)]
+pub struct ChangeReply {
+    response: Response,
+    short: bool,
+}
+
+impl Model for ChangeReply {
+    ghost use Rattle.std.specs.Prelude.{◌≡◌, Bool};
+    ghost use Rattle.session_spec.specs.Sessions.{Single, change_reply};
+
+    ghost Value = { Bool };
+
+    ghost view = { λ r. r.short };
+
+    ghost invariant = { λ r. Single r.response ≡ change_reply r.short };
+}
+
+impl ChangeReply {
+    /// The servers are what they were to be.
+    pub fn done() -> ChangeReply
+        ensures { result ≡ false }
+    {
+        ChangeReply {
+            response: Response::Empty,
+            short: false,
+        }
+    }
+
+    /// A server was to be a voter and becomes a standby first. `Err` means out of memory.
+    pub fn short(alloc: Global) -> Result<ChangeReply, AllocError>
+        ensures { IfOk result (λ reply. reply ≡ true) }
+    {
+        Ok(ChangeReply {
+            response: Cause::TargetBehind.failure(alloc)?,
+            short: true,
+        })
+    }
+
+    /// In how many responses it is sent.
+    #[tactic(auto, using(crate::proofs::ChangeReplies::one_response))]
+    pub fn response_count(&self) -> usize
+        ensures { result ≡ length (responses_of (change_reply self.now)) }
+    {
+        1
+    }
+
+    /// The reply that is sent.
+    pub fn into_reply(self) -> Reply
+        ensures { reply_named result ≡ change_reply self }
+    {
+        Reply::Single(self.response)
     }
 }
 

@@ -1,7 +1,7 @@
 //! One session.
 
 use crate::query::Query;
-use crate::reply::Reply;
+use crate::reply::{ChangeReply, Reply};
 use database_state::Pin;
 use dq_base::{Image, ImageNumber, Name};
 use sql_scan::WordKind;
@@ -36,7 +36,10 @@ pub enum ProposalKind {
         name: Name,
     },
     /// Other servers of the cluster.
-    Configuring,
+    Configuring {
+        /// The reply to the change.
+        reply: ChangeReply,
+    },
     /// The write of statements outside a transaction.
     Writing {
         /// The database.

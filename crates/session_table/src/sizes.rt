@@ -35,7 +35,7 @@ impl ProposalKind {
     {
         match self {
             ProposalKind::Opening { .. }
-            | ProposalKind::Configuring
+            | ProposalKind::Configuring { .. }
             | ProposalKind::Committing { .. } => 0,
             ProposalKind::Writing { reply, .. } => reply.size(),
             ProposalKind::Querying { query } => query.size(),

@@ -96,7 +96,7 @@ impl Session {
                 self.database = Some(name);
                 Reply::Single(Response::Db { id: 0 }).tell(self.conn, told);
             }
-            ProposalKind::Configuring => Reply::Single(Response::Empty).tell(self.conn, told),
+            ProposalKind::Configuring { reply } => reply.into_reply().tell(self.conn, told),
             ProposalKind::Writing { reply, .. } => reply.tell(self.conn, told),
             ProposalKind::Querying { query } => self.later = Some(WaitingQuery::Due(query)),
             ProposalKind::Committing { .. } => {
@@ -143,7 +143,7 @@ impl ProposalKind {
         match self {
             ProposalKind::Committing { .. } => true,
             ProposalKind::Opening { .. }
-            | ProposalKind::Configuring
+            | ProposalKind::Configuring { .. }
             | ProposalKind::Writing { .. }
             | ProposalKind::Querying { .. } => false,
         }

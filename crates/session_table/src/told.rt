@@ -21,9 +21,8 @@ impl ProposalKind {
         ensures { result ≡ length (landed_responses (events.landed_reply (kind_named self.now))) }
     {
         match self {
-            ProposalKind::Opening { .. }
-            | ProposalKind::Configuring
-            | ProposalKind::Committing { .. } => 1,
+            ProposalKind::Opening { .. } | ProposalKind::Committing { .. } => 1,
+            ProposalKind::Configuring { reply } => reply.response_count(),
             ProposalKind::Writing { reply, .. } => reply.response_count(),
             ProposalKind::Querying { .. } => 0,
         }

@@ -162,6 +162,7 @@ impl Node {
             links: false,
             readers: false,
             even: Items::new(Vec::new(self.alloc)),
+            near: Items::new(Vec::new(self.alloc)),
             steps: StepLimits::none(),
         }
     }

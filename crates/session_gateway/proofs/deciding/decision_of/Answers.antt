@@ -202,7 +202,7 @@ pub returns-in-Changes-clause-ran : goal.returns-in-Changes-clause-ran
 returns-in-Changes-clause-ran g c = λ own weight. came_there c.args.sessions.now c.args.place c.index-known-place.result c.requires.within c.index-known-place.is _ _ c.args.call.now.view.now c.args.machine.now c.args.params c.args.wanted _ _ own weight c.changing.result (IfOk-weaker c.changing.result _ _ (λ decision h. nothing_handed _ _ c.args.call.now.view.now (machine_of c.args.machine.now) (table_of c.args.machine.now c.args.sessions.now weight) c.index-known-place.result.conn (session_of c.args.machine.now c.index-known-place.result) c.args.params c.args.wanted _ _ decision c.in-Changes.is refl h) (c.changing.ensures.comes (machine_of c.args.machine.now) (table_of c.args.machine.now c.args.sessions.now weight) c.index-known-place.result.conn (session_of c.args.machine.now c.index-known-place.result) []))
 
 pub returns-in-Changes-clause-unopened : goal.returns-in-Changes-clause-unopened
-returns-in-Changes-clause-unopened g c = IfOk-weaker c.changing.result _ _ (λ decision h e. absurd (never_unopened c.args.call.now.view.now (machine_of c.args.machine.now) (session_of c.args.machine.now c.index-known-place.result) (does c.args.call.now.view.now (machine_of c.args.machine.now) (table_of c.args.machine.now c.args.sessions.now 0) c.index-known-place.result.conn (session_of c.args.machine.now c.index-known-place.result) (asking.Changes c.in-Changes.servers) []) decision (changes_plain c.args.call.now.view.now (machine_of c.args.machine.now) (table_of c.args.machine.now c.args.sessions.now 0) c.index-known-place.result.conn (session_of c.args.machine.now c.index-known-place.result) [] c.in-Changes.servers) h e)) (c.changing.ensures.comes (machine_of c.args.machine.now) (table_of c.args.machine.now c.args.sessions.now 0) c.index-known-place.result.conn (session_of c.args.machine.now c.index-known-place.result) [])
+returns-in-Changes-clause-unopened g c = IfOk-weaker c.changing.result _ _ (λ decision h e. absurd (never_unopened c.args.call.now.view.now (machine_of c.args.machine.now) (session_of c.args.machine.now c.index-known-place.result) (does c.args.call.now.view.now (machine_of c.args.machine.now) (table_of c.args.machine.now c.args.sessions.now 0) c.index-known-place.result.conn (session_of c.args.machine.now c.index-known-place.result) (asking.Changes c.in-Changes.servers c.in-Changes.reply) []) decision (changes_plain c.args.call.now.view.now (machine_of c.args.machine.now) (table_of c.args.machine.now c.args.sessions.now 0) c.index-known-place.result.conn (session_of c.args.machine.now c.index-known-place.result) [] c.in-Changes.servers c.in-Changes.reply) h e)) (c.changing.ensures.comes (machine_of c.args.machine.now) (table_of c.args.machine.now c.args.sessions.now 0) c.index-known-place.result.conn (session_of c.args.machine.now c.index-known-place.result) [])
 
 pub returns-in-Changes-clause-agree : goal.returns-in-Changes-clause-agree
 returns-in-Changes-clause-agree g c = λ own. idle_agrees _ _ c.args.call.now.number _ c.changing.result (get_or c.args.sessions.now c.args.place own).transaction c.changing.ensures.works c.requires.agree

@@ -66,6 +66,7 @@ started_so c = record {
         links = c.args.spec.links;
         readers = c.args.spec.readers;
         even = [];
+        near = [];
       });
 }
 
