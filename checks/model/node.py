@@ -584,9 +584,13 @@ class Node:
         if any(s.flight and s.flight.kind == "change" for s in self.sessions.values()):
             raise Refused(5, "a cluster change is in progress")
 
-    def change_to(self, servers):
+    def is_near(self, number):
+        """The server is known to have entries of the log, and to lack at most the last 16."""
+        return number in self.peers() and 0 < self.match[number] and self.last() - self.match[number] <= 16
+
+    def change_to(self, servers, then=wire.empty):
         self.due.append(("servers", servers))
-        return self.propose([change(self.term, servers)], "change", wire.empty)
+        return self.propose([change(self.term, servers)], "change", then)
 
     def on_add(self, _session, _wide, number, address):
         self.changing()
@@ -606,8 +610,10 @@ class Node:
         if role == VOTER and old != VOTER:
             if sum(r == VOTER for _, r in self.servers.values()) >= 7:
                 raise Refused(1, "too many voters")
-            if not self.is_even(number):
-                raise Refused(1, "target behind")
+            if not self.is_near(number):
+                if old != SPARE:
+                    raise Refused(1, "target behind")
+                return self.change_to({**self.servers, number: (address, STANDBY)}, lambda: wire.failure(1, "target behind"))
         return self.change_to({**self.servers, number: (address, role)})
 
     def on_remove(self, _session, _wide, number):
