@@ -16,16 +16,16 @@ none_some : {a : ℕ} → None ≡ Some a → ⊥
 none_some e = cc
 
 module _ (all own m : ℕ) where
-  as : (leads is_own : Bool) → cond leads (cond is_own (Some all) (Some own)) None ≡ Some m
+  known : (leads is_own : Bool) → cond leads (cond is_own (Some all) (Some own)) None ≡ Some m
       → (leads && nat_lt 0 (cond is_own all own) && nat_le (all - cond is_own all own) 16) ≡ (nat_lt 0 m && nat_le (all - m) 16)
-  as true true e = ap (λ (n : ℕ). nat_lt 0 n && nat_le (all - n) 16) (same_some e)
-  as true false e = ap (λ (n : ℕ). nat_lt 0 n && nat_le (all - n) 16) (same_some e)
-  as false is_own e = absurd (none_some e)
+  known true true e = ap (λ (n : ℕ). nat_lt 0 n && nat_le (all - n) 16) (same_some e)
+  known true false e = ap (λ (n : ℕ). nat_lt 0 n && nat_le (all - n) 16) (same_some e)
+  known false is_own e = absurd (none_some e)
 
 -- a server of which a leader knows up to where its log agrees
 pub near_as : (h : NodeValue) (server : Server) (m : ℕ) → matched_at h server.id ≡ Some m
     → is_near h.id (node_of h) server ≡ (nat_lt 0 m && nat_le (length (node_of h).log - m) 16)
-near_as h server m e = as (length (node_of h).log) ((node_of h).match_of server.id) m (is_leader h.role) (server.id == h.id) e
+near_as h server m e = known (length (node_of h).log) ((node_of h).match_of server.id) m (is_leader h.role) (server.id == h.id) e
 
 none : (all own : ℕ) (leads is_own : Bool) → cond leads (cond is_own (Some all) (Some own)) None ≡ None
     → (leads && nat_lt 0 (cond is_own all own) && nat_le (all - cond is_own all own) 16) ≡ false

@@ -173,7 +173,7 @@ module _ (v : View) (P : ℕ → Type 0) where
   role_too : (id role : ℕ) → MayAsk P (asking.asks_role v id role)
   role_too id role =
       either (asking.is_promotion v.servers id role && nat_le 7 (length (voters v.servers))) _ _ tt
-      (either (asking.is_promotion v.servers id role && not (among v.near id)) _ (Changes _ _) (either (is_spare v.servers id) (Changes _ _) (Never TargetBehind) tt tt) tt)
+      (either (asking.is_promotion v.servers id role && not (among v.near id)) _ (Changes _ _) (either (is_spare v.servers id) (Changes _ _) (Never _) tt tt) tt)
 
   assigning : (id role : ℕ) → MayAsk P (asking.asks_assign v id role)
   assigning id role = either (not (has_server v.servers id)) _ _ tt (either (nat_lt 2 role) _ _ tt (of_other id (asking.asks_role v id role) (role_too id role)))

@@ -115,11 +115,7 @@ fn add_near(near: &mut Vec<u64>, replica: &Replica, server: &Server) -> Result<(
 }
 
 /// Puts the ids of these peers whose log is known to lack at most the last entries of a leader's in the place of what is there.
-fn refill_near(
-    near: &mut Vec<u64>,
-    replica: &Replica,
-    servers: &[Server],
-) -> Result<(), AllocError>
+fn refill_near(near: &mut Vec<u64>, replica: &Replica, servers: &[Server]) -> Result<(), AllocError>
     ensures { OnOk result (near.new.items ≡ nears replica.now.raft.id (node_of replica.now.raft) servers.now) }
 {
     near.clear();

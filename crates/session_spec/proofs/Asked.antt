@@ -229,7 +229,7 @@ module _ (v : View) (g : Gateway) (s : Session) (r : Request) where
     catch_up_too id q known other =
         if_allowed (is_spare v.servers id) _ (Never TargetBehind)
         (λ spare. changes_too _ _ e f q (inr (inl (record { id = id; role = 1; known = known; other = other; low = omega arith; room = λ p. absurd (true≢false (sym p)); near = λ p. absurd (true≢false (sym p)); is = refl })))
-            (λ p. record { id = id; spare = spare; is = refl }))
+        (λ p. record { id = id; spare = spare; is = refl }))
         (λ b. tt)
 
     role_too : (id role : ℕ) → change_in_flight g ≡ false → has_server v.servers id ≡ true → role ≤ 2 → id ≢ v.id → IsAllowed v g s r (asking.asks_role v id role)

@@ -25,8 +25,8 @@ use Rattle.session_spec.specs.Limits.{change_in_flight, one_too_many, log_full, 
 
 -- What is asked for: nothing, as it is refused; a response, and nothing else; an effect outside the sessions; a database
 -- that is there, or a new one (with barrier reads or without); a statement to be prepared, with the place of the rest of its text if that is reported, or to be
--- let go; a lost transaction to end, with a response; a transaction to begin (at once with the write lock, or not) or to end; other servers of the cluster, with whether a server falls short of what it was to be; statements
--- to run, or one whose rows are reported.
+-- let go; a lost transaction to end, with a response; a transaction to begin (at once with the write lock, or not) or to end; other servers of the
+-- cluster, with whether a server falls short of what it was to be; statements to run, or one whose rows are reported.
 pub data Asked : Type 0 where
   Never : (cause : Cause) → Asked
   Tells : (response : Response) → Asked

@@ -17,5 +17,6 @@ returns-clause-exact c =
     (λ peers. looked_is old new view (c.look_at_peers.ensures.is ∙ (λ i. record (c.see.ensures i) { view = record (c.see.ensures i).view { even = new.view.even; near = new.view.near } }))
     refl refl refl refl refl c.view-raft.ensures.leader c.view-raft.ensures.term (ends_at (node_of old.replica.raft).log raft.last c.view-raft.ensures.last)
     (peers.0 ∙ ap (λ (n : Running). evens (node_of n.replica.raft) n.view.servers) c.see.ensures)
-    (peers.1 ∙ ap (λ (n : Running). nears n.replica.raft.id (node_of n.replica.raft) n.view.servers) c.see.ensures ∙ ap (λ (me : ℕ). nears me (node_of old.replica.raft) old.view.servers) c.requires.holds.replica.id))
+    (peers.1 ∙ ap (λ (n : Running). nears n.replica.raft.id (node_of n.replica.raft) n.view.servers) c.see.ensures
+    ∙ ap (λ (me : ℕ). nears me (node_of old.replica.raft) old.view.servers) c.requires.holds.replica.id))
     c.look_at_peers.ensures.peers
