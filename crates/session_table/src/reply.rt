@@ -159,11 +159,14 @@ impl ChangeReply {
         1
     }
 
-    /// The reply that is sent.
-    pub fn into_reply(self) -> Reply
-        ensures { reply_named result ≡ change_reply self }
+    /// Puts it, to a connection, after what was reported so far, if there is room for it.
+    pub fn tell(self, conn: u64, told: &mut Vec<(u64, Response)>)
+        requires { vec_len told.old + length (responses_of (change_reply self)) ≤ vec_capacity told.old }
+        ensures items { told.new.items ≡ told.old.items ++ told_in (conn, change_reply self) }
+        ensures len { vec_len told.new ≡ vec_len told.old + length (responses_of (change_reply self)) }
+        ensures room { vec_capacity told.old ≤ vec_capacity told.new }
     {
-        Reply::Single(self.response)
+        Reply::Single(self.response).tell(conn, told);
     }
 }
 

@@ -96,7 +96,7 @@ impl Session {
                 self.database = Some(name);
                 Reply::Single(Response::Db { id: 0 }).tell(self.conn, told);
             }
-            ProposalKind::Configuring { reply } => reply.into_reply().tell(self.conn, told),
+            ProposalKind::Configuring { reply } => reply.tell(self.conn, told),
             ProposalKind::Writing { reply, .. } => reply.tell(self.conn, told),
             ProposalKind::Querying { query } => self.later = Some(WaitingQuery::Due(query)),
             ProposalKind::Committing { .. } => {
