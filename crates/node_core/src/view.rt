@@ -1,6 +1,6 @@
 //! What a node is for its sessions.
 
-ghost use Rattle.std.specs.Prelude.{◌≡◌, ◌≢◌, ◌++◌, ◌×◌, [], ◌∷◌, None, true, false, IfOk, OnOk};
+ghost use Rattle.std.specs.Prelude.{◌≡◌, ◌≢◌, ◌++◌, [], ◌∷◌, None, true, false, IfOk, OnOk};
 ghost use Rattle.raft_spec.specs.Node.{Follower};
 ghost use Rattle.raft_spec.specs.NodeValues.{node_of};
 ghost use Rattle.node_core.specs.Core.{core_of, evens, is_near, looked, nears, showing_servers};
