@@ -110,6 +110,8 @@ fn served_options<'a>(alloc: Global) -> Result<Command<'a>, AllocError>
 {
     served_numbers(alloc)?
         .arg(flag(alloc, "new"))?
+        .arg(flag(alloc, "join"))?
+        .arg(flag(alloc, "alone"))?
         .arg(option(alloc, "secret"))
 }
 

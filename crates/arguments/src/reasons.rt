@@ -7,7 +7,7 @@ use crate::commands::{
 };
 use crate::operation_reasons::{addresses_reason, operation_reason};
 use crate::operations::{dump_command, operation_line};
-use crate::reading::{Line, engine_named, line_of, number_in};
+use crate::reading::{Line, engine_named, is_set, line_of, number_in};
 use crate::serving::{MAX_EVENTS, MAX_IDLE, MAX_PEERS, has_id, peer_of};
 use clap::error::ErrorKind;
 use clap::{ArgMatches, Command, Error};
@@ -110,6 +110,22 @@ fn node_reason(
     Ok(None)
 }
 
+/// Why a node may not have this many peers.
+fn number_reason(matches: &ArgMatches<'_>, count: usize) -> Option<&'static str> {
+    let joins = is_set(value(matches, "join"));
+    let alone = is_set(value(matches, "alone"));
+    if joins && alone {
+        return Some("a node that is alone joins no cluster");
+    }
+    if joins && count == 0 {
+        return Some("a node that joins needs the nodes that founded the cluster, as N=ADDRESS");
+    }
+    if alone && count > 0 {
+        return Some("a node that is alone has no peers");
+    }
+    None
+}
+
 /// Why the values after `serve` are refused.
 fn serve_reason(alloc: Global, matches: &ArgMatches<'_>) -> Result<Option<String>, AllocError> {
     let Some(id) = number_in(1, 9, value(matches, "ID")) else {
@@ -118,10 +134,11 @@ fn serve_reason(alloc: Global, matches: &ArgMatches<'_>) -> Result<Option<String
     if let Some(reason) = node_reason(alloc, matches)? {
         return Ok(Some(String::from_str(alloc, reason)?));
     }
-    match values(matches, "PEER") {
-        Some(peers) => peers_reason(alloc, id as u64, peers),
-        None => Ok(None),
+    let peers = values(matches, "PEER").unwrap_or(&[]);
+    if let Some(reason) = number_reason(matches, peers.len()) {
+        return Ok(Some(String::from_str(alloc, reason)?));
     }
+    peers_reason(alloc, id as u64, peers)
 }
 
 /// A reason as an owned text.

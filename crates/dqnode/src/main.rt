@@ -35,7 +35,7 @@ use pages::{print_request, report_refusal, request_of};
 use process::{is_root, open_streams};
 pub use program::dqnode;
 use script_cluster::ClusterJournal;
-use secret::{guard, is_loopback, secret_in};
+use secret::{SecretFault, guard, is_loopback, secret_in};
 use serve_sockets::{TcpDialer, TcpHost};
 use session_gateway::Read;
 pub use status::Status;
@@ -111,6 +111,10 @@ fn take_secret<R: Wait + Copy + Drop>(
         }
         return Ok(true);
     };
+    if serve.joins {
+        tell_secret(rt, file.as_str(), &SecretFault::Joins);
+        return Ok(false);
+    }
     match secret_in(rt, file.as_str()) {
         Ok(secret) => guard(rt.alloc(), serve, secret.as_slice(), host)?,
         Err(fault) => {

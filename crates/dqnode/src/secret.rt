@@ -33,6 +33,8 @@ pub enum SecretFault {
     Short,
     /// It has more than 4,096 bytes.
     Long,
+    /// The node joins: the nodes of a cluster with a secret take only those that founded it.
+    Joins,
     /// There was not enough memory.
     NoMemory,
 }
@@ -57,6 +59,7 @@ impl fmt::Display for SecretFault {
             SecretFault::Shared => f.write_str("others may read or change it; it needs mode 0600"),
             SecretFault::Short => f.write_str("it has fewer than 16 bytes"),
             SecretFault::Long => f.write_str("it has more than 4096 bytes"),
+            SecretFault::Joins => f.write_str("a cluster with a secret takes no node that joins"),
             SecretFault::NoMemory => f.write_str("out of memory"),
         }
     }
