@@ -112,7 +112,7 @@ fn take_secret<R: Wait + Copy + Drop>(
         return Ok(true);
     };
     if serve.joins {
-        tell_secret(rt, file.as_str(), &SecretFault::Joins);
+        errors.tell_secret(file.as_str(), &SecretFault::Joins);
         return Ok(false);
     }
     match secret_in(rt, file.as_str()) {
