@@ -3,3 +3,4 @@ pub mod Values
 pub mod Serving
 pub mod Asking
 pub mod Operations
+pub mod Tunnels

@@ -10,6 +10,7 @@ mod operations;
 mod reading;
 mod reasons;
 mod serving;
+mod tunnels;
 
 pub use invocation::{Invocation, Peer, Serve, Statement};
 pub use operation::{Action, Dump, Operation};
@@ -17,3 +18,4 @@ pub use operations::{read_dump, read_operation};
 pub use reading::read_words;
 pub use reasons::refusal_reason;
 pub use serving::{read_secret, read_serve};
+pub use tunnels::{TunnelOptions, read_tunnels};

@@ -69,6 +69,11 @@ fn peers_reason(alloc: Global, id: u64, peers: &[&str]) -> Result<Option<String>
     if peers.len() > MAX_PEERS {
         return Ok(Some(format!(in alloc; "there are more than {MAX_PEERS} peers")?));
     }
+    nodes_reason(alloc, id, peers)
+}
+
+/// Why words are refused that name nodes other than that of this id.
+fn nodes_reason(alloc: Global, id: u64, peers: &[&str]) -> Result<Option<String>, AllocError> {
     let mut before = Vec::new(alloc);
     for named in peers {
         let Some(peer) = peer_of(alloc, named)? else {
@@ -102,9 +107,11 @@ fn node_reason(
             return Ok(Some("S is 0 to 86400, in decimal without leading zeros"));
         }
     }
-    if let Some(listen) = value(matches, "LISTEN") {
-        if !is_address(&text(alloc, listen)?) {
-            return Ok(Some(ADDRESS));
+    for name in ["LISTEN", "bind"] {
+        if let Some(address) = value(matches, name) {
+            if !is_address(&text(alloc, address)?) {
+                return Ok(Some(ADDRESS));
+            }
         }
     }
     Ok(None)
@@ -138,7 +145,10 @@ fn serve_reason(alloc: Global, matches: &ArgMatches<'_>) -> Result<Option<String
     if let Some(reason) = number_reason(matches, peers.len()) {
         return Ok(Some(String::from_str(alloc, reason)?));
     }
-    peers_reason(alloc, id as u64, peers)
+    if let Some(reason) = peers_reason(alloc, id as u64, peers)? {
+        return Ok(Some(reason));
+    }
+    nodes_reason(alloc, id as u64, values(matches, "via").unwrap_or(&[]))
 }
 
 /// A reason as an owned text.

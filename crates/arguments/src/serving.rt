@@ -95,7 +95,7 @@ fn new_peer(id: u64, before: &[Peer], peer: Option<Peer>) -> Option<Peer>
 }
 
 /// The peers that words name, if each names one, whose id is new.
-fn all_peers(alloc: Global, id: u64, words: &[&str]) -> Result<Option<Items<Peer>>, AllocError>
+pub(crate) fn all_peers(alloc: Global, id: u64, words: &[&str]) -> Result<Option<Items<Peer>>, AllocError>
     ensures { IfOk result (λ peers. peers ≡ peers_behind id [] (map (λ word. word.now) words.now)) }
 {
     let mut peers = Vec::new(alloc);
@@ -238,7 +238,7 @@ fn serve_in(alloc: Global, matches: &ArgMatches<'_>) -> Result<Option<Serve>, Al
 /// a number of 1 to 4,294,967,295, the greatest where it isn't there. `--idle-transaction S`, with a number of 0 to 86,400, closes the
 /// connection of a client that has a transaction and says nothing for S seconds; it is 60 without the option, and 0 is for any time.
 /// `--new` makes a new node. With `--join` there is a peer at least, and with `--alone` no peer. `--secret FILE` names a file of the
-/// cluster's secret, at which `read_secret` looks.
+/// cluster's secret, at which `read_secret` looks; at `--bind ADDRESS` and `--via N=ADDRESS` looks `read_tunnels`.
 pub fn read_serve(alloc: Global, words: &[String]) -> Result<Option<Serve>, AllocError>
     ensures found { IfOk result (λ served. served ≡ serve_found (read_by serve_app (map string_bytes words.now))) }
     ensures fit { IfOk result (λ served. IfSome served IsServable) }

@@ -20,6 +20,7 @@ mod serving;
 mod statements;
 mod status;
 mod tails;
+mod tunnels;
 mod words;
 
 use arguments::{Invocation, Serve, read_secret, read_words};
@@ -35,7 +36,7 @@ use pages::{print_request, report_refusal, request_of};
 use process::{is_root, open_streams};
 pub use program::dqnode;
 use script_cluster::ClusterJournal;
-use secret::{SecretFault, guard, is_loopback, secret_in};
+use secret::{guard, is_loopback, secret_in};
 use serve_sockets::{TcpDialer, TcpHost};
 use session_gateway::Read;
 pub use status::Status;
@@ -46,6 +47,7 @@ use std::sync::Wait;
 use std::thread::Threads;
 use std::time::Clock;
 use tails::{FolderUse, refused_tail};
+use tunnels::use_tunnels;
 
 /// The node that the arguments name, if they ask for one to be served.
 fn served(rt: &HostRuntime, words: &[String]) -> Option<Serve> {
@@ -111,12 +113,8 @@ fn take_secret<R: Wait + Copy + Drop>(
         }
         return Ok(true);
     };
-    if serve.joins {
-        errors.tell_secret(file.as_str(), &SecretFault::Joins);
-        return Ok(false);
-    }
     match secret_in(rt, file.as_str()) {
-        Ok(secret) => guard(rt.alloc(), serve, secret.as_slice(), host)?,
+        Ok(secret) => guard(rt.alloc(), serve, secret, host)?,
         Err(fault) => {
             errors.tell_secret(file.as_str(), &fault);
             return Ok(false);
@@ -240,6 +238,9 @@ fn main(rt: HostRuntime) -> ExitCode {
     }
     let served = served(&rt, words);
     if let Some(serve) = &served {
+        if let Err(refused) = use_tunnels(&rt, all.as_slice(), &mut host) {
+            return ExitCode::from(refused.code());
+        }
         let ended = begin_serving(rt, &rt, words, serve, &mut disk, &mut host, &mut errors);
         if let Some(status) = ended {
             return ExitCode::from(status.code());

@@ -1,7 +1,8 @@
 //! Which servers a node has, and who says that it is one.
 
-ghost use Rattle.std.specs.Prelude.{◌≡◌, IfOk, IfSome};
+ghost use Rattle.std.specs.Prelude.{◌≡◌, ◌≢◌, true, false, Some, IfOk, OnOk, OnErr, IfSome};
 ghost use Rattle.node_core.specs.Values.{servers_of};
+ghost use Rattle.serve_loop.specs.News.{IsNews};
 
 use dq_base::Items;
 use node_core::Node;
@@ -56,18 +57,41 @@ pub(crate) fn caller_of(alloc: Global, event: &Event<Read>) -> Option<Caller> {
     })
 }
 
-/// Whether two servers have the same id, address and role.
-fn is_same(one: &Server, other: &Server) -> bool {
+/// Whether two servers are the same.
+fn is_same(one: &Server, other: &Server) -> bool
+    ensures is { result ≡ true → one.now ≡ other.now }
+    ensures differ { result ≡ false → one.now ≢ other.now }
+{
     one.id == other.id && one.role == other.role && one.address.as_str() == other.address.as_str()
 }
 
 /// Whether these are the same servers.
-fn are_same(ones: &[Server], others: &[Server]) -> bool {
-    ones.len() == others.len()
-        && ones
-            .iter()
-            .zip(others.iter())
-            .all(|(one, other)| is_same(one, other))
+fn are_same(ones: &[Server], others: &[Server]) -> bool
+    ensures is { result ≡ true → ones.now ≡ others.now }
+    ensures differ { result ≡ false → ones.now ≢ others.now }
+{
+    if ones.len() != others.len() {
+        return false;
+    }
+    for place in 0..ones.len() {
+        let one = &ones[place];
+        let other = &others[place];
+        if !is_same(one, other) {
+            return false;
+        }
+    }
+    true
+}
+
+/// Whether these servers were reported.
+fn were_reported(reported: &Option<Servers>, servers: &[Server]) -> bool
+    ensures is { result ≡ true → reported.now ≡ Some servers.now }
+    ensures differ { result ≡ false → reported.now ≢ Some servers.now }
+{
+    match reported {
+        Some(reported) => are_same(reported.as_slice(), servers),
+        None => false,
+    }
 }
 
 /// A copy of servers.
@@ -102,19 +126,26 @@ impl Roster {
         self.alloc
     }
 
-    /// The servers of a node, if they are others than those that were reported last. If memory runs out the next call tries again.
-    pub(crate) fn news(&mut self, node: &Node) -> Option<Servers>
-        ensures { IfSome result (λ servers. servers ≡ servers_of node.now) }
+    /// The servers of a node exactly if they are others than those that were reported last.
+    fn news(&mut self, node: &Node) -> Result<Option<Servers>, AllocError>
+        ensures news { IfOk result (λ told. IsNews self.old.reported (servers_of node.now) told) }
+        ensures reported { OnOk result (self.new.reported ≡ Some (servers_of node.now)) }
+        ensures kept { OnErr result (self.new.reported ≡ self.old.reported) }
     {
         let servers = node.servers();
-        if let Some(reported) = &self.reported {
-            if are_same(reported.as_slice(), servers) {
-                return None;
-            }
+        if were_reported(&self.reported, servers) {
+            return Ok(None);
         }
-        let kept = copied(self.alloc, servers).ok()?;
-        let told = copied(self.alloc, servers).ok()?;
-        self.reported = Some(kept);
-        Some(told)
+        let reported = copied(self.alloc, servers)?;
+        let told = copied(self.alloc, servers)?;
+        self.reported = Some(reported);
+        Ok(Some(told))
+    }
+
+    /// The servers of a node, if they are others than those that were reported last. If memory runs out the next call tries again.
+    pub(crate) fn report(&mut self, node: &Node) -> Option<Servers>
+        ensures { IfSome result (λ servers. servers ≡ servers_of node.now) }
+    {
+        self.news(node).unwrap_or(None)
     }
 }

@@ -83,7 +83,7 @@ impl<'n, 'd, 'e, D: Disk, E: Engine> Core for ServedNode<'n, 'd, 'e, D, E> {
                 state: self.node.state(),
                 voters: voters_among(self.node.servers()),
                 shut: self.watch.shuts(&*self.node, piece),
-                servers: self.roster.news(&*self.node),
+                servers: self.roster.report(&*self.node),
                 caller,
             }),
             Err(fault) => Err(fault_of(fault)),

@@ -12,32 +12,35 @@ use crate::reader::QueryReader;
 use arguments::{Peer, Serve};
 use crossbeam_channel::{Sender, unbounded};
 use serve_threads::{
-    Host, LeaderContact, LentQuery, PeerRoutes, Queues, ReaderWorker, Ticker, Worker, beside,
+    Approach, Host, LeaderContact, LentQuery, PeerRoutes, Queues, ReaderWorker, Ticker, Worker, beside,
 };
 use session_gateway::{Read, ReadJob};
 use sql_engine::Engine;
 use std::alloc::{AllocError, Global};
-use wire_words::WireBytes;
 
 /// How many readers answer queries concurrently with the node.
 const READERS: u64 = 4;
 
 /// The greatest id of a node.
-const MAX_ID: u64 = 9;
+pub const MAX_ID: u64 = 9;
 
-/// The bytes with which a connection to the peer of this id begins.
-fn first_bytes<H: Host<Read>>(
+/// How a connection to the node of this id is made.
+fn approach<H: Host<Read>>(
     alloc: Global,
     host: &H,
     words: &Serve,
     peer: u64,
-) -> Result<WireBytes, AllocError>
+) -> Result<Approach, AllocError>
     requires { HasNoNul words.now.listen }
 {
-    match host.greeting(peer)? {
-        Some(bytes) => Ok(bytes),
-        None => peer_greeting(alloc, words.id, &words.listen),
-    }
+    let greeting = match host.greeting(peer)? {
+        Some(bytes) => bytes,
+        None => peer_greeting(alloc, words.id, &words.listen)?,
+    };
+    Ok(Approach {
+        greeting,
+        detour: host.detour(peer)?,
+    })
 }
 
 /// Has a worker send to a peer.
@@ -56,10 +59,10 @@ fn reach<E: Engine + Send + Drop + 'static, H: Host<Read>>(
     ensures faults { H.faults host.old ≤ H.faults host.new }
     ensures cause { IfErr result (λ f. f ≡ crew.Host → Rose (H.faults host.old) (H.faults host.new)) }
 {
-    let greeting = first_bytes(alloc, host, words, peer.id)?;
+    let approach = approach(alloc, host, words, peer.id)?;
     let worker: Worker<H::Rt, H::Dialer, QueryReader<E>> = Worker::Peer(routes.add_reached(
         peer.id,
-        greeting,
+        approach,
         &peer.address,
     )?);
     beside(host, worker)?;
@@ -81,7 +84,7 @@ fn add_others<H: Host<Read>>(
     for before in 0..MAX_ID {
         let id = before + 1;
         if id != words.id {
-            routes.add(id, first_bytes(alloc, host, words, id)?)?;
+            routes.add(id, approach(alloc, host, words, id)?)?;
         }
     }
     Ok(())

@@ -31,7 +31,7 @@ pub use outbox::Queues;
 pub use peer::Peer;
 pub use peer_address::PeerAddress;
 pub use peer_queue::{NextMessage, PeerQueue};
-pub use peer_routes::PeerRoutes;
+pub use peer_routes::{Approach, PeerRoutes};
 pub use reader::{LentQuery, Moves, Reader, ReaderWorker};
 pub use replies::{NoReplies, Replies};
 pub use spawning::beside;

@@ -13,7 +13,7 @@ use wire_words::WireBytes;
 
 /// Sends messages to one peer, over a connection that it dials. If the connection fails or was ended by the peer it is dropped, and a message
 /// of which the write failed gets lost. The next one has the peer dialled again, and so has one that comes more than a second after the last
-/// write, of a peer whose end came unseen. A connection to an address that is no longer the peer's is dropped within 200 ms.
+/// write, of a peer whose end came unseen. A connection to an address that is no longer the peer's is dropped at once.
 ///
 /// While the node is in a step that takes long, the last Append of its term is sent again every 200 ms, if it has at most 4,096 bytes, up to
 /// five seconds after the last message. An Install that was written on the connection within the last five seconds is not written again; the

@@ -15,12 +15,21 @@ use std::thread::{Builder, Threads};
 use std::time::Clock;
 use wire_words::{WireBytes, WireText};
 
-/// What is known of another node: how a connection to it begins, where the configuration has it, where its own CONNECT said that it is
+/// How a connection to another node is made.
+#[derive(Drop)]
+pub struct Approach {
+    /// The bytes with which it begins.
+    pub greeting: WireBytes,
+    /// Where the node is dialled, if that is another address than the one at which it is reached.
+    pub detour: Option<WireText>,
+}
+
+/// What is known of another node: how a connection to it is made, where the configuration has it, where its own CONNECT said that it is
 /// reached, and the queue to its thread, once it has one.
 #[derive(Drop)]
 struct PeerRoute {
     id: u64,
-    greeting: WireBytes,
+    approach: Approach,
     listed: Option<WireText>,
     called: Option<WireText>,
     address: AddressNote,
@@ -31,7 +40,7 @@ struct PeerRoute {
 /// from the start.
 ///
 /// A message goes to where the configuration has its receiver, or else to where the receiver's CONNECT said that it is reached; without
-/// an address it is lost.
+/// an address it is lost. A node with a detour is dialled there in place of that address.
 ///
 /// Once the routes are dropped their threads end, each after what waits.
 pub struct PeerRoutes<R: Wait + Clock + Copy + Drop, D: PeerDialer> {
@@ -59,11 +68,11 @@ fn address_in(servers: &[Server], id: u64) -> Option<&WireText> {
 }
 
 impl PeerRoute {
-    /// Nothing is known of the node of this id, to which connections begin with this greeting.
-    fn new(alloc: Global, id: u64, greeting: WireBytes) -> Result<PeerRoute, AllocError> {
+    /// It is not known where the node of this id is reached.
+    fn new(alloc: Global, id: u64, approach: Approach) -> Result<PeerRoute, AllocError> {
         Ok(PeerRoute {
             id,
-            greeting,
+            approach,
             listed: None,
             called: None,
             address: AddressNote::new(alloc)?,
@@ -79,15 +88,27 @@ impl PeerRoute {
         }
     }
 
-    /// Has the thread know where the node is reached. If memory runs out nothing changes for it.
+    /// Where the node is dialled, once it is known where it is reached.
+    fn dialled(&self) -> Option<&WireText> {
+        let known = self.known()?;
+        match &self.approach.detour {
+            Some(detour) => Some(detour),
+            None => Some(known),
+        }
+    }
+
+    /// Has the thread know where the node is dialled. If memory runs out nothing changes for it.
     fn note<R: Wait>(&self, rt: &R, alloc: Global) {
-        match self.known() {
-            Some(address) => {
-                if let Ok(copy) = copied(alloc, address) {
-                    self.address.set(rt, Some(copy));
-                }
-            }
-            None => self.address.set(rt, None),
+        let dialled = match self.dialled() {
+            Some(address) => match copied(alloc, address) {
+                Ok(copy) => Some(copy),
+                Err(_) => return,
+            },
+            None => None,
+        };
+        self.address.set(rt, dialled);
+        if let Some(queue) = &self.queue {
+            queue.wake(rt);
         }
     }
 
@@ -130,15 +151,14 @@ impl<R: Wait + Clock + Copy + Drop, D: PeerDialer> PeerRoutes<R, D> {
         }
     }
 
-    /// Adds the node of an id, which is reached at this address, and answers the work of its thread. Each connection to it begins with this
-    /// greeting.
+    /// Adds the node of an id, which is reached at this address, and answers the work of its thread.
     pub fn add_reached(
         &mut self,
         id: u64,
-        greeting: WireBytes,
+        approach: Approach,
         address: &WireText,
     ) -> Result<Peer<R, D>, AllocError> {
-        let mut route = PeerRoute::new(self.alloc, id, greeting)?;
+        let mut route = PeerRoute::new(self.alloc, id, approach)?;
         route.list(&self.rt, self.alloc, Some(address));
         let (queue, peer) = self.worker_of(&route)?;
         route.queue = Some(queue);
@@ -146,10 +166,10 @@ impl<R: Wait + Clock + Copy + Drop, D: PeerDialer> PeerRoutes<R, D> {
         Ok(peer)
     }
 
-    /// Adds the node of an id, if it isn't there: where it is reached is not known. Each connection to it begins with this greeting.
-    pub fn add(&mut self, id: u64, greeting: WireBytes) -> Result<(), AllocError> {
+    /// Adds the node of an id, if it isn't there: where it is reached is not known.
+    pub fn add(&mut self, id: u64, approach: Approach) -> Result<(), AllocError> {
         if self.place_of(id).is_none() {
-            let route = PeerRoute::new(self.alloc, id, greeting)?;
+            let route = PeerRoute::new(self.alloc, id, approach)?;
             self.routes.push(route)?;
         }
         Ok(())
@@ -158,7 +178,7 @@ impl<R: Wait + Clock + Copy + Drop, D: PeerDialer> PeerRoutes<R, D> {
     /// The work of a thread for a route, and the queue to it.
     fn worker_of(&self, route: &PeerRoute) -> Result<(PeerQueue, Peer<R, D>), AllocError> {
         let queue = PeerQueue::new(self.alloc)?;
-        let greeting = Vec::from_slice(self.alloc, route.greeting.as_slice())?;
+        let greeting = Vec::from_slice(self.alloc, route.approach.greeting.as_slice())?;
         let peer = Peer {
             alloc: self.alloc,
             rt: self.rt,

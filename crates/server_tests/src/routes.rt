@@ -4,7 +4,7 @@ use crate::peers::{TERM_AT, message};
 use crate::taps::{Deeds, TapDialer};
 use dq_base::{Calls, Items};
 use raft_messages::{Server, ServerRole};
-use serve_threads::PeerRoutes;
+use serve_threads::{Approach, PeerRoutes};
 use std::alloc::Global;
 use std::sync::Wait;
 use std::test::*;
@@ -49,7 +49,11 @@ fn routes<R: Threads + Wait + Clock + Copy + Drop + Send + 'static>(
     };
     let mut routes = PeerRoutes::new(alloc, rt, dialer);
     let greeting = Items::new(Vec::from_slice(alloc, b"0123456789abcdefg").ok()?);
-    routes.add(2, greeting).ok()?;
+    let approach = Approach {
+        greeting,
+        detour: None,
+    };
+    routes.add(2, approach).ok()?;
     Some(routes)
 }
 

@@ -64,8 +64,9 @@ Status:
 ";
 
 pub(crate) const SERVE_USAGE: &str = "\
-Usage: dqnode serve [--new] [--join | --alone] [--secret FILE] [--engine E]
-                    [--events K] [--idle-transaction S] ID LISTEN [N=ADDRESS]..
+Usage: dqnode serve [--new] [--join | --alone] [--secret FILE] [--bind ADDRESS]
+                    [--via N=ADDRESS].. [--engine E] [--events K]
+                    [--idle-transaction S] ID LISTEN [N=ADDRESS]..
 ";
 
 pub(crate) const SERVE_DETAILS: &str = "\
@@ -88,6 +89,10 @@ Options:
   --secret FILE
               take only peers that have the cluster's secret, which is in FILE:
               16 to 4096 bytes that only its owner may read
+  --bind ADDRESS
+              listen at ADDRESS, as a tunnel does at LISTEN
+  --via N=ADDRESS
+              dial node N at ADDRESS, as that of a tunnel to it; once for each N
   --engine E  sqlite, which is the default, or cells
   --events K  end after K events, 1 to 4294967295, which is the default
   --idle-transaction S
