@@ -21,7 +21,7 @@ said_text greeting = option_map (λ end. take end (drop 24 greeting)) (position 
 
 -- A CONNECT, with the version before it, names this id, and its text is the pass of the node of this id.
 pub record SaysPass (check : PassCheck) (id : ℕ) (greeting : List ℕ) : Type 0 where
-  pub id : slice_index greeting 16 ≡ id
+  pub named : slice_index greeting 16 ≡ id
   pub text : List ℕ
   pub said : said_text greeting ≡ Some text
   pub right : is_pass check id text ≡ true

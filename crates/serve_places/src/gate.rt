@@ -1,7 +1,8 @@
 //! Who speaks on a connection, by its first bytes, and which peers are taken.
 
-ghost use Rattle.std.specs.Prelude.{◌≡◌, ◌≢◌, ◌≤◌, ◌+◌, ◌*◌, true, take, length, slice_index, Some, IfSome};
-ghost use Rattle.serve_places.specs.Gate.{greeting_size, said_text, MaySpeak, SaysPass, SpeaksAsPeer};
+ghost use Rattle.std.specs.Prelude.{◌≡◌, ◌≢◌, ◌≤◌, ◌+◌, ◌*◌, true, take, length, ◌<◌, slice_index, Some, IfSome};
+ghost use Rattle.std.specs.List.{position};
+ghost use Rattle.serve_places.specs.Gate.{greeting_size, is_nul, said_text, MaySpeak, SaysPass, SpeaksAsPeer};
 ghost use Rattle.serve_places.specs.declared.gate.Speaker.TheVariants as speaker;
 
 use crate::inflow::{CONNECT, FRONT_SIZE, words_in};
@@ -104,9 +105,29 @@ fn id_in(greeting: &[u8]) -> Option<u64>
 fn said_text(greeting: &[u8]) -> Option<&str>
     ensures { IfSome result (λ text. said_text greeting.now ≡ Some text.now) }
 {
-    let (_, body) = greeting.split_at_checked(TEXT_AT)?;
-    let end = body.iter().position(|byte| *byte == 0)?;
-    str::from_utf8(&body[..end]).ok()
+    if greeting.len() < TEXT_AT {
+        return None;
+    }
+    let body = &greeting[TEXT_AT..];
+    match nul_place(body) {
+        Some(end) => as_text(&body[..end]),
+        None => None,
+    }
+}
+
+/// Where the first NUL is.
+fn nul_place(bytes: &[u8]) -> Option<usize>
+    ensures is { result ≡ position is_nul bytes.now }
+    ensures within { IfSome result (λ place. place < length bytes.now) }
+{
+    bytes.iter().position(|byte| *byte == 0)
+}
+
+/// The text of these bytes, if they are UTF-8.
+fn as_text(bytes: &[u8]) -> Option<&str>
+    ensures { IfSome result (λ text. text.now ≡ bytes.now) }
+{
+    str::from_utf8(bytes).ok()
 }
 
 /// Whether a CONNECT says the pass of the node of this id. If memory runs out it counts as one that doesn't.
@@ -157,13 +178,13 @@ impl Gate {
         ensures known { result ≢ speaker.Unknown }
         ensures right { SpeaksAsPeer self.now.check greeting.now result }
     {
-        let id = id_in(greeting);
-        let Some(check) = &self.check else {
-            return id.map_or(Speaker::Client, Speaker::Peer);
-        };
-        match id {
-            Some(id) if says_pass(self.alloc, check, id, greeting) => Speaker::Peer(id),
-            _ => Speaker::Stranger,
+        match (&self.check, id_in(greeting)) {
+            (None, Some(id)) => Speaker::Peer(id),
+            (None, None) => Speaker::Client,
+            (Some(check), Some(id)) if says_pass(self.alloc, check, id, greeting) => {
+                Speaker::Peer(id)
+            }
+            (Some(_), _) => Speaker::Stranger,
         }
     }
 }
