@@ -1,6 +1,6 @@
 //! Who speaks on a connection, by its first bytes, and which peers are taken.
 
-ghost use Rattle.std.specs.Prelude.{◌≡◌, ◌≢◌, ◌≤◌, ◌+◌, ◌*◌, true, take, length, ◌<◌, slice_index, Some, IfSome};
+ghost use Rattle.std.specs.Prelude.{◌≡◌, ◌≢◌, ◌≤◌, ◌+◌, ◌*◌, true, drop, take, length, ◌<◌, slice_index, Some, IfSome};
 ghost use Rattle.std.specs.List.{position};
 ghost use Rattle.serve_places.specs.Gate.{greeting_size, is_nul, said_text, MaySpeak, SaysPass, SpeaksAsPeer};
 ghost use Rattle.serve_places.specs.declared.gate.Speaker.TheVariants as speaker;
@@ -108,11 +108,19 @@ fn said_text(greeting: &[u8]) -> Option<&str>
     if greeting.len() < TEXT_AT {
         return None;
     }
-    let body = &greeting[TEXT_AT..];
-    match nul_place(body) {
-        Some(end) => as_text(&body[..end]),
+    let rest = after_id(greeting);
+    match nul_place(rest) {
+        Some(end) => as_text(&rest[..end]),
         None => None,
     }
+}
+
+/// What stands after the id of a CONNECT, with the version before it.
+fn after_id(greeting: &[u8]) -> &[u8]
+    requires { 24 ≤ length greeting.now }
+    ensures { result.now ≡ drop 24 greeting.now }
+{
+    &greeting[TEXT_AT..]
 }
 
 /// Where the first NUL is.
