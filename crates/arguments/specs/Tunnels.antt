@@ -1,4 +1,4 @@
--- Where a node listens and dials if tunnels are between it and the others.
+-- The addresses at which a node listens and dials if tunnels are between it and the others.
 use Rattle.std.specs.Prelude.{ℕ, cond, List, [], codes, Option, Some, None}
 use Rattle.clap.specs.Walk.{Row, Text, first_of, all_of}
 use Rattle.arguments.specs.declared.invocation.Peer.{Peer}
@@ -6,7 +6,7 @@ use Rattle.arguments.specs.declared.tunnels.TunnelOptions.{TunnelOptions}
 use Rattle.arguments.specs.Values.{is_address, number_in}
 use Rattle.arguments.specs.Serving.{peers_behind, words_of}
 
--- the address at which the node listens in place of its own, if a word names one
+-- the address at which the node listens instead of its LISTEN, if a word names one
 abbrev pub bind_of : Option Text → Option (Option Text)
 bind_of None = Some None
 bind_of (Some word) = cond (is_address word) (Some (Some word)) None

@@ -117,7 +117,7 @@ fn node_reason(
     Ok(None)
 }
 
-/// Why a node may not have this many peers.
+/// Why a node has too many or too few peers.
 fn number_reason(matches: &ArgMatches<'_>, count: usize) -> Option<&'static str> {
     let joins = is_set(value(matches, "join"));
     let alone = is_set(value(matches, "alone"));

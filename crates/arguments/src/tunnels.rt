@@ -16,16 +16,16 @@ use dq_base::Items;
 use std::alloc::{AllocError, Global};
 use wire_words::WireText;
 
-/// Where a node listens and dials if tunnels are between it and the others.
+/// The addresses at which a node listens and dials if tunnels are between it and the others.
 #[derive(Drop)]
 pub struct TunnelOptions {
-    /// Where it listens, if that isn't its own address.
+    /// The address at which it listens, if it isn't its LISTEN.
     pub bind: Option<WireText>,
-    /// Where it dials other nodes whose own addresses it doesn't dial. No two have one id, and none has that of the node.
+    /// The addresses at which it dials other nodes, if they aren't these nodes' own. No two have one id, and none has that of the node.
     pub via: Items<Peer>,
 }
 
-/// The address at which a node listens in place of its own, if a word names one.
+/// The address at which a node listens instead of its LISTEN, if a word names one.
 fn bind_of(alloc: Global, word: Option<&str>) -> Result<Option<Option<WireText>>, AllocError>
     ensures { IfOk result (λ bind. bind ≡ bind_of (option_map (λ word. word.now) word.entry)) }
 {

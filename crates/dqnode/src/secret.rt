@@ -122,7 +122,7 @@ fn greetings(
     Ok(greetings)
 }
 
-/// Has a host say and demand passes by a secret: each other node hears one of its own, and only nodes that say theirs are taken.
+/// Has a host say and demand passes by a secret: each other node hears the one for it, and only nodes that say theirs are taken.
 pub fn guard<R: Wait + Copy + Drop>(
     alloc: Global,
     words: &Serve,

@@ -11,6 +11,6 @@ has_pass check sender text =
     cond (nat_lt (position_or_len is_space text) (length text))
     (same_bytes (pass_bytes check.secret check.cluster (before_first is_space text) sender check.receiver) text) false
 
--- the same of another node than the receiver
+-- and the node is another one than the receiver
 abbrev pub is_pass : PassCheck → ℕ → List ℕ → Bool
 is_pass check sender text = not (sender == check.receiver) && has_pass check sender text

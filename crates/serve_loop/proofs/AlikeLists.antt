@@ -26,7 +26,7 @@ all_taken (suc p) (x ∷ xs) h = ap (λ l. x ∷ l) (all_taken p xs (omega (arit
 pub alike : {A : Type 0} (p : ℕ) (xs ys : List A) → take p xs ≡ take p ys → length xs ≤ p → length xs ≡ length ys → xs ≡ ys
 alike p xs ys t h len = sym (all_taken p xs h) ∙ t ∙ all_taken p ys (omega (arith, h, len))
 
--- they differ where they do at a place
+-- they differ if they do at a place
 same_at : {A : Type 0} (p : ℕ) (xs : List A) (d e : A) → p < length xs → slice_index_or xs p d ≡ slice_index_or xs p e
 same_at p [] d e within = absurd (omega (arith, within))
 same_at zero (x ∷ xs) d e within = refl

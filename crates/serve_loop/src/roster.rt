@@ -24,7 +24,7 @@ const CONNECT: u8 = 11;
 /// The most bytes of a CONNECT after its header.
 const MAX_CONNECT_BODY: usize = 496;
 
-/// A node that opens a connection, and where it says that it is reached.
+/// A node that opens a connection, and the address that it says.
 #[derive(Drop)]
 pub struct Caller {
     /// Its id.

@@ -18,7 +18,7 @@ use session_gateway::Read;
 use sql_engine::Engine;
 use std::alloc::Global;
 
-/// What a node's loop needs beside the node.
+/// What a node's loop needs in addition to the node.
 #[derive(Clone, Copy)]
 pub struct LoopSettings {
     /// For copies of what is reported.

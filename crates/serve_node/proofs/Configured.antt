@@ -197,7 +197,7 @@ stands words (Ok servers) h e = subst IsConfiguration (sym e) (configured words 
 
 -- ---- a node that joins
 
--- none of them has this id
+-- each has another id
 AreOthers : ℕ → List Server → Type 0
 AreOthers id ss = AllByRecursion (λ (s : Server). (s.id == id) ≡ false) ss
 

@@ -69,7 +69,7 @@ fn reach<E: Engine + Send + Drop + 'static, H: Host<Read>>(
     Ok(())
 }
 
-/// Adds the nodes of all other ids to the routes, unless the node is alone. A worker sends to one of them once it is known where that one is.
+/// Adds the nodes of all other ids to the routes, unless the node is alone. A worker sends to one of them once its address is known.
 fn add_others<H: Host<Read>>(
     alloc: Global,
     host: &H,

@@ -6,9 +6,9 @@ use wire_words::WireText;
 /// Which addresses take the place of those at which others reach the nodes, since tunnels are between.
 #[derive(Drop)]
 pub struct Tunnels {
-    /// Where the node listens, if it isn't at its own address.
+    /// The address at which the node listens, if it isn't its own.
     pub bind: Option<WireText>,
-    /// Where peers are dialled, by their ids.
+    /// The addresses at which peers are dialled, by their ids.
     pub detours: Vec<(u64, WireText)>,
 }
 
@@ -21,7 +21,7 @@ impl Tunnels {
         }
     }
 
-    /// Where a node listens whose own address this is.
+    /// The address at which a node listens whose own one this is.
     pub(crate) fn bound_at<'a>(&'a self, address: &'a str) -> &'a str {
         match &self.bind {
             Some(bind) => bind.as_str(),
@@ -29,7 +29,7 @@ impl Tunnels {
         }
     }
 
-    /// Where the peer of an id is dialled, if it isn't at its own address.
+    /// The address at which the peer of an id is dialled, if it isn't its own.
     pub(crate) fn detour(&self, peer: u64) -> Option<&WireText> {
         for (id, address) in &self.detours {
             if *id == peer {

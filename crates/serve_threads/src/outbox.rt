@@ -77,12 +77,12 @@ impl<
         self.peers.send(message);
     }
 
-    /// Messages go to where these servers are, from now on.
+    /// Messages go to the addresses of these servers from now on.
     pub fn follow(&mut self, servers: &[Server]) {
         self.peers.follow(servers);
     }
 
-    /// The node of an id says that it is reached at this address, which counts where no server has the id.
+    /// The node of an id says that it is reached at this address, which counts if no server has the id.
     pub fn call(&mut self, id: u64, address: WireText) {
         self.peers.call(id, address);
     }

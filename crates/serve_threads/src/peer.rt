@@ -26,7 +26,7 @@ pub struct Peer<R: Wait + Clock + Copy + Drop, D: PeerDialer> {
     pub rt: R,
     /// What dials.
     pub dialer: D,
-    /// Where the peer is reached. A message to a peer that is reached nowhere is dropped.
+    /// The peer's address. A message to a peer without one is dropped.
     pub address: PeerAddress,
     /// What is written first on each connection: the version and a CONNECT.
     pub greeting: WireBytes,
@@ -90,7 +90,7 @@ impl<R: Wait + Clock + Copy + Drop, D: PeerDialer> Peer<R, D> {
         }
     }
 
-    /// The link, unless the peer's address has changed.
+    /// The connection, unless the peer's address has changed.
     fn followed(
         &mut self,
         link: Option<PeerLink<D::Connection>>,

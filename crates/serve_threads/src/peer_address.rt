@@ -1,4 +1,4 @@
-//! Where a peer is reached.
+//! The address of a peer.
 
 use std::alloc::{AllocError, Global};
 use std::sync::{Arc, Mutex, Wait};
@@ -16,13 +16,13 @@ struct Noted {
     changes: u64,
 }
 
-/// The end at which it is noted where a peer is reached.
+/// The end at which the address of a peer is noted.
 #[derive(Drop)]
 pub(crate) struct AddressNote {
     shared: Arc<Mutex<Noted>, Global>,
 }
 
-/// The end at which a thread that dials reads where its peer is reached.
+/// The end at which a thread that dials reads the address of its peer.
 #[derive(Drop)]
 pub struct PeerAddress {
     shared: Arc<Mutex<Noted>, Global>,
@@ -49,7 +49,7 @@ impl AddressNote {
         noted.changes = noted.changes.saturating_add(1);
     }
 
-    /// The end for the thread that dials. `Err` where there are too many.
+    /// The end for the thread that dials. `Err` if there are too many.
     pub(crate) fn reader(&self) -> Result<PeerAddress, AllocError> {
         Ok(PeerAddress {
             shared: Arc::try_clone(&self.shared)?,

@@ -74,7 +74,7 @@ impl PeerMail {
         self.bulk.is_none() && self.others.is_empty() && !self.is_woken && !self.is_closed
     }
 
-    /// Has the next wait for a message end, also if there is none.
+    /// Has the next wait for a message end, also without one.
     pub(crate) fn wake(&mut self) {
         self.is_woken = true;
     }

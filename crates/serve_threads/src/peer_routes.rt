@@ -1,4 +1,4 @@
-//! Which peers a node sends to, and where.
+//! Which peers a node sends to, and at which addresses.
 
 ghost use Rattle.serve_threads.specs.Lasting.{IsLasting};
 
@@ -20,12 +20,12 @@ use wire_words::{WireBytes, WireText};
 pub struct Approach {
     /// The bytes with which it begins.
     pub greeting: WireBytes,
-    /// Where the node is dialled, if that is another address than the one at which it is reached.
+    /// The address at which the node is dialled, if it is another one than its own.
     pub detour: Option<WireText>,
 }
 
-/// What is known of another node: how a connection to it is made, where the configuration has it, where its own CONNECT said that it is
-/// reached, and the queue to its thread, once it has one.
+/// What is known of another node: how a connection to it is made, its address by the configuration and by its own CONNECT, and the queue to
+/// its thread, once it has one.
 #[derive(Drop)]
 struct PeerRoute {
     id: u64,
@@ -39,8 +39,8 @@ struct PeerRoute {
 /// The routes of a node to all others, of which it has at most eight. Each has a thread from the first message to a known address on, or
 /// from the start.
 ///
-/// A message goes to where the configuration has its receiver, or else to where the receiver's CONNECT said that it is reached; without
-/// an address it is lost. A node with a detour is dialled there in place of that address.
+/// A message goes to the address that the configuration has for its receiver, or else to the one that the receiver's CONNECT said; without
+/// an address it is lost. A node with a detour is dialled there instead.
 ///
 /// Once the routes are dropped their threads end, each after what waits.
 pub struct PeerRoutes<R: Wait + Clock + Copy + Drop, D: PeerDialer> {
@@ -68,7 +68,7 @@ fn address_in(servers: &[Server], id: u64) -> Option<&WireText> {
 }
 
 impl PeerRoute {
-    /// It is not known where the node of this id is reached.
+    /// The node of this id has no known address.
     fn new(alloc: Global, id: u64, approach: Approach) -> Result<PeerRoute, AllocError> {
         Ok(PeerRoute {
             id,
@@ -80,7 +80,7 @@ impl PeerRoute {
         })
     }
 
-    /// Where the node is reached.
+    /// The address of the node, if it is known.
     fn known(&self) -> Option<&WireText> {
         match &self.listed {
             Some(address) => Some(address),
@@ -88,7 +88,7 @@ impl PeerRoute {
         }
     }
 
-    /// Where the node is dialled, once it is known where it is reached.
+    /// The address at which the node is dialled, if its own is known.
     fn dialled(&self) -> Option<&WireText> {
         let known = self.known()?;
         match &self.approach.detour {
@@ -97,7 +97,7 @@ impl PeerRoute {
         }
     }
 
-    /// Has the thread know where the node is dialled. If memory runs out nothing changes for it.
+    /// Has the thread know the address at which the node is dialled. If memory runs out nothing changes for it.
     fn note<R: Wait>(&self, rt: &R, alloc: Global) {
         let dialled = match self.dialled() {
             Some(address) => match copied(alloc, address) {
@@ -166,7 +166,7 @@ impl<R: Wait + Clock + Copy + Drop, D: PeerDialer> PeerRoutes<R, D> {
         Ok(peer)
     }
 
-    /// Adds the node of an id, if it isn't there: where it is reached is not known.
+    /// Adds the node of an id, if it isn't there, without an address.
     pub fn add(&mut self, id: u64, approach: Approach) -> Result<(), AllocError> {
         if self.place_of(id).is_none() {
             let route = PeerRoute::new(self.alloc, id, approach)?;
@@ -195,7 +195,7 @@ impl<R: Wait + Clock + Copy + Drop, D: PeerDialer> PeerRoutes<R, D> {
         self.routes.iter().position(|route| route.id == id)
     }
 
-    /// Messages go to where these servers are. A connection to another place ends.
+    /// Messages go to the addresses of these servers. A connection to another address ends.
     pub fn follow(&mut self, servers: &[Server]) {
         let (rt, alloc) = (self.rt, self.alloc);
         for route in self.routes.iter_mut() {

@@ -1,4 +1,4 @@
-//! Where a node's messages to others go.
+//! To which addresses a node's messages to others go.
 
 use crate::peers::{TERM_AT, message};
 use crate::taps::{Deeds, TapDialer};
@@ -57,7 +57,7 @@ fn routes<R: Threads + Wait + Clock + Copy + Drop + Send + 'static>(
     Some(routes)
 }
 
-/// Whether a message is lost while no address is known, goes where node 2 says that it is, and then where the configuration has it.
+/// Whether a message is lost while no address is known, goes to the address that node 2 says, and then to that of the configuration.
 fn follow<R: Threads + Wait + Clock + Copy + Drop + Send + 'static>(
     rt: R,
     alloc: Global,
