@@ -5,7 +5,9 @@ use crate::commands::{
     check_command, generate_command, script_command, serve_command, statement_command, value,
     values,
 };
-use crate::reading::{Line, engine_named, line_of, number_in};
+use crate::operation_reasons::{addresses_reason, operation_reason};
+use crate::operations::{dump_command, operation_line};
+use crate::reading::{Line, engine_named, is_set, line_of, number_in};
 use crate::serving::{MAX_EVENTS, MAX_IDLE, MAX_PEERS, has_id, peer_of};
 use clap::error::ErrorKind;
 use clap::{ArgMatches, Command, Error};
@@ -15,7 +17,7 @@ use std::alloc::{AllocError, Global};
 const ENGINE: &str = "an engine is `sqlite` or `cells`";
 
 /// What is wrong with an address, if something is.
-const ADDRESS: &str =
+pub(crate) const ADDRESS: &str =
     "an address is HOST:PORT or [IPV6]:PORT, with a port of 1 to 65535, in at most 255 bytes";
 
 /// The first paragraph of what `clap` says of arguments, in one line, without the `error: ` before it.
@@ -36,7 +38,7 @@ fn paragraph_of(alloc: Global, error: &Error) -> Result<String, AllocError> {
 }
 
 /// Why `clap` refuses arguments.
-fn error_reason(alloc: Global, error: &Error) -> Result<Option<String>, AllocError> {
+pub(crate) fn error_reason(alloc: Global, error: &Error) -> Result<Option<String>, AllocError> {
     match error.kind() {
         ErrorKind::OutOfMemory => Err(AllocError),
         _ => Ok(Some(paragraph_of(alloc, error)?)),
@@ -49,25 +51,6 @@ fn script_reason(matches: &ArgMatches<'_>) -> Option<&'static str> {
         Some(_) => None,
         None => Some(ENGINE),
     }
-}
-
-/// Why the values after `exec` and `query` are refused.
-fn statement_reason(
-    alloc: Global,
-    matches: &ArgMatches<'_>,
-) -> Result<Option<&'static str>, AllocError> {
-    let Some(addresses) = values(matches, "ADDRESS") else {
-        return Ok(None);
-    };
-    if addresses.len() > 9 {
-        return Ok(Some("there are more than 9 addresses"));
-    }
-    for address in addresses {
-        if !is_address(&text(alloc, address)?) {
-            return Ok(Some(ADDRESS));
-        }
-    }
-    Ok(None)
 }
 
 /// Why the values after `gen` are refused.
@@ -86,6 +69,11 @@ fn peers_reason(alloc: Global, id: u64, peers: &[&str]) -> Result<Option<String>
     if peers.len() > MAX_PEERS {
         return Ok(Some(format!(in alloc; "there are more than {MAX_PEERS} peers")?));
     }
+    nodes_reason(alloc, id, peers)
+}
+
+/// Why words are refused that name nodes other than that of this id.
+fn nodes_reason(alloc: Global, id: u64, peers: &[&str]) -> Result<Option<String>, AllocError> {
     let mut before = Vec::new(alloc);
     for named in peers {
         let Some(peer) = peer_of(alloc, named)? else {
@@ -119,12 +107,30 @@ fn node_reason(
             return Ok(Some("S is 0 to 86400, in decimal without leading zeros"));
         }
     }
-    if let Some(listen) = value(matches, "LISTEN") {
-        if !is_address(&text(alloc, listen)?) {
-            return Ok(Some(ADDRESS));
+    for name in ["LISTEN", "bind"] {
+        if let Some(address) = value(matches, name) {
+            if !is_address(&text(alloc, address)?) {
+                return Ok(Some(ADDRESS));
+            }
         }
     }
     Ok(None)
+}
+
+/// Why a node has too many or too few peers.
+fn number_reason(matches: &ArgMatches<'_>, count: usize) -> Option<&'static str> {
+    let joins = is_set(value(matches, "join"));
+    let alone = is_set(value(matches, "alone"));
+    if joins && alone {
+        return Some("a node that is alone joins no cluster");
+    }
+    if joins && count == 0 {
+        return Some("a node that joins needs the nodes that founded the cluster, as N=ADDRESS");
+    }
+    if alone && count > 0 {
+        return Some("a node that is alone has no peers");
+    }
+    None
 }
 
 /// Why the values after `serve` are refused.
@@ -135,10 +141,14 @@ fn serve_reason(alloc: Global, matches: &ArgMatches<'_>) -> Result<Option<String
     if let Some(reason) = node_reason(alloc, matches)? {
         return Ok(Some(String::from_str(alloc, reason)?));
     }
-    match values(matches, "PEER") {
-        Some(peers) => peers_reason(alloc, id as u64, peers),
-        None => Ok(None),
+    let peers = values(matches, "PEER").unwrap_or(&[]);
+    if let Some(reason) = number_reason(matches, peers.len()) {
+        return Ok(Some(String::from_str(alloc, reason)?));
     }
+    if let Some(reason) = peers_reason(alloc, id as u64, peers)? {
+        return Ok(Some(reason));
+    }
+    nodes_reason(alloc, id as u64, values(matches, "via").unwrap_or(&[]))
 }
 
 /// A reason as an owned text.
@@ -169,8 +179,8 @@ fn values_reason(
 ) -> Result<Option<String>, AllocError> {
     match line {
         Line::Script => owned(alloc, script_reason(matches)),
-        Line::Exec => owned(alloc, statement_reason(alloc, matches)?),
-        Line::Query => owned(alloc, statement_reason(alloc, matches)?),
+        Line::Exec => owned(alloc, addresses_reason(alloc, matches)?),
+        Line::Query => owned(alloc, addresses_reason(alloc, matches)?),
         Line::Check => Ok(None),
         Line::Generate => owned(alloc, generate_reason(matches)),
         Line::Serve => serve_reason(alloc, matches),
@@ -189,11 +199,25 @@ fn reason_by(
     }
 }
 
+/// Why the arguments after `dump` are refused.
+fn dump_reason(alloc: Global, arguments: &[String]) -> Result<Option<String>, AllocError> {
+    match dump_command(alloc)?.try_get_matches_from(arguments) {
+        Ok(_) => Ok(None),
+        Err(error) => error_reason(alloc, &error),
+    }
+}
+
 /// Why arguments ask for nothing that the program does, in one line without its end; nothing if they ask for something.
 pub fn refusal_reason(alloc: Global, arguments: &[String]) -> Result<Option<String>, AllocError> {
     let Some((first, others)) = arguments.split_first() else {
         return owned(alloc, Some("a command is missing"));
     };
+    if let Some(line) = operation_line(first.as_str()) {
+        return operation_reason(alloc, line, others);
+    }
+    if first.as_str() == "dump" {
+        return dump_reason(alloc, others);
+    }
     match line_of(first.as_str()) {
         Some(line) => reason_by(alloc, line, others),
         None => Ok(Some(format!(in alloc; "there is no command {first:?}")?)),

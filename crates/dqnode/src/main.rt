@@ -8,6 +8,8 @@ mod error_stream;
 mod founding;
 mod generating;
 mod network;
+mod operations;
+mod operator_pages;
 mod pages;
 mod process;
 mod program;
@@ -18,6 +20,7 @@ mod serving;
 mod statements;
 mod status;
 mod tails;
+mod tunnels;
 mod words;
 
 use arguments::{Invocation, Serve, read_secret, read_words};
@@ -27,6 +30,8 @@ use error_stream::ErrorStream;
 use folder_disk::DirDisk;
 use founding::{claim, refusal_of};
 pub use network::Network;
+pub use operations::operate;
+use operator_pages::run_command;
 use pages::{print_request, report_refusal, request_of};
 use process::{is_root, open_streams};
 pub use program::dqnode;
@@ -42,6 +47,7 @@ use std::sync::Wait;
 use std::thread::Threads;
 use std::time::Clock;
 use tails::{FolderUse, refused_tail};
+use tunnels::use_tunnels;
 
 /// The node that the arguments name, if they ask for one to be served.
 fn served(rt: &HostRuntime, words: &[String]) -> Option<Serve> {
@@ -108,7 +114,7 @@ fn take_secret<R: Wait + Copy + Drop>(
         return Ok(true);
     };
     match secret_in(rt, file.as_str()) {
-        Ok(secret) => guard(rt.alloc(), serve, secret.as_slice(), host)?,
+        Ok(secret) => guard(rt.alloc(), serve, secret, host)?,
         Err(fault) => {
             errors.tell_secret(file.as_str(), &fault);
             return Ok(false);
@@ -222,8 +228,19 @@ fn main(rt: HostRuntime) -> ExitCode {
         return no_memory;
     };
     let mut errors = ErrorStream::new(rt, lines);
+    match run_command(&rt, words, &mut disk, &errors) {
+        Ok(Some(status)) => return ExitCode::from(status.code()),
+        Ok(None) => {}
+        Err(_) => {
+            errors.tell_memory();
+            return no_memory;
+        }
+    }
     let served = served(&rt, words);
     if let Some(serve) = &served {
+        if let Err(refused) = use_tunnels(&rt, all.as_slice(), &mut host) {
+            return ExitCode::from(refused.code());
+        }
         let ended = begin_serving(rt, &rt, words, serve, &mut disk, &mut host, &mut errors);
         if let Some(status) = ended {
             return ExitCode::from(status.code());

@@ -9,44 +9,49 @@ ghost use Rattle.serve_node.specs.Crew.{Hires};
 use crate::fault::CrewFault;
 use crate::greeting::peer_greeting;
 use crate::reader::QueryReader;
-use crate::voters::copied;
 use arguments::{Peer, Serve};
 use crossbeam_channel::{Sender, unbounded};
 use serve_threads::{
-    Host, LeaderContact, LentQuery, Peer as PeerWorker, PeerQueue, Queues, ReaderWorker, Ticker,
-    Worker, beside,
+    Approach, Host, LeaderContact, LentQuery, PeerRoutes, Queues, ReaderWorker, Ticker, Worker, beside,
 };
 use session_gateway::{Read, ReadJob};
 use sql_engine::Engine;
 use std::alloc::{AllocError, Global};
-use wire_words::WireBytes;
 
 /// How many readers answer queries concurrently with the node.
 const READERS: u64 = 4;
 
-/// The bytes with which a connection to the peer of this id begins.
-fn first_bytes<H: Host<Read>>(
+/// The greatest id of a node.
+pub const MAX_ID: u64 = 9;
+
+/// How a connection to the node of this id is made.
+fn approach<H: Host<Read>>(
     alloc: Global,
     host: &H,
     words: &Serve,
     peer: u64,
-) -> Result<WireBytes, AllocError>
+) -> Result<Approach, AllocError>
     requires { HasNoNul words.now.listen }
 {
-    match host.greeting(peer)? {
-        Some(bytes) => Ok(bytes),
-        None => peer_greeting(alloc, words.id, &words.listen),
-    }
+    let greeting = match host.greeting(peer)? {
+        Some(bytes) => bytes,
+        None => peer_greeting(alloc, words.id, &words.listen)?,
+    };
+    Ok(Approach {
+        greeting,
+        detour: host.detour(peer)?,
+    })
 }
 
-/// Has a worker send to a peer, and answers its queue.
+/// Has a worker send to a peer.
 #[tactic(auto, using(crate::proofs::Hiring::no_host))]
 fn reach<E: Engine + Send + Drop + 'static, H: Host<Read>>(
     alloc: Global,
     host: &mut H,
     words: &Serve,
+    routes: &mut PeerRoutes<H::Rt, H::Dialer>,
     peer: &Peer,
-) -> Result<PeerQueue, CrewFault>
+) -> Result<(), CrewFault>
     requires address { HasNoNul words.now.listen }
     ensures done { OnOk result (Hires 1 (H.done host.old) (H.done host.new)) }
     ensures events { H.taken host.new ≡ H.taken host.old }
@@ -54,20 +59,35 @@ fn reach<E: Engine + Send + Drop + 'static, H: Host<Read>>(
     ensures faults { H.faults host.old ≤ H.faults host.new }
     ensures cause { IfErr result (λ f. f ≡ crew.Host → Rose (H.faults host.old) (H.faults host.new)) }
 {
-    let rt = host.rt();
-    let queue = PeerQueue::new(alloc)?;
-    let greeting = first_bytes(alloc, host, words, peer.id)?;
-    let dialer = host.dialer()?;
-    let worker: Worker<H::Rt, H::Dialer, QueryReader<E>> = Worker::Peer(PeerWorker {
-        alloc,
-        rt,
-        dialer,
-        address: copied(alloc, &peer.address)?,
-        greeting,
-        queue: queue.again()?,
-    });
+    let approach = approach(alloc, host, words, peer.id)?;
+    let worker: Worker<H::Rt, H::Dialer, QueryReader<E>> = Worker::Peer(routes.add_reached(
+        peer.id,
+        approach,
+        &peer.address,
+    )?);
     beside(host, worker)?;
-    Ok(queue)
+    Ok(())
+}
+
+/// Adds the nodes of all other ids to the routes, unless the node is alone. A worker sends to one of them once its address is known.
+fn add_others<H: Host<Read>>(
+    alloc: Global,
+    host: &H,
+    words: &Serve,
+    routes: &mut PeerRoutes<H::Rt, H::Dialer>,
+) -> Result<(), AllocError>
+    requires address { HasNoNul words.now.listen }
+{
+    if words.alone {
+        return Ok(());
+    }
+    for before in 0..MAX_ID {
+        let id = before + 1;
+        if id != words.id {
+            routes.add(id, approach(alloc, host, words, id)?)?;
+        }
+    }
+    Ok(())
 }
 
 /// Has a worker send to each peer.
@@ -76,7 +96,8 @@ fn reach_all<E: Engine + Send + Drop + 'static, H: Host<Read>>(
     alloc: Global,
     host: &mut H,
     words: &Serve,
-) -> Result<Vec<(u64, PeerQueue)>, CrewFault>
+    routes: &mut PeerRoutes<H::Rt, H::Dialer>,
+) -> Result<(), CrewFault>
     requires address { HasNoNul words.now.listen }
     ensures done { OnOk result (Hires (length words.now.peers) (H.done host.old) (H.done host.new)) }
     ensures events { H.taken host.new ≡ H.taken host.old }
@@ -84,12 +105,10 @@ fn reach_all<E: Engine + Send + Drop + 'static, H: Host<Read>>(
     ensures faults { H.faults host.old ≤ H.faults host.new }
     ensures cause { IfErr result (λ f. f ≡ crew.Host → Rose (H.faults host.old) (H.faults host.new)) }
 {
-    let mut peers = Vec::with_capacity(alloc, words.peers.len())?;
     for peer in words.peers.as_slice() {
-        let queue = reach::<E, H>(alloc, host, words, peer)?;
-        peers.push((peer.id, queue))?;
+        reach::<E, H>(alloc, host, words, routes, peer)?;
     }
-    Ok(peers)
+    Ok(())
 }
 
 /// Has a worker tell the time.
@@ -174,7 +193,7 @@ pub(crate) fn crew<E: Engine + Send + Drop + 'static, H: Host<Read>>(
     host: &mut H,
     words: &Serve,
     engine: &E,
-) -> Result<Queues<H::Rt, H::Replies, ReadJob>, CrewFault>
+) -> Result<Queues<H::Rt, H::Dialer, H::Replies, ReadJob>, CrewFault>
     requires address { HasNoNul words.now.listen }
     ensures done { OnOk result (Hires (5 + length words.now.peers) (H.done host.old) (H.done host.new)) }
     ensures events { H.taken host.new ≡ H.taken host.old }
@@ -185,7 +204,9 @@ pub(crate) fn crew<E: Engine + Send + Drop + 'static, H: Host<Read>>(
     let rt = host.rt();
     let heard = host.contact()?;
     let replies = host.replies()?;
-    let peers = reach_all::<E, H>(alloc, host, words)?;
+    let mut peers = PeerRoutes::new(alloc, rt, host.dialer()?);
+    reach_all::<E, H>(alloc, host, words, &mut peers)?;
+    add_others(alloc, &*host, words, &mut peers)?;
     tick::<E, H>(alloc, host, &heard)?;
     let readers = read_all(alloc, host, engine)?;
     Ok(Queues {

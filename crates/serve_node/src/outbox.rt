@@ -3,19 +3,27 @@
 use crate::notes::{Note, Notes};
 use node_core::{NodeState, StepOutputs};
 use raft_core::RaftRole;
-use serve_loop::StepReport;
+use serve_loop::{Caller, StepReport};
 use serve_threads::{Queues, Replies};
-use serve_traits::{Outbox, ServerSet};
+use serve_traits::{Outbox, PeerDialer, ServerSet};
 use session_gateway::ReadJob;
 use std::sync::Wait;
+use std::thread::Threads;
+use std::time::Clock;
 
 /// Nine tenths of the last index that a log may have, 4,294,900,000.
 const WARN_INDEX: u64 = 3_865_410_000;
 
 /// Hands what a node says to those that carry it, and notes how it is where that is new.
 #[derive(Drop)]
-pub(crate) struct Dispatcher<'a, R: Wait + Copy + Drop, L: Replies, W: Notes> {
-    queues: Queues<R, L, ReadJob>,
+pub(crate) struct Dispatcher<
+    'a,
+    R: Wait + Clock + Copy + Drop,
+    D: PeerDialer,
+    L: Replies,
+    W: Notes,
+> {
+    queues: Queues<R, D, L, ReadJob>,
     notes: &'a mut W,
     noted: Option<(u64, u64)>,
     is_full_noted: bool,
@@ -30,13 +38,19 @@ fn leader_of(state: &NodeState, id: u64) -> Option<u64> {
     }
 }
 
-impl<'a, R: Wait + Copy + Drop, L: Replies, W: Notes> Dispatcher<'a, R, L, W> {
+impl<
+    'a,
+    R: Threads + Wait + Clock + Copy + Drop + Send + 'static,
+    D: PeerDialer + Send + 'static,
+    L: Replies,
+    W: Notes,
+> Dispatcher<'a, R, D, L, W> {
     /// Nothing was said so far by the node of this id.
     pub(crate) fn new(
-        queues: Queues<R, L, ReadJob>,
+        queues: Queues<R, D, L, ReadJob>,
         notes: &'a mut W,
         id: u64,
-    ) -> Dispatcher<'a, R, L, W> {
+    ) -> Dispatcher<'a, R, D, L, W> {
         Dispatcher {
             queues,
             notes,
@@ -104,8 +118,13 @@ impl<'a, R: Wait + Copy + Drop, L: Replies, W: Notes> Dispatcher<'a, R, L, W> {
     }
 }
 
-impl<'a, R: Wait + Copy + Drop, L: Replies, W: Notes> Outbox<StepReport>
-    for Dispatcher<'a, R, L, W> {
+impl<
+    'a,
+    R: Threads + Wait + Clock + Copy + Drop + Send + 'static,
+    D: PeerDialer + Send + 'static,
+    L: Replies,
+    W: Notes,
+> Outbox<StepReport> for Dispatcher<'a, R, D, L, W> {
     ghost use Rattle.std.specs.Prelude.{None};
 
     ghost said = { λ _. None };
@@ -116,7 +135,15 @@ impl<'a, R: Wait + Copy + Drop, L: Replies, W: Notes> Outbox<StepReport>
             state,
             voters,
             shut,
+            servers,
+            caller,
         } = said;
+        if let Some(servers) = servers {
+            self.queues.follow(servers.as_slice());
+        }
+        if let Some(Caller { id, address }) = caller {
+            self.queues.call(id, address);
+        }
         self.queues.note_step();
         self.hand_on(outs);
         if let Some(conn) = shut {

@@ -1,0 +1,4 @@
+pub mod Talking
+pub mod Tries
+pub mod Ending
+pub mod Operating
