@@ -1,3 +1,2 @@
 pub mod Servable
 pub mod Found
-pub mod Operated

@@ -10,7 +10,7 @@ use clap::{Arg, ArgAction, ArgMatches, Command, Error};
 use std::alloc::{AllocError, Global};
 
 /// A command without arguments, of which all words are read, and which has no help.
-pub(crate) fn plain<'a>(alloc: Global, name: &'a str) -> Command<'a>
+fn plain<'a>(alloc: Global, name: &'a str) -> Command<'a>
     ensures { app_of result ≡ plain_app name.entry.now [] }
 {
     Command::new(alloc, name)
@@ -19,7 +19,7 @@ pub(crate) fn plain<'a>(alloc: Global, name: &'a str) -> Command<'a>
 }
 
 /// An option with a value, by its long name.
-pub(crate) fn option<'a>(alloc: Global, name: &'a str) -> Arg<'a>
+fn option<'a>(alloc: Global, name: &'a str) -> Arg<'a>
     ensures rule { rule_of result ≡ option_rule name.entry.now }
     ensures local { result.global ≡ false }
 {
@@ -27,7 +27,7 @@ pub(crate) fn option<'a>(alloc: Global, name: &'a str) -> Arg<'a>
 }
 
 /// An option without a value, by its long name.
-pub(crate) fn flag<'a>(alloc: Global, name: &'a str) -> Arg<'a>
+fn flag<'a>(alloc: Global, name: &'a str) -> Arg<'a>
     ensures rule { rule_of result ≡ flag_rule name.entry.now }
     ensures local { result.global ≡ false }
 {
@@ -43,7 +43,7 @@ fn each<'a>(alloc: Global, name: &'a str) -> Arg<'a>
 }
 
 /// A word that has to be there.
-pub(crate) fn one<'a>(alloc: Global, name: &'a str) -> Arg<'a>
+fn one<'a>(alloc: Global, name: &'a str) -> Arg<'a>
     ensures rule { rule_of result ≡ one_rule name.entry.now }
     ensures local { result.global ≡ false }
 {
@@ -51,7 +51,7 @@ pub(crate) fn one<'a>(alloc: Global, name: &'a str) -> Arg<'a>
 }
 
 /// All words after those before, of which there has to be one.
-pub(crate) fn several<'a>(alloc: Global, name: &'a str) -> Arg<'a>
+fn several<'a>(alloc: Global, name: &'a str) -> Arg<'a>
     ensures rule { rule_of result ≡ several_rule name.entry.now }
     ensures local { result.global ≡ false }
 {

@@ -7,4 +7,3 @@ pub mod Generating
 pub mod Serving
 pub mod Decided
 pub mod Runs
-pub mod Operations

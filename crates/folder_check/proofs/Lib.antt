@@ -1,4 +1,3 @@
 pub mod Reported
 pub mod Told
 mod Restored
-pub mod Dumped

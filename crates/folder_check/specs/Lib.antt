@@ -1,5 +1,3 @@
 pub mod Files
 pub mod Lines
 pub mod Checking
-pub mod OneFile
-pub mod Dumping

@@ -8,19 +8,10 @@ Usage: dqnode COMMAND ARGUMENT..
 Serve a cluster:
   serve ID LISTEN [N=ADDRESS]..   serve node ID, with its files in the working folder
   check                           print what the files of a stopped node hold
-  dump NAME                       write a database of a stopped node as one file
 
 Ask a cluster:
   exec NAME SQL ADDRESS..         have the leader run a statement
   query NAME SQL ADDRESS..        have the leader answer a query
-  cluster ADDRESS..               print the servers and their roles
-
-Change a cluster:
-  transfer ADDRESS..              have another voter lead
-  add N=ADDRESS ADDRESS..         add a server
-  assign N ROLE ADDRESS..         give a server a role: voter, standby or spare
-  remove N ADDRESS..              remove a server
-  weight N W ADDRESS..            give a server a weight
 
 Try a cluster in memory:
   script                          run the script on the input
@@ -35,12 +26,6 @@ Options:
   --events K     of serve: end after K events
   --new          of serve: make a new node
   --secret FILE  of serve: take only peers that have the secret in FILE
-  --all-log      of dump: apply the whole log
-  --json         of cluster: print JSON
-  --from N       of transfer: only if server N leads
-  --to N         of transfer: have server N lead
-  --voter, --standby, --spare
-                 of add: the role of the server
   --run          of gen: run the script, and print how its nodes are at the end
   -h, --help     print this page, or the page of a command
   -V, --version  print the version
@@ -57,9 +42,9 @@ Status:
    8  the files of the folder are not those of a node
    9  the script is too large
   10  the node has taken as many events as it may
-  11  a server refused the statement, or what an operator asked for
+  11  a server refused the statement
   12  no leader was found
-  13  nobody knows whether the statement was run, or what was asked for was done
+  13  nobody knows whether the statement was run
   15  internal fault, a bug of the program: please report it
 ";
 

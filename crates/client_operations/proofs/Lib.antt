@@ -1,4 +1,0 @@
-pub mod Talking
-pub mod Tries
-pub mod Ending
-pub mod Operating
