@@ -95,7 +95,11 @@ fn new_peer(id: u64, before: &[Peer], peer: Option<Peer>) -> Option<Peer>
 }
 
 /// The peers that words name, if each names one, whose id is new.
-pub(crate) fn all_peers(alloc: Global, id: u64, words: &[&str]) -> Result<Option<Items<Peer>>, AllocError>
+pub(crate) fn all_peers(
+    alloc: Global,
+    id: u64,
+    words: &[&str],
+) -> Result<Option<Items<Peer>>, AllocError>
     ensures { IfOk result (λ peers. peers ≡ peers_behind id [] (map (λ word. word.now) words.now)) }
 {
     let mut peers = Vec::new(alloc);

@@ -53,10 +53,7 @@ fn vias_of(
     }
 }
 
-fn tunnels_in(
-    alloc: Global,
-    matches: &ArgMatches<'_>,
-) -> Result<Option<TunnelOptions>, AllocError>
+fn tunnels_in(alloc: Global, matches: &ArgMatches<'_>) -> Result<Option<TunnelOptions>, AllocError>
     ensures { IfOk result (λ tunnels. tunnels ≡ tunnels_in (rows_of (found_of matches.now))) }
 {
     let Some(id) = number_in(1, 9, value(matches, "ID")) else {

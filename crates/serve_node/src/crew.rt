@@ -12,7 +12,8 @@ use crate::reader::QueryReader;
 use arguments::{Peer, Serve};
 use crossbeam_channel::{Sender, unbounded};
 use serve_threads::{
-    Approach, Host, LeaderContact, LentQuery, PeerRoutes, Queues, ReaderWorker, Ticker, Worker, beside,
+    Approach, Host, LeaderContact, LentQuery, PeerRoutes, Queues, ReaderWorker, Ticker, Worker,
+    beside,
 };
 use session_gateway::{Read, ReadJob};
 use sql_engine::Engine;
