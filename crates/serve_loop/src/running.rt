@@ -81,13 +81,14 @@ pub fn run_node<D: Disk, E: Engine, I: Inbox<Read>, O: Outbox<StepReport>>(
     ensures engine { Stays (E.kind engine.old) (E.kind engine.new) (E.refused_openings engine.old) (E.refused_openings engine.new) }
 {
     let mut node = node;
+    let mut roster = Roster::new(settings.alloc);
     let mut served = ServedNode {
         node: &mut node,
         disk,
         engine,
         watch: HeldBytes::new(settings.most_held),
         telling: Telling::new(),
-        roster: Roster::new(settings.alloc),
+        roster: &mut roster,
     };
     served.run(inbox, outbox, budget)
 }

@@ -25,7 +25,7 @@ pub(crate) struct ServedNode<'n, 'd, 'e, D: Disk, E: Engine> {
     pub(crate) engine: &'e mut E,
     pub(crate) watch: HeldBytes,
     pub(crate) telling: Telling,
-    pub(crate) roster: Roster,
+    pub(crate) roster: &'n mut Roster,
 }
 
 /// The voters among servers.
