@@ -45,7 +45,7 @@ fn vias_of(
     id: u32,
     words: Option<&[&str]>,
 ) -> Result<Option<Items<Peer>>, AllocError>
-    ensures { IfOk result (λ via. via ≡ vias_of (Some id) (option_map (λ words. map (λ word. word.now) words.now) words)) }
+    ensures { IfOk result (λ via. via ≡ vias_of (Some id) (option_map (λ words. map (λ word. word.now) words.now) words.entry)) }
 {
     match words {
         Some(words) => all_peers(alloc, id as u64, words),
