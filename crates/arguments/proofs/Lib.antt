@@ -1,2 +1,3 @@
 pub mod Servable
 pub mod Found
+pub mod Operated

@@ -2,4 +2,5 @@ pub mod Commands
 pub mod Values
 pub mod Serving
 pub mod Asking
+pub mod Operations
 pub mod Tunnels

@@ -145,7 +145,7 @@ fn are_all(texts: &[WireText]) -> bool
 }
 
 /// Whether all texts are addresses, as many as there may be.
-fn are_addresses(texts: &[WireText]) -> bool
+pub(crate) fn are_addresses(texts: &[WireText]) -> bool
     ensures { result ≡ are_addresses texts.now }
 {
     texts.len() >= 1 && texts.len() <= 9 && are_all(texts)

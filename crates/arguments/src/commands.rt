@@ -10,7 +10,7 @@ use clap::{Arg, ArgAction, ArgMatches, Command, Error};
 use std::alloc::{AllocError, Global};
 
 /// A command without arguments, of which all words are read, and which has no help.
-fn plain<'a>(alloc: Global, name: &'a str) -> Command<'a>
+pub(crate) fn plain<'a>(alloc: Global, name: &'a str) -> Command<'a>
     ensures { app_of result ≡ plain_app name.entry.now [] }
 {
     Command::new(alloc, name)
@@ -19,7 +19,7 @@ fn plain<'a>(alloc: Global, name: &'a str) -> Command<'a>
 }
 
 /// An option with a value, by its long name.
-fn option<'a>(alloc: Global, name: &'a str) -> Arg<'a>
+pub(crate) fn option<'a>(alloc: Global, name: &'a str) -> Arg<'a>
     ensures rule { rule_of result ≡ option_rule name.entry.now }
     ensures local { result.global ≡ false }
 {
@@ -27,7 +27,7 @@ fn option<'a>(alloc: Global, name: &'a str) -> Arg<'a>
 }
 
 /// An option without a value, by its long name.
-fn flag<'a>(alloc: Global, name: &'a str) -> Arg<'a>
+pub(crate) fn flag<'a>(alloc: Global, name: &'a str) -> Arg<'a>
     ensures rule { rule_of result ≡ flag_rule name.entry.now }
     ensures local { result.global ≡ false }
 {
@@ -43,7 +43,7 @@ fn each<'a>(alloc: Global, name: &'a str) -> Arg<'a>
 }
 
 /// A word that has to be there.
-fn one<'a>(alloc: Global, name: &'a str) -> Arg<'a>
+pub(crate) fn one<'a>(alloc: Global, name: &'a str) -> Arg<'a>
     ensures rule { rule_of result ≡ one_rule name.entry.now }
     ensures local { result.global ≡ false }
 {
@@ -51,7 +51,7 @@ fn one<'a>(alloc: Global, name: &'a str) -> Arg<'a>
 }
 
 /// All words after those before, of which there has to be one.
-fn several<'a>(alloc: Global, name: &'a str) -> Arg<'a>
+pub(crate) fn several<'a>(alloc: Global, name: &'a str) -> Arg<'a>
     ensures rule { rule_of result ≡ several_rule name.entry.now }
     ensures local { result.global ≡ false }
 {

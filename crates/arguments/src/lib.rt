@@ -4,12 +4,17 @@
 mod addresses;
 mod commands;
 mod invocation;
+mod operation;
+mod operation_reasons;
+mod operations;
 mod reading;
 mod reasons;
 mod serving;
 mod tunnels;
 
 pub use invocation::{Invocation, Peer, Serve, Statement};
+pub use operation::{Action, Dump, Operation};
+pub use operations::{read_dump, read_operation};
 pub use reading::read_words;
 pub use reasons::refusal_reason;
 pub use serving::{read_secret, read_serve};

@@ -5,6 +5,8 @@ use crate::commands::{
     check_command, generate_command, script_command, serve_command, statement_command, value,
     values,
 };
+use crate::operation_reasons::{addresses_reason, operation_reason};
+use crate::operations::{dump_command, operation_line};
 use crate::reading::{Line, engine_named, is_set, line_of, number_in};
 use crate::serving::{MAX_EVENTS, MAX_IDLE, MAX_PEERS, has_id, peer_of};
 use clap::error::ErrorKind;
@@ -15,7 +17,7 @@ use std::alloc::{AllocError, Global};
 const ENGINE: &str = "an engine is `sqlite` or `cells`";
 
 /// What is wrong with an address, if something is.
-const ADDRESS: &str =
+pub(crate) const ADDRESS: &str =
     "an address is HOST:PORT or [IPV6]:PORT, with a port of 1 to 65535, in at most 255 bytes";
 
 /// The first paragraph of what `clap` says of arguments, in one line, without the `error: ` before it.
@@ -36,7 +38,7 @@ fn paragraph_of(alloc: Global, error: &Error) -> Result<String, AllocError> {
 }
 
 /// Why `clap` refuses arguments.
-fn error_reason(alloc: Global, error: &Error) -> Result<Option<String>, AllocError> {
+pub(crate) fn error_reason(alloc: Global, error: &Error) -> Result<Option<String>, AllocError> {
     match error.kind() {
         ErrorKind::OutOfMemory => Err(AllocError),
         _ => Ok(Some(paragraph_of(alloc, error)?)),
@@ -49,25 +51,6 @@ fn script_reason(matches: &ArgMatches<'_>) -> Option<&'static str> {
         Some(_) => None,
         None => Some(ENGINE),
     }
-}
-
-/// Why the values after `exec` and `query` are refused.
-fn statement_reason(
-    alloc: Global,
-    matches: &ArgMatches<'_>,
-) -> Result<Option<&'static str>, AllocError> {
-    let Some(addresses) = values(matches, "ADDRESS") else {
-        return Ok(None);
-    };
-    if addresses.len() > 9 {
-        return Ok(Some("there are more than 9 addresses"));
-    }
-    for address in addresses {
-        if !is_address(&text(alloc, address)?) {
-            return Ok(Some(ADDRESS));
-        }
-    }
-    Ok(None)
 }
 
 /// Why the values after `gen` are refused.
@@ -188,6 +171,12 @@ fn command_of<'a>(alloc: Global, line: Line) -> Result<Command<'a>, AllocError> 
     }
 }
 
+/// Why the addresses after a statement are refused.
+fn statement_reason(alloc: Global, matches: &ArgMatches<'_>) -> Result<Option<String>, AllocError> {
+    let addresses = values(matches, "ADDRESS").unwrap_or(&[]);
+    owned(alloc, addresses_reason(alloc, addresses)?)
+}
+
 /// Why the values that a command has found are refused.
 fn values_reason(
     alloc: Global,
@@ -196,8 +185,8 @@ fn values_reason(
 ) -> Result<Option<String>, AllocError> {
     match line {
         Line::Script => owned(alloc, script_reason(matches)),
-        Line::Exec => owned(alloc, statement_reason(alloc, matches)?),
-        Line::Query => owned(alloc, statement_reason(alloc, matches)?),
+        Line::Exec => statement_reason(alloc, matches),
+        Line::Query => statement_reason(alloc, matches),
         Line::Check => Ok(None),
         Line::Generate => owned(alloc, generate_reason(matches)),
         Line::Serve => serve_reason(alloc, matches),
@@ -216,11 +205,25 @@ fn reason_by(
     }
 }
 
+/// Why the arguments after `dump` are refused.
+fn dump_reason(alloc: Global, arguments: &[String]) -> Result<Option<String>, AllocError> {
+    match dump_command(alloc)?.try_get_matches_from(arguments) {
+        Ok(_) => Ok(None),
+        Err(error) => error_reason(alloc, &error),
+    }
+}
+
 /// Why arguments ask for nothing that the program does, in one line without its end; nothing if they ask for something.
 pub fn refusal_reason(alloc: Global, arguments: &[String]) -> Result<Option<String>, AllocError> {
     let Some((first, others)) = arguments.split_first() else {
         return owned(alloc, Some("a command is missing"));
     };
+    if let Some(line) = operation_line(first.as_str()) {
+        return operation_reason(alloc, line, others);
+    }
+    if first.as_str() == "dump" {
+        return dump_reason(alloc, others);
+    }
     match line_of(first.as_str()) {
         Some(line) => reason_by(alloc, line, others),
         None => Ok(Some(format!(in alloc; "there is no command {first:?}")?)),

@@ -161,7 +161,7 @@ CameOnLink (Some event, held) = IsOfLink event
 
 message_on_link : (bytes : List ℕ) → IsOfLink (message_event bytes)
 unfolding message_event
-message_on_link bytes = by (response_of 0 (message_with (header_of bytes) (drop 8 bytes)))
+message_on_link bytes = by (response_of 1 (message_with (header_of bytes) (drop 8 bytes)))
   where
     by : (r : Result Response MsgFault) → IsOfLink (event_of r)
     by (Ok response) = tt

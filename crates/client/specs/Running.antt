@@ -25,9 +25,9 @@ abbrev pub event_of : Result Response MsgFault → ClientEvent
 event_of (Ok response) = Got response
 event_of (Err fault) = Broken
 
--- what a whole message says
+-- what a whole message says; a list of servers is read with their roles
 unfoldable pub message_event : List ℕ → ClientEvent
-message_event bytes = event_of (response_of 0 (message_with (header_of bytes) (drop 8 bytes)))
+message_event bytes = event_of (response_of 1 (message_with (header_of bytes) (drop 8 bytes)))
 
 -- what comes of an answer, if something does, and the bytes of a message that isn't there whole
 abbrev pub Came : Type 0

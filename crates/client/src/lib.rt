@@ -19,6 +19,8 @@ pub use client::ClientCore;
 pub use dialer::{Dialer, NetCall};
 pub use events::{ClientAction, ClientEnd, ClientEvent};
 pub use laws::{clients_await, clients_obey};
+pub use link::{PIECE_SIZE, perform};
 pub use mem_dialer::MemDialer;
+pub use printing::put_text;
 pub use run::drive;
 pub use status::{ClientStatus, run_client};

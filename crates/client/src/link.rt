@@ -13,7 +13,7 @@ use wire_msgs::{MsgFault, read_response};
 use wire_words::{Header, MAX_CLIENT_WORDS, Message, WireBytes, WireText};
 
 /// How many bytes are read at once.
-pub(crate) const PIECE_SIZE: usize = 4096;
+pub const PIECE_SIZE: usize = 4096;
 
 /// The header in the first eight bytes.
 fn header(bytes: &[u8]) -> Header
@@ -36,7 +36,7 @@ fn room(bytes: &[u8]) -> usize
     (size.saturating_sub(bytes.len() as u64) as usize).min(PIECE_SIZE)
 }
 
-/// What a whole message says.
+/// What a whole message says. A list of servers is read with their roles.
 #[tactic(auto, unfolding(crate::specs::Running::message_event))]
 fn said(alloc: Global, bytes: &[u8]) -> Result<ClientEvent, AllocError>
     requires { 8 ≤ length bytes.now }
@@ -49,7 +49,7 @@ fn said(alloc: Global, bytes: &[u8]) -> Result<ClientEvent, AllocError>
         schema: head.schema,
         body: Bytes::new(body),
     };
-    match read_response(alloc, &message, 0) {
+    match read_response(alloc, &message, 1) {
         Ok(response) => Ok(ClientEvent::Got(response)),
         Err(MsgFault::NoMemory) => Err(AllocError),
         Err(_) => Ok(ClientEvent::Broken),
@@ -149,8 +149,9 @@ fn read<N: Dialer>(
     }
 }
 
-/// Makes the call that a client named, and says what came of it.
-pub(crate) fn perform<N: Dialer>(
+/// Makes the call that a client named, and says what came of it: nothing yet if a message is not there whole, whose bytes `held` has.
+/// `piece` is memory for what is read.
+pub fn perform<N: Dialer>(
     alloc: Global,
     net: &mut N,
     does: &ClientAction,

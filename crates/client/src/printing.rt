@@ -31,7 +31,7 @@ fn put_byte(out: &mut Vec<u8>, byte: u8) -> Result<(), AllocError>
 
 /// Appends a text, in which a backslash, a tab, an LF and a CR are written as a backslash and a sign.
 #[tactic(auto, unfolding(crate::specs::Printing::escaped))]
-fn put_text(out: &mut Vec<u8>, text: &[u8]) -> Result<(), AllocError>
+pub fn put_text(out: &mut Vec<u8>, text: &[u8]) -> Result<(), AllocError>
     ensures { OnOk result (out.new.items ≡ out.old.items ++ escaped text.now) }
 {
     for byte in text {

@@ -7,3 +7,4 @@ pub mod Generating
 pub mod Serving
 pub mod Decided
 pub mod Runs
+pub mod Operations

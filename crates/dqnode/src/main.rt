@@ -8,6 +8,8 @@ mod error_stream;
 mod founding;
 mod generating;
 mod network;
+mod operations;
+mod operator_pages;
 mod pages;
 mod process;
 mod program;
@@ -28,6 +30,8 @@ use error_stream::ErrorStream;
 use folder_disk::DirDisk;
 use founding::{claim, refusal_of};
 pub use network::Network;
+pub use operations::operate;
+use operator_pages::run_command;
 use pages::{print_request, report_refusal, request_of};
 use process::{is_root, open_streams};
 pub use program::dqnode;
@@ -224,6 +228,14 @@ fn main(rt: HostRuntime) -> ExitCode {
         return no_memory;
     };
     let mut errors = ErrorStream::new(rt, lines);
+    match run_command(&rt, words, &mut disk, &errors) {
+        Ok(Some(status)) => return ExitCode::from(status.code()),
+        Ok(None) => {}
+        Err(_) => {
+            errors.tell_memory();
+            return no_memory;
+        }
+    }
     let served = served(&rt, words);
     if let Some(serve) = &served {
         if let Err(refused) = use_tunnels(&rt, all.as_slice(), &mut host) {

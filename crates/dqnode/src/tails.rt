@@ -15,6 +15,8 @@ pub enum FolderUse {
     Start,
     /// It is only looked at.
     Check,
+    /// A database of it is written on the output.
+    Dump,
 }
 
 /// Says by which bytes a start truncates the segment.
@@ -25,13 +27,13 @@ fn tell_torn(rt: &HostRuntime, purpose: FolderUse, errors: &ErrorStream, last: L
         FolderUse::Start => format!(in alloc;
             "truncated the torn end of segment-{number:016}: {torn} bytes from byte {good} on"
         ),
-        FolderUse::Check => format!(in alloc;
+        FolderUse::Check | FolderUse::Dump => format!(in alloc;
             "a start truncates the torn end of segment-{number:016}: {torn} bytes from byte {good} on"
         ),
     });
 }
 
-/// Says why the folder is refused: a start on the error stream, a check on the output.
+/// Says why the folder is refused: a start and a dump on the error stream, a check on the output.
 fn tell_refusal(
     rt: &HostRuntime,
     purpose: FolderUse,
@@ -39,7 +41,7 @@ fn tell_refusal(
     start: Result<String, AllocError>,
     check: Result<String, AllocError>,
 ) -> Status {
-    if purpose == FolderUse::Start {
+    if purpose != FolderUse::Check {
         errors.say(start);
         return Status::Files;
     }
@@ -81,13 +83,13 @@ pub fn refused_tail(
             Some(tell_refusal(rt, purpose, errors, start, check))
         }
         Err(LoadFault::DiskFault) => {
-            if purpose == FolderUse::Start {
+            if purpose != FolderUse::Check {
                 errors.tell_disk(disk);
             }
             Some(Status::DiskFault)
         }
         Err(LoadFault::NoMemory) => {
-            if purpose == FolderUse::Start {
+            if purpose != FolderUse::Check {
                 errors.tell_memory();
             }
             Some(Status::NoMemory)

@@ -1,3 +1,4 @@
 pub mod Reported
 pub mod Told
 mod Restored
+pub mod Dumped

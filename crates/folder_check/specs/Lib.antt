@@ -1,3 +1,5 @@
 pub mod Files
 pub mod Lines
 pub mod Checking
+pub mod OneFile
+pub mod Dumping

@@ -137,14 +137,14 @@ fn text_with(alloc: Global, kept: &Kept, machine: Machine) -> Result<String, All
 }
 
 // The state machine at the kept snapshot.
-fn machine_of(alloc: Global, kept: &Kept) -> Result<Option<Machine>, AllocError>
+pub(crate) fn machine_of(alloc: Global, kept: &Kept) -> Result<Option<Machine>, AllocError>
     ensures { IfOk result (λ machine. option_map contents_of machine ≡ databases_at kept.now.snap) }
 {
     machine_at(alloc, &kept.snapshot)
 }
 
 // The index of the kept snapshot, and 0 without one.
-fn snapshot_index(kept: &Kept) -> u64
+pub(crate) fn snapshot_index(kept: &Kept) -> u64
     ensures { result ≡ kept.now.snap.index }
 {
     index_of(&kept.snapshot)

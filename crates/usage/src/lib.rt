@@ -1,6 +1,7 @@
 //! The pages of `--help`, the text of `--version`, and which of them arguments ask for.
 #![tactic(auto)]
 
+mod operator_texts;
 mod pages;
 mod requests;
 mod texts;

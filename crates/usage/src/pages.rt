@@ -1,6 +1,6 @@
 //! A page of help for the program and for each command.
 
-use crate::texts;
+use crate::{operator_texts, texts};
 
 /// A page of help.
 #[derive(Clone, Copy, Debug, PartialEq, Eq)]
@@ -15,6 +15,20 @@ pub enum Page {
     Exec,
     /// The page of `query`.
     Query,
+    /// The page of `dump`.
+    Dump,
+    /// The page of `cluster`.
+    Cluster,
+    /// The page of `transfer`.
+    Transfer,
+    /// The page of `add`.
+    Add,
+    /// The page of `assign`.
+    Assign,
+    /// The page of `remove`.
+    Remove,
+    /// The page of `weight`.
+    Weight,
     /// The page of `script`.
     Script,
     /// The page of `gen`.
@@ -42,6 +56,32 @@ impl Page {
         if name == "gen" {
             return Some(Page::Generate);
         }
+        Page::of_operation(name)
+    }
+
+    /// The page of an operator's command, by the command's name.
+    fn of_operation(name: &str) -> Option<Page> {
+        if name == "dump" {
+            return Some(Page::Dump);
+        }
+        if name == "cluster" {
+            return Some(Page::Cluster);
+        }
+        if name == "transfer" {
+            return Some(Page::Transfer);
+        }
+        if name == "add" {
+            return Some(Page::Add);
+        }
+        if name == "assign" {
+            return Some(Page::Assign);
+        }
+        if name == "remove" {
+            return Some(Page::Remove);
+        }
+        if name == "weight" {
+            return Some(Page::Weight);
+        }
         None
     }
 
@@ -61,6 +101,13 @@ impl Page {
             Page::Check => texts::CHECK_USAGE,
             Page::Exec => texts::EXEC_USAGE,
             Page::Query => texts::QUERY_USAGE,
+            Page::Dump => operator_texts::DUMP_USAGE,
+            Page::Cluster => operator_texts::CLUSTER_USAGE,
+            Page::Transfer => operator_texts::TRANSFER_USAGE,
+            Page::Add => operator_texts::ADD_USAGE,
+            Page::Assign => operator_texts::ASSIGN_USAGE,
+            Page::Remove => operator_texts::REMOVE_USAGE,
+            Page::Weight => operator_texts::WEIGHT_USAGE,
             Page::Script => texts::SCRIPT_USAGE,
             Page::Generate => texts::GENERATE_USAGE,
         }
@@ -74,6 +121,13 @@ impl Page {
             Page::Check => texts::CHECK_DETAILS,
             Page::Exec => texts::EXEC_DETAILS,
             Page::Query => texts::QUERY_DETAILS,
+            Page::Dump => operator_texts::DUMP_DETAILS,
+            Page::Cluster => operator_texts::CLUSTER_DETAILS,
+            Page::Transfer => operator_texts::TRANSFER_DETAILS,
+            Page::Add => operator_texts::ADD_DETAILS,
+            Page::Assign => operator_texts::ASSIGN_DETAILS,
+            Page::Remove => operator_texts::REMOVE_DETAILS,
+            Page::Weight => operator_texts::WEIGHT_DETAILS,
             Page::Script => texts::SCRIPT_DETAILS,
             Page::Generate => texts::GENERATE_DETAILS,
         }
@@ -87,6 +141,13 @@ impl Page {
             Page::Check => "check --help",
             Page::Exec => "exec --help",
             Page::Query => "query --help",
+            Page::Dump => "dump --help",
+            Page::Cluster => "cluster --help",
+            Page::Transfer => "transfer --help",
+            Page::Add => "add --help",
+            Page::Assign => "assign --help",
+            Page::Remove => "remove --help",
+            Page::Weight => "weight --help",
             Page::Script => "script --help",
             Page::Generate => "gen --help",
         }

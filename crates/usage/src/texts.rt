@@ -8,10 +8,19 @@ Usage: dqnode COMMAND ARGUMENT..
 Serve a cluster:
   serve ID LISTEN [N=ADDRESS]..   serve node ID, with its files in the working folder
   check                           print what the files of a stopped node hold
+  dump NAME                       write a database of a stopped node as one file
 
 Ask a cluster:
   exec NAME SQL ADDRESS..         have the leader run a statement
   query NAME SQL ADDRESS..        have the leader answer a query
+  cluster ADDRESS..               print the servers and their roles
+
+Change a cluster:
+  transfer [N] ADDRESS..          have another voter lead
+  add N=ADDRESS ADDRESS..         add a server
+  assign N ROLE ADDRESS..         give a server a role: voter, standby or spare
+  remove N ADDRESS..              remove a server
+  weight N W ADDRESS..            give a server a weight
 
 Try a cluster in memory:
   script                          run the script on the input
@@ -26,6 +35,11 @@ Options:
   --events K     of serve: end after K events
   --new          of serve: make a new node
   --secret FILE  of serve: take only peers that have the secret in FILE
+  --all-log      of dump: apply the whole log
+  --json         of cluster: print JSON
+  --from N       of transfer: only if server N leads
+  --voter, --standby, --spare
+                 of add: the role of the server
   --run          of gen: run the script, and print how its nodes are at the end
   -h, --help     print this page, or the page of a command
   -V, --version  print the version
@@ -42,16 +56,15 @@ Status:
    8  the files of the folder are not those of a node
    9  the script is too large
   10  the node has taken as many events as it may
-  11  a server refused the statement
+  11  a server refused the statement, or what an operator asked for
   12  no leader was found
-  13  nobody knows whether the statement was run
+  13  nobody knows whether the statement was run, or what was asked for was done
   15  internal fault, a bug of the program: please report it
 ";
 
 pub(crate) const SERVE_USAGE: &str = "\
-Usage: dqnode serve [--new] [--join | --alone] [--secret FILE] [--bind ADDRESS]
-                    [--via N=ADDRESS].. [--engine E] [--events K]
-                    [--idle-transaction S] ID LISTEN [N=ADDRESS]..
+Usage: dqnode serve [--new] [--join | --alone] [--secret FILE] [--engine E]
+                    [--events K] [--idle-transaction S] ID LISTEN [N=ADDRESS]..
 ";
 
 pub(crate) const SERVE_DETAILS: &str = "\
@@ -74,10 +87,6 @@ Options:
   --secret FILE
               take only peers that have the cluster's secret, which is in FILE:
               16 to 4096 bytes that only its owner may read
-  --bind ADDRESS
-              listen at ADDRESS, as a tunnel does at LISTEN
-  --via N=ADDRESS
-              dial node N at ADDRESS, as that of a tunnel to it; once for each N
   --engine E  sqlite, which is the default, or cells
   --events K  end after K events, 1 to 4294967295, which is the default
   --idle-transaction S

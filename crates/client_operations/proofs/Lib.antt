@@ -1,0 +1,5 @@
+pub mod Talking
+pub mod Tries
+pub mod Ending
+pub mod Operating
+pub mod Objects

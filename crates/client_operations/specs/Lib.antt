@@ -1,0 +1,5 @@
+pub mod Exchanges
+pub mod Asking
+pub mod Ends
+pub mod Operations
+pub mod Printing
