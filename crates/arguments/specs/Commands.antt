@@ -52,17 +52,23 @@ served_numbers_app = plain_app (codes "serve")
     (option_rule (codes "engine") ∷ option_rule (codes "events") ∷ option_rule (codes "idle-transaction") ∷ [])
 
 -- [--engine E] [--events K] [--idle-transaction S] [--new] [--join] [--alone] [--secret FILE]
-abbrev pub served_options_app : App
-served_options_app = plain_app (codes "serve")
+abbrev pub served_flags_app : App
+served_flags_app = plain_app (codes "serve")
     (option_rule (codes "engine") ∷ option_rule (codes "events") ∷ option_rule (codes "idle-transaction") ∷ flag_rule (codes "new") ∷
     flag_rule (codes "join") ∷ flag_rule (codes "alone") ∷ option_rule (codes "secret") ∷ [])
 
--- [--engine E] [--events K] [--idle-transaction S] [--new] [--join] [--alone] [--secret FILE] ID LISTEN [PEER]..
+-- these, and [--metrics LISTEN]
+abbrev pub served_options_app : App
+served_options_app = plain_app (codes "serve")
+    (option_rule (codes "engine") ∷ option_rule (codes "events") ∷ option_rule (codes "idle-transaction") ∷ flag_rule (codes "new") ∷
+    flag_rule (codes "join") ∷ flag_rule (codes "alone") ∷ option_rule (codes "secret") ∷ option_rule (codes "metrics") ∷ [])
+
+-- these, and ID LISTEN [PEER]..
 unfoldable pub serve_app : App
 serve_app = plain_app (codes "serve")
     (option_rule (codes "engine") ∷ option_rule (codes "events") ∷ option_rule (codes "idle-transaction") ∷ flag_rule (codes "new") ∷
-    flag_rule (codes "join") ∷ flag_rule (codes "alone") ∷ option_rule (codes "secret") ∷ one_rule (codes "ID") ∷ one_rule (codes "LISTEN") ∷
-    any_rule (codes "PEER") ∷ [])
+    flag_rule (codes "join") ∷ flag_rule (codes "alone") ∷ option_rule (codes "secret") ∷ option_rule (codes "metrics") ∷ one_rule (codes "ID") ∷
+    one_rule (codes "LISTEN") ∷ any_rule (codes "PEER") ∷ [])
 
 -- what was found, unless there is a reason to refuse
 abbrev pub unless_refused : Kinds → List Row → Option (List Row)

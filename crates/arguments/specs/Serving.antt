@@ -112,6 +112,11 @@ abbrev pub secret_found : Option (List Row) → Option Text
 secret_found None = None
 secret_found (Some rows) = first_of (codes "secret") rows
 
+-- the address at which metrics are shown, if a command found one
+abbrev pub metrics_found : Option (List Row) → Option Text
+metrics_found None = None
+metrics_found (Some rows) = first_of (codes "metrics") rows
+
 -- what a command found, unless it refused the arguments
 abbrev pub serve_found : Option (List Row) → Option Serve
 serve_found None = None

@@ -3,7 +3,7 @@
 ghost use Rattle.std.specs.Prelude.{◌≡◌, ◌≢◌, [], true, false, None, IfOk, map, string_bytes};
 ghost use Rattle.std.specs.Option.{option_map};
 ghost use Rattle.clap.specs.Words.{app_of, rule_of, found_of, rows_of, first_of, all_of, is_simple_and_free, kind_of};
-ghost use Rattle.arguments.specs.Commands.{plain_app, option_rule, flag_rule, one_rule, several_rule, any_rule, script_app, statement_app, check_app, generate_app, served_numbers_app, served_options_app, serve_app, read_by};
+ghost use Rattle.arguments.specs.Commands.{plain_app, option_rule, flag_rule, one_rule, several_rule, any_rule, script_app, statement_app, check_app, generate_app, served_numbers_app, served_flags_app, served_options_app, serve_app, read_by};
 
 use clap::error::ErrorKind;
 use clap::{Arg, ArgAction, ArgMatches, Command, Error};
@@ -104,15 +104,22 @@ fn served_numbers<'a>(alloc: Global) -> Result<Command<'a>, AllocError>
         .arg(option(alloc, "idle-transaction"))
 }
 
-/// The options of the arguments after `serve`.
-fn served_options<'a>(alloc: Global) -> Result<Command<'a>, AllocError>
-    ensures { IfOk result (λ command. app_of command ≡ served_options_app) }
+/// The flags and the secret of the arguments after `serve`.
+fn served_flags<'a>(alloc: Global) -> Result<Command<'a>, AllocError>
+    ensures { IfOk result (λ command. app_of command ≡ served_flags_app) }
 {
     served_numbers(alloc)?
         .arg(flag(alloc, "new"))?
         .arg(flag(alloc, "join"))?
         .arg(flag(alloc, "alone"))?
         .arg(option(alloc, "secret"))
+}
+
+/// The options of the arguments after `serve`.
+fn served_options<'a>(alloc: Global) -> Result<Command<'a>, AllocError>
+    ensures { IfOk result (λ command. app_of command ≡ served_options_app) }
+{
+    served_flags(alloc)?.arg(option(alloc, "metrics"))
 }
 
 /// The command of the arguments after `serve`.

@@ -16,4 +16,4 @@ pub use operation::{Action, Dump, Operation};
 pub use operations::{read_dump, read_operation};
 pub use reading::read_words;
 pub use reasons::refusal_reason;
-pub use serving::{read_secret, read_serve};
+pub use serving::{read_metrics, read_secret, read_serve};

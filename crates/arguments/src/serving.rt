@@ -6,7 +6,7 @@ ghost use Rattle.std.specs.List.{before_first, after_first};
 ghost use Rattle.clap.specs.Words.{found_of, rows_of};
 ghost use Rattle.arguments.specs.Commands.{serve_app, read_by};
 ghost use Rattle.arguments.specs.Values.{is_address};
-ghost use Rattle.arguments.specs.Serving.{is_mark, peer_with, peer_of, has_id, is_new, new_peer, peers_behind, peers_of, events_of, idle_of, words_of, options_with, options_in, fits_peers, serve_with_peers, serve_with, serve_in, serve_found, secret_found, IsServable};
+ghost use Rattle.arguments.specs.Serving.{is_mark, peer_with, peer_of, has_id, is_new, new_peer, peers_behind, peers_of, events_of, idle_of, words_of, options_with, options_in, fits_peers, serve_with_peers, serve_with, serve_in, serve_found, secret_found, metrics_found, IsServable};
 
 use crate::addresses::{is_address, text};
 use crate::commands::{matches_by, serve_command, value, values};
@@ -258,6 +258,19 @@ pub fn read_secret(alloc: Global, words: &[String]) -> Result<Option<WireText>, 
     };
     match value(&matches, "secret") {
         Some(file) => Ok(Some(text(alloc, file)?)),
+        None => Ok(None),
+    }
+}
+
+/// The address at which the metrics of the node are shown, if the arguments after `serve` name one.
+pub fn read_metrics(alloc: Global, words: &[String]) -> Result<Option<WireText>, AllocError>
+    ensures { IfOk result (λ listen. listen ≡ metrics_found (read_by serve_app (map string_bytes words.now))) }
+{
+    let Some(matches) = matches_by(serve_command(alloc)?, words)? else {
+        return Ok(None);
+    };
+    match value(&matches, "metrics") {
+        Some(listen) => Ok(Some(text(alloc, listen)?)),
         None => Ok(None),
     }
 }

@@ -1,11 +1,18 @@
 //! Lines on the error stream.
 
 use crate::founding::FolderRefusal;
+use crate::line_texts::StreamWriter;
 use crate::secret::SecretFault;
+use arguments::Serve;
+use client_connection::CloseReason;
 use folder_disk::DirDisk;
+use node_core::NodeState;
+use node_meters::{
+    CommitTimes, Figures, Level, Meters, RaftFigures, RefusalCause, micros_of, write_beside,
+};
+use raft_core::RaftRole;
 use serve_node::{Note, Notes};
 use serve_sockets::{HostFault, TcpHost};
-use serve_threads::{LineQueue, LineWriter, NextLine, write_beside};
 use session_gateway::Read;
 use std::alloc::AllocError;
 use std::io::ErrorKind;
@@ -13,59 +20,61 @@ use std::sync::Wait;
 use std::thread::Threads;
 use std::time::{Clock, Duration};
 use std::{io, thread};
+use usage::VERSION;
 
 /// How many times the end looks whether all lines are written, and how long it waits after each look, in milliseconds.
 const MAX_LOOKS: u64 = 100;
 
 const LOOK_MS: u64 = 10;
 
-/// Has lines written on the error stream. Those of a served node wait in a queue for a thread that writes them, so that the node never
-/// waits for who reads the stream. A line that can't be written, or for which memory runs out, is lost.
+/// Has lines written on the error stream, and notes with a node's meters what is reported of it. The lines of a served node wait in a queue for
+/// a thread that writes them, with their time and level, so that the node never waits for who reads the stream. A line that can't be written,
+/// or for which memory runs out, is lost.
 #[derive(Drop)]
 pub struct ErrorStream {
     rt: HostRuntime,
-    lines: LineQueue,
+    meters: Meters,
+    commits: CommitTimes,
+    id: u64,
     has_writer: bool,
 }
 
-/// Writes on the error stream.
-#[derive(Drop)]
-struct StreamWriter {
-    rt: HostRuntime,
-}
-
-impl LineWriter for StreamWriter {
-    fn write(&mut self, next: NextLine) {
-        let rt = self.rt;
-        let _ = match next {
-            NextLine::Text(text) => eprintln!(rt; "{text}"),
-            NextLine::LeftOut(count) => {
-                eprintln!(rt; "{count} lines were left out, since this stream was not read")
-            }
-        };
+/// The cause of a connection that the node closed.
+fn refusal_of(reason: CloseReason) -> RefusalCause {
+    match reason {
+        CloseReason::Version => RefusalCause::Version,
+        CloseReason::TooLong => RefusalCause::TooLong,
+        CloseReason::Limit => RefusalCause::NoSession,
+        CloseReason::Peer => RefusalCause::NotOfPeer,
     }
 }
 
-/// The line of a note.
-fn line_of(rt: &HostRuntime, note: Note<'_>) -> Result<String, AllocError> {
-    let alloc = rt.alloc();
-    match note {
-        Note::Listens { id, address } => format!(in alloc; "listening on {address} as node {id}"),
-        Note::Leads { term } => format!(in alloc; "term {term}: leader"),
-        Note::Follows { term, leader } => { format!(in alloc; "term {term}: follower of {leader}") }
-        Note::FillsUp { last } => {
-            format!(in alloc; "the log has {last} entries of at most 4294900000")
-        }
-        Note::Unread { fault } => format!(in alloc; "status 8: {fault}"),
+/// How Raft is, of the node of this id.
+fn raft_figures(id: u64, state: &NodeState) -> RaftFigures {
+    let leads = state.role.leads();
+    let leader = if leads {
+        id
+    } else {
+        state.leader.unwrap_or(0)
+    };
+    RaftFigures {
+        term: state.term,
+        leads,
+        stands: state.role == RaftRole::Candidate,
+        leader,
+        last: state.last,
+        applied: state.applied,
     }
 }
 
 impl ErrorStream {
-    /// The error stream of the process, with the queue of its lines.
-    pub fn new(rt: HostRuntime, lines: LineQueue) -> ErrorStream {
+    /// The error stream of the process, with the meters of a node and the queue of its lines.
+    pub fn new(rt: HostRuntime, meters: Meters) -> ErrorStream {
         ErrorStream {
             rt,
-            lines,
+            meters,
+            commits: CommitTimes::new(rt.alloc()),
+            id: 0,
             has_writer: false,
         }
     }
@@ -75,8 +84,8 @@ impl ErrorStream {
         &mut self,
         waits: R,
     ) -> io::Result<()> {
-        let started = match self.lines.again() {
-            Ok(lines) => write_beside(waits, lines, StreamWriter { rt: self.rt }),
+        let started = match self.meters.journal().again() {
+            Ok(lines) => write_beside(waits, lines, StreamWriter::new(self.rt)),
             Err(_) => Err(ErrorKind::OutOfMemory.into()),
         };
         match started {
@@ -94,23 +103,71 @@ impl ErrorStream {
     /// Waits until all lines are written, at most for a second.
     pub fn finish<R: Wait + Clock>(&self, waits: &R) {
         for _ in 0..MAX_LOOKS {
-            if !self.has_writer || self.lines.is_written(waits) {
+            if !self.has_writer || self.meters.journal().is_written(waits) {
                 return;
             }
             thread::sleep(waits, Duration::from_millis(LOOK_MS));
         }
     }
 
-    /// Has a line written.
+    /// Has a line written that says why the process ends.
     pub fn say(&self, line: Result<String, AllocError>) {
+        self.put(Level::Error, line);
+    }
+
+    /// Has a line written that an operator should see.
+    pub fn warn(&self, line: Result<String, AllocError>) {
+        self.put(Level::Warning, line);
+    }
+
+    /// Has a line written. Without a served node it has no time and no level.
+    fn put(&self, level: Level, line: Result<String, AllocError>) {
         let Ok(line) = line else {
             return;
         };
         if self.has_writer {
-            self.lines.put(line);
+            self.meters.say(&self.rt, level, line);
         } else {
             let _ = eprintln!(self.rt; "{line}");
         }
+    }
+
+    /// Says which node starts.
+    pub fn tell_start(&mut self, serve: &Serve) {
+        self.id = serve.id;
+        let (id, peers) = (serve.id, serve.peers.as_slice().len());
+        self.put(
+            Level::Info,
+            format!(in self.rt.alloc(); "start: version={VERSION} id={id} peers={peers}"),
+        );
+    }
+
+    /// Says that the metrics are shown at an address.
+    pub fn tell_metrics(&self, listen: &str) {
+        self.put(
+            Level::Info,
+            format!(in self.rt.alloc(); "metrics: address={listen}"),
+        );
+    }
+
+    /// Says that the metrics can't be shown.
+    pub fn tell_no_metrics(&self, error: &io::Error) {
+        self.say(format!(in self.rt.alloc(); "status 6: metrics: {error}"));
+    }
+
+    /// Says that others than this computer's users may reach the metrics.
+    pub fn tell_open_metrics(&self, listen: &str) {
+        self.warn(format!(in self.rt.alloc();
+            "metrics are not at a loopback address: address={listen}"
+        ));
+    }
+
+    /// Says that as many events were taken as were asked for.
+    pub fn tell_spent(&self) {
+        self.put(
+            Level::Info,
+            String::from_str(self.rt.alloc(), "end: status=10"),
+        );
     }
 
     /// Says why a node doesn't get its folder.
@@ -139,14 +196,14 @@ impl ErrorStream {
 
     /// Says that a node at this address has no secret.
     pub fn tell_no_secret(&self, address: &str) {
-        self.say(format!(in self.rt.alloc();
+        self.warn(format!(in self.rt.alloc();
             "no --secret, and {address} is not loopback: who reaches it can speak as a peer"
         ));
     }
 
     /// Says that the process is the superuser's.
     pub fn tell_root(&self) {
-        self.say(String::from_str(
+        self.warn(String::from_str(
             self.rt.alloc(),
             "running as root, which the node does not need",
         ));
@@ -191,8 +248,65 @@ impl ErrorStream {
     }
 }
 
+impl ErrorStream {
+    /// Has the line of a note written, if it has one.
+    fn put_note(&self, note: Note<'_>) {
+        let alloc = self.rt.alloc();
+        match note {
+            Note::Found { state, snapshot } => {
+                let (term, last) = (state.term, state.last);
+                let line = format!(in alloc; "found: term={term} snapshot={snapshot} last={last}");
+                self.put(Level::Info, line);
+            }
+            Note::Listens { id, address } => {
+                let line = format!(in alloc; "listening: address={address} id={id}");
+                self.put(Level::Info, line);
+            }
+            Note::Leads { term } => {
+                self.put(Level::Info, format!(in alloc; "leader: term={term}"));
+            }
+            Note::Follows { term, leader } => {
+                let line = format!(in alloc; "follower: term={term} leader={leader}");
+                self.put(Level::Info, line);
+            }
+            Note::FillsUp { last } => {
+                self.warn(format!(in alloc; "log fills up: last={last} most=4294900000"));
+            }
+            Note::Unread { fault } => self.say(format!(in alloc; "status 8: {fault}")),
+            Note::Closed { .. } | Note::Shut | Note::Lent | Note::Stepped { .. } => {}
+        }
+    }
+
+    /// Notes how the node is after a step.
+    fn note_step(&mut self, state: &NodeState) {
+        let raft = raft_figures(self.id, state);
+        let totals = self.meters.totals();
+        totals.raft.set(raft);
+        self.commits.note(
+            raft,
+            self.meters.step_began(),
+            micros_of(&self.rt),
+            &totals.commit_times,
+        );
+    }
+}
+
 impl Notes for ErrorStream {
     fn note(&mut self, note: Note<'_>) {
-        self.say(line_of(&self.rt, note));
+        self.put_note(note);
+        match note {
+            Note::Closed { reason } => self.meters.refuse(&self.rt, refusal_of(reason), 1),
+            Note::Shut => self.meters.refuse(&self.rt, RefusalCause::SaidTooMuch, 1),
+            Note::Lent => self.meters.totals().lent_queries.add_one(),
+            Note::Leads { .. } | Note::Follows { .. } => {
+                self.meters.totals().leader_changes.add_one();
+            }
+            Note::Stepped { state } => self.note_step(&state),
+            _ => {}
+        }
+    }
+
+    fn publish(&mut self, figures: Figures) {
+        self.meters.publish(&self.rt, figures);
     }
 }

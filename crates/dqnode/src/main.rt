@@ -7,7 +7,9 @@ mod checks;
 mod error_stream;
 mod founding;
 mod generating;
+mod line_texts;
 mod network;
+mod observing;
 mod operations;
 mod operator_pages;
 mod pages;
@@ -19,16 +21,19 @@ mod secret;
 mod serving;
 mod statements;
 mod status;
+mod status_command;
 mod tails;
 mod words;
 
 use arguments::{Invocation, Serve, read_secret, read_words};
 use disk_model::DiskFault;
+use disk_timing::TimedDisk;
 use dq_base::{ReadSource, WriteSink};
 use error_stream::ErrorStream;
 use folder_disk::DirDisk;
 use founding::{claim, refusal_of};
 pub use network::Network;
+use observing::begin_watch;
 pub use operations::operate;
 use operator_pages::run_command;
 use pages::{print_request, report_refusal, request_of};
@@ -39,6 +44,7 @@ use secret::{SecretFault, guard, is_loopback, secret_in};
 use serve_sockets::{TcpDialer, TcpHost};
 use session_gateway::Read;
 pub use status::Status;
+use status_command::run_status;
 use std::alloc::AllocError;
 use std::io;
 use std::process::ExitCode;
@@ -145,6 +151,26 @@ fn prepare<R: Wait + Copy + Drop>(
     Ok(true)
 }
 
+/// Has the node shown to whoever runs it, and the host and the disk be its own. Answers the status with which the start ends, if it does.
+fn show_and_prepare<R: Threads + Wait + Clock + Copy + Drop + Send + 'static>(
+    waits: R,
+    rt: &HostRuntime,
+    words: &[String],
+    serve: &Serve,
+    disk: &mut DirDisk<HostRuntime>,
+    host: &mut TcpHost<R, Read>,
+    errors: &ErrorStream,
+) -> Result<Option<Status>, AllocError> {
+    let meters = host.meters()?;
+    if !begin_watch(waits, rt, words, serve, &meters, errors)? {
+        return Ok(Some(Status::HostFault));
+    }
+    if !prepare(rt, words, serve, disk, host, errors)? {
+        return Ok(Some(Status::Words));
+    }
+    Ok(None)
+}
+
 /// The status with which a start ends over the folder that it has taken, if its last segment is damaged.
 fn refused_start(
     rt: &HostRuntime,
@@ -170,9 +196,10 @@ fn begin_serving<R: Threads + Wait + Clock + Copy + Drop + Send + 'static>(
     if errors.begin_queue(waits).is_err() {
         return Some(Status::HostFault);
     }
-    let ended = match prepare(rt, words, serve, disk, host, errors) {
-        Ok(true) => refused_start(rt, disk, errors)?,
-        Ok(false) => Status::Words,
+    errors.tell_start(serve);
+    let ended = match show_and_prepare(waits, rt, words, serve, disk, host, errors) {
+        Ok(None) => refused_start(rt, disk, errors)?,
+        Ok(Some(status)) => status,
         Err(_) => {
             errors.tell_memory();
             Status::NoMemory
@@ -206,6 +233,7 @@ fn tell_end<R: Wait + Copy + Drop>(
         5 if !disk.is_refused() => errors.tell_disk(disk),
         6 => errors.tell_host(host),
         7 => errors.tell_memory(),
+        10 => errors.tell_spent(),
         _ => {}
     }
 }
@@ -220,16 +248,19 @@ fn main(rt: HostRuntime) -> ExitCode {
     if let Some(request) = request_of(&rt, words) {
         return ExitCode::from(print_request(&rt, request).code());
     }
+    if let Some(ended) = run_status(&rt, words) {
+        return ended;
+    }
     let Ok(mut disk) = DirDisk::new(rt) else {
         return no_memory;
     };
     let Ok(mut host) = TcpHost::<HostRuntime, Read>::new(rt, rt, rt.alloc()) else {
         return no_memory;
     };
-    let Ok(lines) = host.lines() else {
+    let (Ok(meters), Ok(syncs)) = (host.meters(), host.meters()) else {
         return no_memory;
     };
-    let mut errors = ErrorStream::new(rt, lines);
+    let mut errors = ErrorStream::new(rt, meters);
     match run_command(&rt, words, &mut disk, &errors) {
         Ok(Some(status)) => return ExitCode::from(status.code()),
         Ok(None) => {}
@@ -251,6 +282,7 @@ fn main(rt: HostRuntime) -> ExitCode {
     let mut input = ReadSource::new(rt.stdin());
     let mut output = WriteSink::new(io::writer(&rt));
     let mut journal = ClusterJournal::new(rt.alloc());
+    let mut disk = TimedDisk::new(rt, disk, syncs);
     let mut network = Network {
         dialer: TcpDialer::new(rt),
         host,
@@ -266,7 +298,7 @@ fn main(rt: HostRuntime) -> ExitCode {
         &mut network,
     );
     if served.is_some() {
-        tell_end(&network.notes, code, &disk, &network.host);
+        tell_end(&network.notes, code, disk.inner(), &network.host);
     }
     if code == Status::Internal.code() {
         network.notes.tell_bug();

@@ -23,7 +23,7 @@ pub enum FolderUse {
 fn tell_torn(rt: &HostRuntime, purpose: FolderUse, errors: &ErrorStream, last: LastSegment) {
     let (alloc, LastSegment { number, size, good }) = (rt.alloc(), last);
     let torn = size.saturating_sub(good);
-    errors.say(match purpose {
+    errors.warn(match purpose {
         FolderUse::Start => format!(in alloc;
             "truncated the torn end of segment-{number:016}: {torn} bytes from byte {good} on"
         ),

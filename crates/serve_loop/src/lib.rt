@@ -3,6 +3,7 @@
 #![tactic(auto)]
 
 mod bridge;
+mod figures;
 mod newest;
 mod roster;
 mod running;

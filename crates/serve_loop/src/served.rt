@@ -5,6 +5,7 @@ ghost use Rattle.serve_traits.specs.Stepping.{StepCause};
 ghost use Rattle.serve_loop.specs.Serving.{CanStep, StaysLent, StepsByRules, StopsByRules};
 
 use crate::bridge::{event_of, fault_of};
+use crate::figures::{figures_if, is_published};
 use crate::newest::{Telling, tell_at};
 use crate::roster::{Roster, caller_of};
 use crate::step_report::StepReport;
@@ -76,7 +77,9 @@ impl<'n, 'd, 'e, D: Disk, E: Engine> Core for ServedNode<'n, 'd, 'e, D, E> {
         ensures cause { StepCause (D.faults self.old.disk.now) (D.faults self.new.disk.now) result }
     {
         let piece = piece_of(&event);
-        let caller = caller_of(self.roster.alloc(), &event);
+        let alloc = self.roster.alloc();
+        let caller = caller_of(alloc, &event);
+        let publishes = is_published(&event);
         match self.node.step(event_of(event), self.disk, self.engine) {
             Ok(outs) => Ok(StepReport {
                 outs,
@@ -85,6 +88,7 @@ impl<'n, 'd, 'e, D: Disk, E: Engine> Core for ServedNode<'n, 'd, 'e, D, E> {
                 shut: self.watch.shuts(&*self.node, piece),
                 servers: self.roster.news(&*self.node),
                 caller,
+                figures: figures_if(publishes, alloc, &*self.node),
             }),
             Err(fault) => Err(fault_of(fault)),
         }

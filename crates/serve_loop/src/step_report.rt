@@ -1,5 +1,6 @@
 use crate::roster::Caller;
 use node_core::{NodeState, StepOutputs};
+use node_meters::Figures;
 use raft_messages::Servers;
 use serve_traits::ServerSet;
 
@@ -19,4 +20,6 @@ pub struct StepReport {
     pub servers: Option<Servers>,
     /// The node that opened a connection by the event, if one did.
     pub caller: Option<Caller>,
+    /// What is published of the node, with each heartbeat.
+    pub figures: Option<Figures>,
 }

@@ -71,14 +71,16 @@ impl<
         for (conn, bytes) in replies {
             self.queues.reply(conn, bytes);
         }
-        for (conn, _reason) in closed {
+        for (conn, reason) in closed {
             self.queues.close(conn);
+            self.notes.note(Note::Closed { reason });
         }
         for message in messages {
             self.queues.send(message);
         }
         for (conn, job) in reads {
             self.queues.lend(conn, job);
+            self.notes.note(Note::Lent);
         }
     }
 
@@ -137,6 +139,7 @@ impl<
             shut,
             servers,
             caller,
+            figures,
         } = said;
         if let Some(servers) = servers {
             self.queues.follow(servers.as_slice());
@@ -148,9 +151,14 @@ impl<
         self.hand_on(outs);
         if let Some(conn) = shut {
             self.queues.cut(conn);
+            self.notes.note(Note::Shut);
         }
         self.note_contact(&state, voters);
         self.note_leader(&state);
         self.note_end(state.last);
+        self.notes.note(Note::Stepped { state });
+        if let Some(figures) = figures {
+            self.notes.publish(figures);
+        }
     }
 }

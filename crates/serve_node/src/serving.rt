@@ -153,6 +153,14 @@ fn note_files<W: Notes>(fault: StartFault, notes: &mut W) {
     }
 }
 
+/// Notes what the start has found.
+fn note_found<W: Notes>(node: &Node, notes: &mut W) {
+    notes.note(Note::Found {
+        state: node.state(),
+        snapshot: node.snapshot_index(),
+    });
+}
+
 /// Starts the node that the arguments name, with these servers, and serves it.
 fn serve_with<H: Host<Read>, D: Disk, E: Engine + Send + Drop + 'static, W: Notes>(
     alloc: Global,
@@ -179,7 +187,10 @@ fn serve_with<H: Host<Read>, D: Disk, E: Engine + Send + Drop + 'static, W: Note
     ensures count { D.faults disk.old ≤ D.faults disk.new }
 {
     match start(alloc, words, servers, disk) {
-        Ok(node) => go_on(alloc, words, node, host, disk, engine, notes),
+        Ok(node) => {
+            note_found(&node, notes);
+            go_on(alloc, words, node, host, disk, engine, notes)
+        }
         Err(fault) => {
             note_files(fault, notes);
             end_of_start(fault)

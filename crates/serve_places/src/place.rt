@@ -143,7 +143,7 @@ impl<S: ReadyStream> Place<S> {
         }
         let silence = now.saturating_sub(self.heard_at);
         if !is_connection {
-            return !self.has_front() && silence > MAX_FRONT_MS;
+            return (self.is_closing || !self.has_front()) && silence > MAX_FRONT_MS;
         }
         if !self.outflow.is_empty() {
             return now.saturating_sub(self.moved_at) > MAX_STUCK_MS;
@@ -189,6 +189,11 @@ impl<S: ReadyStream> Place<S> {
     {
         let mut buffer = [0u8; MAX_FRONT_READ_BYTES];
         self.fill(alloc, &mut buffer);
+    }
+
+    /// Whether its first bytes are these.
+    pub(crate) fn begins_with(&self, front: &[u8]) -> bool {
+        self.inflow.rest().starts_with(front)
     }
 
     /// Who speaks, as far as its first bytes say.

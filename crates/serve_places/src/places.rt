@@ -17,6 +17,9 @@ use std::alloc::{AllocError, Global};
 use std::collections::VecDeque;
 use wire_words::WireBytes;
 
+/// The first bytes of a socket that asks for the status of the node.
+const STATUS_FRONT: &[u8] = b"GET /status HTTP";
+
 /// What the system says of a socket.
 #[derive(Clone, Copy, Debug, PartialEq, Eq)]
 pub struct Readiness {
@@ -36,6 +39,9 @@ pub struct Readiness {
 /// waits to be written. What waits counts for its bytes and 256
 /// for each reply: 32 MiB for one connection at most, and 96 MiB for all, of which the first 1 MiB of each does not count. A connection
 /// without room is closed.
+///
+/// A socket that begins with `GET /status HTTP` is no connection: it asks for the status of the node, which `answer` writes to it, and then it
+/// is closed.
 #[derive(Drop)]
 pub struct Places<S: ReadyStream> {
     alloc: Global,
@@ -47,6 +53,8 @@ pub struct Places<S: ReadyStream> {
     ready: VecDeque<usize>,
     last: usize,
     sign: Option<PeerSign>,
+    /// The socket that asked for the status in the last turn.
+    asker: Option<usize>,
     /// For how long a client with a transaction may say nothing, in milliseconds; 0 for any time.
     idle_ms: u64,
     idle_count: u64,
@@ -74,6 +82,7 @@ impl<S: ReadyStream> Places<S> {
             ready: VecDeque::with_capacity(alloc, MAX_SOCKETS)?,
             last: 0,
             sign: None,
+            asker: None,
             idle_ms: 0,
             idle_count: 0,
             are_clients_held: false,
@@ -89,7 +98,7 @@ impl<S: ReadyStream> Places<S> {
         self.gate = Gate::guarded(greetings);
     }
 
-    /// How many connections were not taken since this was asked last.
+    /// How many connections were not taken, or closed since their time was over, since this was asked last.
     pub fn take_refused(&mut self) -> Refused
         ensures numbers { self.new.numbers ≡ self.old.numbers }
     {
@@ -242,10 +251,63 @@ impl<S: ReadyStream> Places<S> {
         sum
     }
 
-    /// Who speaks on a socket. If it is refused as a connection, it is closed. A peer's older connection is closed.
+    /// Whether a socket asks for the status of the node.
+    fn asks_status(&self, at: usize) -> bool {
+        match self.places.get(at) {
+            Some(place) => place.begins_with(STATUS_FRONT),
+            None => false,
+        }
+    }
+
+    /// Notes that a socket asks for the status of the node, unless it was answered before.
+    fn note_asker(&mut self, at: usize)
+        ensures numbers { self.new.numbers ≡ self.old.numbers }
+    {
+        if let Some(place) = self.places.get(at) {
+            if place.takes_replies() {
+                self.asker = Some(at);
+            }
+        }
+    }
+
+    /// The socket that asks for the status of the node, if one has since this was asked last. It is to be answered by `answer`.
+    pub fn take_asker(&mut self) -> Option<usize>
+        ensures numbers { self.new.numbers ≡ self.old.numbers }
+    {
+        let asker = self.asker;
+        self.asker = None;
+        asker
+    }
+
+    /// Answers a socket that asked for the status of the node, and closes it once the answer is written. Without an answer it is closed now.
+    pub fn answer(&mut self, at: usize, answer: Option<WireBytes>)
+        ensures numbers { self.new.numbers ≡ self.old.numbers }
+    {
+        let (alloc, now) = (self.alloc, self.now);
+        let Some(place) = self.places.get_mut(at) else {
+            return;
+        };
+        let is_sent = match answer {
+            Some(answer) => place.send(answer, now).is_ok(),
+            None => false,
+        };
+        if is_sent {
+            place.close(alloc);
+        } else {
+            place.end(alloc);
+        }
+        self.queue(at);
+    }
+
+    /// Who speaks on a socket. If it is refused as a connection, it is closed. A peer's older connection is closed. One that asks for the
+    /// status of the node is noted.
     fn welcome(&mut self, at: usize) -> Option<Speaker>
         ensures numbers { self.new.numbers ≡ self.old.numbers }
     {
+        if self.asks_status(at) {
+            self.note_asker(at);
+            return None;
+        }
         let speaker = self.places.get(at)?.speaker_by(&self.gate);
         match speaker {
             Speaker::Unknown => None,
@@ -520,6 +582,7 @@ impl<S: ReadyStream> Places<S> {
             self.idle_count = self.idle_count.saturating_add(1);
             self.end(at);
         } else if self.is_late(at) {
+            self.refused.count_late(self.numbers.at(at) != 0);
             self.end(at);
         }
     }

@@ -7,7 +7,6 @@ mod mem_dialer;
 mod mem_host;
 mod poller;
 mod ready_socket;
-mod refusal_lines;
 mod stream;
 mod tcp_dialer;
 mod tcp_host;

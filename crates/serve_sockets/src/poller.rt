@@ -34,6 +34,7 @@ pub(crate) struct Poller {
     waker: Arc<Waker, Global>,
     is_woken: bool,
     may_accept: bool,
+    accepted: u64,
 }
 
 /// What a report says of a socket.
@@ -68,7 +69,15 @@ impl Poller {
             waker,
             is_woken: true,
             may_accept: true,
+            accepted: 0,
         })
+    }
+
+    /// How many connections were accepted since this was asked last.
+    pub(crate) fn take_accepted(&mut self) -> u64 {
+        let accepted = self.accepted;
+        self.accepted = 0;
+        accepted
     }
 
     /// What ends the wait from another thread.
@@ -141,6 +150,7 @@ impl Poller {
             .is_ok()
         {
             places.accept(at, ReadySocket::new(stream));
+            self.accepted = self.accepted.saturating_add(1);
         }
     }
 }

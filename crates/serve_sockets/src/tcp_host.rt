@@ -5,14 +5,12 @@ ghost use Rattle.serve_threads.specs.Counts.{IsCounted};
 
 use crate::poller::Poller;
 use crate::ready_socket::ReadySocket;
-use crate::refusal_lines::RefusalLines;
 use crate::tcp_peer::TcpPeerDialer;
 use crate::tcp_replies::TcpReplies;
 use dq_base::Failed;
-use serve_places::{PeerSign, Places};
-use serve_threads::{
-    ChannelInbox, ChannelPost, Host, HostCounts, LeaderContact, LineQueue, event_channel,
-};
+use node_meters::{EventKind, Meters, RefusalCause};
+use serve_places::{PeerSign, Places, Refused};
+use serve_threads::{ChannelInbox, ChannelPost, Host, HostCounts, LeaderContact, event_channel};
 use serve_traits::{Event, Inbox};
 use std::alloc::{AllocError, Global};
 use std::io;
@@ -30,6 +28,20 @@ fn moment_of(rt: &HostRuntime) -> u64 {
             .saturating_mul(1_000)
             .saturating_add(time.subsec_millis() as u64),
         Err(_) => 0,
+    }
+}
+
+/// The kind of an event.
+fn kind_of<T: Drop>(event: &Event<T>) -> EventKind {
+    match event {
+        Event::Timeout => EventKind::Timeout,
+        Event::Beat => EventKind::Beat,
+        Event::Yield => EventKind::Yield,
+        Event::Connect(_) => EventKind::Connect,
+        Event::Bytes(_, _) => EventKind::Bytes,
+        Event::Hangup(_) => EventKind::Hangup,
+        Event::Peer(_) => EventKind::Peer,
+        Event::ReadDone(_, _) => EventKind::ReadDone,
     }
 }
 
@@ -68,12 +80,11 @@ pub struct TcpHost<R: Wait + Copy + Drop, T: Drop> {
     inbox: ChannelInbox<R, T>,
     post: ChannelPost<R, T>,
     contact: LeaderContact,
-    lines: LineQueue,
+    meters: Meters,
     places: Arc<Mutex<Places<ReadySocket>>, Global>,
     bound: Option<io::Result<TcpListener>>,
     poller: Option<Poller>,
     greetings: Vec<(u64, WireBytes)>,
-    refusals: RefusalLines,
     turns: usize,
     taken: u64,
     done: HostCounts,
@@ -82,23 +93,20 @@ pub struct TcpHost<R: Wait + Copy + Drop, T: Drop> {
 }
 
 impl<R: Wait + Copy + Drop, T: Drop> TcpHost<R, T> {
-    /// A host that did nothing yet. The runtime is passed twice, once for threads and once for sockets.
+    /// A host that did nothing yet, with its own meters. The runtime is passed twice, once for threads and once for sockets.
     pub fn new(rt: R, sockets: HostRuntime, alloc: Global) -> Result<TcpHost<R, T>, AllocError> {
         let (inbox, post) = event_channel(rt, alloc)?;
-        let lines = LineQueue::new(alloc)?;
-        let refusals = RefusalLines::new(sockets, lines.again()?);
         Ok(TcpHost {
             rt,
             sockets,
             inbox,
             post,
             contact: LeaderContact::new(alloc)?,
-            lines,
+            meters: Meters::new(alloc)?,
             places: Arc::new(alloc, Mutex::new(Places::new(alloc)?))?,
             bound: None,
             poller: None,
             greetings: Vec::new(alloc),
-            refusals,
             turns: 0,
             taken: 0,
             done: HostCounts::new(),
@@ -107,9 +115,9 @@ impl<R: Wait + Copy + Drop, T: Drop> TcpHost<R, T> {
         })
     }
 
-    /// An end of the lines that the host has for the error stream.
-    pub fn lines(&self) -> Result<LineQueue, AllocError> {
-        self.lines.again()
+    /// An end of the meters with which the host notes what happens.
+    pub fn meters(&self) -> Result<Meters, AllocError> {
+        self.meters.again()
     }
 
     /// The bytes with which a connection to the peer of each id begins, in place of the version and a CONNECT with the node's address; and
@@ -170,16 +178,54 @@ impl<R: Wait + Copy + Drop, T: Drop> TcpHost<R, T> {
             poller.settle();
         }
         if matches!(event, Some(Event::Beat)) {
-            let now = moment_of(&self.sockets);
-            let mut places = self.places.lock(&self.rt);
-            places.tick(now);
-            self.refusals.say_idle(places.take_idle_count());
-            poller.accept(&mut places);
-            if self.refusals.may_say(now) {
-                self.refusals.say(places.take_refused(), now);
-            }
+            self.beat();
         }
         event
+    }
+
+    /// With each heartbeat the sockets whose time is over are closed, what has come is accepted, and all of it is counted.
+    fn beat(&mut self)
+        ensures taken { self.new.taken ≡ self.old.taken }
+        ensures faults { self.new.faults ≡ self.old.faults }
+    {
+        let Some(poller) = &mut self.poller else {
+            return;
+        };
+        let now = moment_of(&self.sockets);
+        let mut places = self.places.lock(&self.rt);
+        places.tick(now);
+        poller.accept(&mut places);
+        let (refused, idle) = (places.take_refused(), places.take_idle_count());
+        let totals = self.meters.totals();
+        totals.accepted.add(poller.take_accepted());
+        totals.clients.set(places.client_count() as u64);
+        totals.connections.set(places.connection_count() as u64);
+        drop(places);
+        if self.contact.is_settled() {
+            totals.settled_at.set(now);
+        }
+        self.note_refused(refused, idle);
+    }
+
+    /// Counts the connections that were refused, and says so.
+    fn note_refused(&self, refused: Refused, idle_transactions: u64) {
+        let causes = [
+            (RefusalCause::TooManyClients, refused.clients),
+            (RefusalCause::Stranger, refused.strangers),
+            (RefusalCause::Silent, refused.silent),
+            (RefusalCause::Idle, refused.idle),
+            (RefusalCause::IdleTransaction, idle_transactions),
+        ];
+        for (cause, count) in causes {
+            self.meters.refuse(&self.sockets, cause, count);
+        }
+    }
+
+    /// The answer to a socket that asks for the status of the node. None if there is none yet, or memory runs out.
+    fn status_answer(&self) -> Option<WireBytes> {
+        let status = self.meters.status()?;
+        let bytes = Vec::from_slice(self.sockets.alloc(), status.as_bytes()).ok()?;
+        Some(WireBytes::new(bytes))
     }
 
     /// The event of the next socket that has a turn, if there is one. The system is asked first once each socket had its turn.
@@ -203,6 +249,9 @@ impl<R: Wait + Copy + Drop, T: Drop> TcpHost<R, T> {
         self.turns -= 1;
         let event = places.next();
         let sign = places.peer_sign();
+        if let Some(asker) = places.take_asker() {
+            places.answer(asker, self.status_answer());
+        }
         drop(places);
         if self.is_lost(sign) {
             return None;
@@ -222,6 +271,9 @@ impl<R: Wait + Copy + Drop, T: Drop> TcpHost<R, T> {
         match sign {
             Some(PeerSign::Ack(from)) => {
                 self.contact.note_ack(from);
+                self.meters
+                    .totals()
+                    .note_ack(from, moment_of(&self.sockets));
                 false
             }
             Some(PeerSign::AskVote) => self.contact.is_settled(),
@@ -256,7 +308,9 @@ impl<R: Wait + Copy + Drop, T: Drop> Inbox<T> for TcpHost<R, T> {
         let Some(taken) = self.taken.checked_add(1) else {
             return Err(self.fail("take", None));
         };
+        self.meters.end_step(&self.sockets);
         let event = self.wait();
+        self.meters.begin_step(&self.sockets, kind_of(&event));
         self.taken = taken;
         Ok(event)
     }
@@ -285,7 +339,9 @@ impl<R: Threads + Wait + Clock + Copy + Drop + Send + 'static, T: Drop> Host<T> 
     fn replies(&self) -> Result<TcpReplies<R>, AllocError> {
         Ok(TcpReplies {
             rt: self.rt,
+            sockets: self.sockets,
             places: Arc::try_clone(&self.places)?,
+            meters: self.meters.again()?,
         })
     }
 
@@ -318,10 +374,10 @@ impl<R: Threads + Wait + Clock + Copy + Drop + Send + 'static, T: Drop> Host<T> 
     }
 
     fn dialer(&mut self) -> Result<TcpPeerDialer, Failed> {
-        let Ok(lines) = self.lines.again() else {
+        let Ok(meters) = self.meters.again() else {
             return Err(self.fail("start a thread", None));
         };
-        Ok(TcpPeerDialer::new(self.sockets, lines))
+        Ok(TcpPeerDialer::new(self.sockets, meters))
     }
 
     fn moment(&mut self) -> u64 {

@@ -6,7 +6,7 @@ ghost use Rattle.serve_threads.specs.Counts.{IsCounted};
 use crate::stream;
 use crate::stream::{is_at_end, write_on};
 use dq_base::Failed;
-use serve_threads::LineQueue;
+use node_meters::{Level, Meters};
 use serve_traits::{PeerConnection, PeerDialer};
 use std::alloc::AllocError;
 use std::io;
@@ -31,28 +31,35 @@ pub struct TcpPeerConnection {
 #[derive(Drop)]
 struct Announced {
     rt: HostRuntime,
-    lines: LineQueue,
+    meters: Meters,
     address: String,
 }
 
 impl Announced {
     /// Says that a connection to this address is up.
-    fn up(rt: HostRuntime, lines: &LineQueue, address: &str) -> Result<Announced, AllocError> {
+    fn up(rt: HostRuntime, meters: &Meters, address: &str) -> Result<Announced, AllocError> {
         let announced = Announced {
             rt,
-            lines: lines.again()?,
+            meters: meters.again()?,
             address: String::from_str(rt.alloc(), address)?,
         };
-        announced.say("up");
+        announced.say(Level::Info, "up");
         Ok(announced)
     }
 
     /// Says that the connection is up or down. If memory runs out the line is left out.
-    fn say(&self, state: &str) {
+    fn say(&self, level: Level, state: &str) {
         let address = self.address.as_str();
-        if let Ok(line) = format!(in self.rt.alloc(); "link to {address} {state}") {
-            self.lines.put(line);
+        if let Ok(line) = format!(in self.rt.alloc(); "peer connection {state}: address={address}")
+        {
+            self.meters.say(&self.rt, level, line);
         }
+    }
+
+    /// Says that the connection is down, and notes it.
+    fn end(&self) {
+        self.meters.note_link_end(&self.rt, self.address.as_str());
+        self.say(Level::Warning, "down");
     }
 }
 
@@ -68,14 +75,14 @@ impl TcpPeerConnection {
     /// A connection that was dialed, which the error stream says is up. If memory runs out, it says nothing of it.
     fn new(
         rt: HostRuntime,
-        lines: &LineQueue,
+        meters: &Meters,
         address: &str,
         stream: TcpStream,
     ) -> TcpPeerConnection {
         TcpPeerConnection {
             stream,
             faults: 0,
-            announced: Announced::up(rt, lines, address).ok(),
+            announced: Announced::up(rt, meters, address).ok(),
         }
     }
 
@@ -84,7 +91,7 @@ impl TcpPeerConnection {
         ensures { self.new.faults ≡ self.old.faults }
     {
         if let Some(announced) = self.announced.take() {
-            announced.say("down");
+            announced.end();
         }
     }
 
@@ -125,16 +132,16 @@ impl PeerConnection for TcpPeerConnection {
 #[derive(Drop)]
 pub struct TcpPeerDialer {
     rt: HostRuntime,
-    lines: LineQueue,
+    meters: Meters,
     faults: u64,
 }
 
 impl TcpPeerDialer {
-    /// A dialer that did nothing yet. The lines of its connections go to this queue.
-    pub(crate) fn new(rt: HostRuntime, lines: LineQueue) -> TcpPeerDialer {
+    /// A dialer that did nothing yet, whose connections are noted with these meters.
+    pub(crate) fn new(rt: HostRuntime, meters: Meters) -> TcpPeerDialer {
         TcpPeerDialer {
             rt,
-            lines,
+            meters,
             faults: 0,
         }
     }
@@ -154,12 +161,14 @@ impl PeerDialer for TcpPeerDialer {
     ghost faults = { λ dialer. dialer.faults };
 
     fn again(&self) -> Result<TcpPeerDialer, AllocError> {
-        Ok(TcpPeerDialer::new(self.rt, self.lines.again()?))
+        Ok(TcpPeerDialer::new(self.rt, self.meters.again()?))
     }
 
     fn dial(&mut self, address: &str) -> Result<TcpPeerConnection, Failed> {
-        match open(&self.rt, address) {
-            Ok(stream) => Ok(TcpPeerConnection::new(self.rt, &self.lines, address, stream)),
+        let opened = open(&self.rt, address);
+        self.meters.note_dial(&self.rt, address, opened.is_ok());
+        match opened {
+            Ok(stream) => Ok(TcpPeerConnection::new(self.rt, &self.meters, address, stream)),
             Err(_) => Err(self.fail()),
         }
     }

@@ -7,7 +7,6 @@ use Rattle.serve_threads.specs.contracts.channel.ChannelPost as post
 use Rattle.serve_threads.specs.contracts.channel.QueuedEvent as sent
 use Rattle.serve_threads.specs.contracts.credit.Credit as credit
 use Rattle.serve_threads.specs.contracts.credit.Debit as debit
-use Rattle.serve_threads.specs.contracts.lines.LineQueue as lines
 use Rattle.serve_threads.specs.contracts.peer.Peer as peer
 use Rattle.serve_threads.specs.contracts.ticker.Ticker as ticker
 use Rattle.serve_threads.specs.contracts.reader.ReaderWorker as reader
@@ -26,10 +25,6 @@ credit_send = search (sendable, crosses) depth 60 fits 5000
 
 debit_send : IsSend debit.the_row
 debit_send = search (sendable, crosses) depth 60 fits 5000
-
--- the lines that wait
-pub lines_send : IsSend lines.the_row
-lines_send = search (sendable, crosses) depth 60 fits 5000
 
 sent_send : (T : RattleType) → IsSend T → IsSend (sent.the_row T)
 sent_send T t = search (sendable, crosses, debit_send) depth 60 fits 5000

@@ -1,3 +1,4 @@
+use node_meters::Figures;
 use serve_node::{Note, Notes};
 
 /// Takes notes and forgets them.
@@ -6,4 +7,6 @@ pub(crate) struct Silent;
 
 impl Notes for Silent {
     fn note(&mut self, _note: Note<'_>) {}
+
+    fn publish(&mut self, _figures: Figures) {}
 }

@@ -35,6 +35,8 @@ Options:
   --events K     of serve: end after K events
   --new          of serve: make a new node
   --secret FILE  of serve: take only peers that have the secret in FILE
+  --metrics LISTEN
+                 of serve: show the node by HTTP at this address
   --all-log      of dump: apply the whole log
   --json         of cluster: print JSON
   --from N       of transfer: only if server N leads
@@ -65,7 +67,8 @@ Status:
 
 pub(crate) const SERVE_USAGE: &str = "\
 Usage: dqnode serve [--new] [--join | --alone] [--secret FILE] [--engine E]
-                    [--events K] [--idle-transaction S] ID LISTEN [N=ADDRESS]..
+                    [--events K] [--idle-transaction S] [--metrics LISTEN]
+                    ID LISTEN [N=ADDRESS]..
 ";
 
 pub(crate) const SERVE_DETAILS: &str = "\
@@ -93,6 +96,9 @@ Options:
   --idle-transaction S
               close the connection of a client that has a transaction and says
               nothing for S seconds, 0 to 86400; 60 is the default, 0 is never
+  --metrics LISTEN
+              show the node by HTTP at this address: / is a page, /metrics is
+              for Prometheus, /health and /status are JSON
   -h, --help  print this page
 
 Status:
