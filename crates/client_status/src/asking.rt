@@ -1,11 +1,10 @@
 //! One request for the status of a node.
 
 use std::alloc::AllocError;
-use std::io;
 use std::io::{ErrorKind, Read, Write};
 use std::net::{TcpStream, ToSocketAddrs};
-use std::str;
 use std::time::{Clock, Duration};
+use std::{io, str};
 
 /// How long a node has to answer, in milliseconds, with the dial.
 const MAX_MS: u64 = 3_000;

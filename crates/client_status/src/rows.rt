@@ -11,19 +11,58 @@ const SHOWN_STEP_MS: u64 = 1_000;
 
 /// The heads of the columns.
 pub(crate) const HEADS: [Head; 13] = [
-    Head::right("ID"),
-    Head::left("ADDRESS"),
-    Head::left("ROLE"),
-    Head::left("STATE"),
-    Head::right("TERM"),
-    Head::right("LEADER"),
-    Head::right("LAST"),
-    Head::right("APPLIED"),
-    Head::right("LAG"),
-    Head::right("CLIENTS"),
-    Head::right("SESSIONS"),
-    Head::right("MEMORY"),
-    Head::right("UP"),
+    Head {
+        name: "ID",
+        is_right: true,
+    },
+    Head {
+        name: "ADDRESS",
+        is_right: false,
+    },
+    Head {
+        name: "ROLE",
+        is_right: false,
+    },
+    Head {
+        name: "STATE",
+        is_right: false,
+    },
+    Head {
+        name: "TERM",
+        is_right: true,
+    },
+    Head {
+        name: "LEADER",
+        is_right: true,
+    },
+    Head {
+        name: "LAST",
+        is_right: true,
+    },
+    Head {
+        name: "APPLIED",
+        is_right: true,
+    },
+    Head {
+        name: "LAG",
+        is_right: true,
+    },
+    Head {
+        name: "CLIENTS",
+        is_right: true,
+    },
+    Head {
+        name: "SESSIONS",
+        is_right: true,
+    },
+    Head {
+        name: "MEMORY",
+        is_right: true,
+    },
+    Head {
+        name: "UP",
+        is_right: true,
+    },
 ];
 
 /// The server of an id among those that a status has.
@@ -149,7 +188,10 @@ fn push_refused(out: &mut String, status: &Value) -> Result<(), AllocError> {
         let count = count.as_u64().unwrap_or(0);
         if count > 0 {
             let cause = cause.as_str();
-            write!(out, "node {id}: refused or closed {count} connections: {cause}\n")?;
+            write!(
+                out,
+                "node {id}: refused or closed {count} connections: {cause}\n"
+            )?;
         }
     }
     Ok(())

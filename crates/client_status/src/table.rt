@@ -5,26 +5,8 @@ use std::alloc::{AllocError, Global};
 /// The head of a column, and whether its cells are at the right.
 #[derive(Clone, Copy)]
 pub(crate) struct Head {
-    name: &'static str,
-    is_right: bool,
-}
-
-impl Head {
-    /// A column whose cells are at the left.
-    pub(crate) const fn left(name: &'static str) -> Head {
-        Head {
-            name,
-            is_right: false,
-        }
-    }
-
-    /// A column whose cells are at the right.
-    pub(crate) const fn right(name: &'static str) -> Head {
-        Head {
-            name,
-            is_right: true,
-        }
-    }
+    pub(crate) name: &'static str,
+    pub(crate) is_right: bool,
 }
 
 /// The heads, the widths of the columns in bytes, and the rows.
@@ -108,7 +90,13 @@ impl<'h> Table<'h> {
     pub(crate) fn text(&self, alloc: Global) -> Result<String, AllocError> {
         let mut text = String::new(alloc);
         for (place, head) in self.heads.iter().enumerate() {
-            push_cell(&mut text, head.name, self.width(place), head.is_right, place == 0)?;
+            push_cell(
+                &mut text,
+                head.name,
+                self.width(place),
+                head.is_right,
+                place == 0,
+            )?;
         }
         text.push('\n')?;
         for row in &self.rows {

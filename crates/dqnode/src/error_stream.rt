@@ -52,11 +52,7 @@ fn refusal_of(reason: CloseReason) -> RefusalCause {
 /// How Raft is, of the node of this id.
 fn raft_figures(id: u64, state: &NodeState) -> RaftFigures {
     let leads = state.role.leads();
-    let leader = if leads {
-        id
-    } else {
-        state.leader.unwrap_or(0)
-    };
+    let leader = if leads { id } else { state.leader.unwrap_or(0) };
     RaftFigures {
         term: state.term,
         leads,

@@ -66,7 +66,10 @@ impl StreamWriter {
             priority: 4,
         };
         self.push_front(&mut text, front)?;
-        write!(&mut text, "lines were left out, since this stream was not read: count={count}")?;
+        write!(
+            &mut text,
+            "lines were left out, since this stream was not read: count={count}"
+        )?;
         Ok(text)
     }
 }

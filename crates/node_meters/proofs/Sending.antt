@@ -10,4 +10,4 @@ journal_send = search (sendable, crosses) depth 60 fits 5000
 
 -- all meters
 pub meters_send : IsSend meters.the_row
-meters_send = search (sendable, crosses, journal_send) depth 60 fits 5000
+meters_send = search (sendable, crosses) depth 60 fits 5000

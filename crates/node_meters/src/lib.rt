@@ -15,6 +15,7 @@ mod moments;
 mod peer_table;
 mod refusal_cause;
 mod totals;
+mod unsaid;
 mod waiting_lines;
 
 pub use commit_times::CommitTimes;
@@ -26,7 +27,7 @@ pub use history::{History, MAX_SECONDS, SecondCounts};
 pub use journal::{Journal, Level, Line};
 pub use line_writer::{LineWriter, write_beside};
 pub use meters::Meters;
-pub use moments::{millis_of, millis_of_day, micros_of};
+pub use moments::{micros_of, millis_of, millis_of_day};
 pub use peer_table::{MAX_PEERS, PeerState, PeerTable};
 pub use refusal_cause::{REFUSAL_CAUSES, RefusalCause};
 pub use totals::{RaftTotals, Totals};

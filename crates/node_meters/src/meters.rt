@@ -7,15 +7,12 @@ use crate::history::{History, SecondCounts};
 use crate::journal::{Journal, Level};
 use crate::moments::{micros_of, millis_of};
 use crate::peer_table::PeerTable;
-use crate::refusal_cause::{REFUSAL_CAUSES, RefusalCause};
+use crate::refusal_cause::RefusalCause;
 use crate::totals::Totals;
+use crate::unsaid::Unsaid;
 use std::alloc::{AllocError, Global};
-use std::array;
 use std::sync::{Arc, Mutex, Wait};
 use std::time::Clock;
-
-/// How long there is no other line of a cause after one, in milliseconds.
-const PAUSE_MS: u64 = 10_000;
 
 /// From how long on a sync or a step gets a line, in microseconds.
 const SLOW_US: u64 = 1_000_000;
@@ -38,8 +35,7 @@ struct Shared {
     /// When the step began that isn't over, in microseconds; 0 if there is none.
     step_began: Counter,
     step_kind: Counter,
-    said_at: [Counter; REFUSAL_CAUSES],
-    unsaid: [Counter; REFUSAL_CAUSES],
+    unsaid: Unsaid,
 }
 
 /// One end of all meters of a node. The calls of the thread of a node's steps never wait for another thread: a figure or a line is left out
@@ -66,8 +62,7 @@ impl Meters {
             status: Mutex::new(None),
             step_began: Counter::new(),
             step_kind: Counter::new(),
-            said_at: array::from_fn(|_| Counter::new()),
-            unsaid: array::from_fn(|_| Counter::new()),
+            unsaid: Unsaid::new(),
         };
         Ok(Meters {
             alloc,
@@ -213,18 +208,14 @@ impl Meters {
         micros_of(rt).saturating_sub(began) / 1_000
     }
 
-    /// How many connections were refused for a cause without a line before one that comes at this moment, if it gets a line; else it is
-    /// counted as one without.
-    fn unsaid_before(&self, cause: RefusalCause, count: u64, now: u64) -> Option<u64> {
-        let said_at = &self.shared.said_at[cause.place()];
-        let unsaid = &self.shared.unsaid[cause.place()];
-        let last = said_at.value();
-        if last != 0 && now.saturating_sub(last) < PAUSE_MS {
-            unsaid.add(count);
-            return None;
+    /// Says how many connections were refused for a cause.
+    fn say_refusal<R: Clock>(&self, rt: &R, cause: RefusalCause, count: u64) {
+        let word = cause.word();
+        if let Ok(text) = format!(in self.alloc;
+            "connection refused or closed: cause={word} count={count}"
+        ) {
+            self.say(rt, Level::Warning, text);
         }
-        said_at.set(now);
-        Some(unsaid.take())
     }
 
     /// Counts connections that were refused or closed for a cause, and says so: of each cause at most once in ten seconds.
@@ -233,38 +224,27 @@ impl Meters {
             return;
         }
         self.totals().refused(cause).add(count);
-        let Some(unsaid) = self.unsaid_before(cause, count, millis_of(rt)) else {
-            return;
-        };
-        let word = cause.word();
-        let sum = unsaid.saturating_add(count);
-        if let Ok(text) = format!(in self.alloc; "connection refused or closed: cause={word} count={sum}")
-        {
-            self.say(rt, Level::Warning, text);
+        if let Some(sum) = self.shared.unsaid.add(cause, count, millis_of(rt)) {
+            self.say_refusal(rt, cause, sum);
         }
     }
 
-    /// Says how many connections were refused since the last line of their cause, if its ten seconds are over. Whoever calls it now and then
-    /// has each refusal said.
+    /// Says how many connections were refused for a cause since its last line, if any were and ten seconds are over.
+    fn say_rest<R: Clock>(&self, rt: &R, cause: RefusalCause, now: u64) {
+        if self.shared.unsaid.count(cause) == 0 {
+            return;
+        }
+        if let Some(sum) = self.shared.unsaid.add(cause, 0, now) {
+            self.say_refusal(rt, cause, sum);
+        }
+    }
+
+    /// Says how many connections were refused since the last line of each cause, if ten seconds are over. Whoever calls it now and then has
+    /// each refusal said.
     pub fn say_refused<R: Clock>(&self, rt: &R) {
         let now = millis_of(rt);
         for cause in RefusalCause::all() {
             self.say_rest(rt, cause, now);
-        }
-    }
-
-    /// Says how many connections were refused for a cause since the last line of it, if any were and its ten seconds are over.
-    fn say_rest<R: Clock>(&self, rt: &R, cause: RefusalCause, now: u64) {
-        if self.shared.unsaid[cause.place()].value() == 0 {
-            return;
-        }
-        let Some(count) = self.unsaid_before(cause, 0, now) else {
-            return;
-        };
-        let word = cause.word();
-        if let Ok(text) = format!(in self.alloc; "connection refused or closed: cause={word} count={count}")
-        {
-            self.say(rt, Level::Warning, text);
         }
     }
 

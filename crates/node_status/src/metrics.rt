@@ -44,15 +44,27 @@ fn push_steps(out: &mut String, totals: &Totals) -> Result<(), AllocError> {
 
 /// The metrics of connections.
 fn push_connections(out: &mut String, totals: &Totals) -> Result<(), AllocError> {
-    counter("dqnode_connections_accepted_total", "Sockets that were accepted.")
-        .push(out, totals.accepted.value())?;
-    gauge("dqnode_connections", "Connections, those of peers included.")
-        .push(out, totals.connections.value())?;
-    gauge("dqnode_connections_limit", "Connections that the node may have.")
-        .push(out, MAX_CONNECTIONS)?;
+    counter(
+        "dqnode_connections_accepted_total",
+        "Sockets that were accepted.",
+    )
+    .push(out, totals.accepted.value())?;
+    gauge(
+        "dqnode_connections",
+        "Connections, those of peers included.",
+    )
+    .push(out, totals.connections.value())?;
+    gauge(
+        "dqnode_connections_limit",
+        "Connections that the node may have.",
+    )
+    .push(out, MAX_CONNECTIONS)?;
     gauge("dqnode_clients", "Connections of clients.").push(out, totals.clients.value())?;
-    gauge("dqnode_clients_limit", "Connections of clients that the node may have.")
-        .push(out, MAX_CLIENTS)?;
+    gauge(
+        "dqnode_clients_limit",
+        "Connections of clients that the node may have.",
+    )
+    .push(out, MAX_CLIENTS)?;
     let refused = counter(
         "dqnode_connections_refused_total",
         "Connections that were refused or closed by the node, by cause.",
@@ -62,10 +74,16 @@ fn push_connections(out: &mut String, totals: &Totals) -> Result<(), AllocError>
         refused.push_labelled(out, "cause", cause.word(), totals.refused(cause).value())?;
     }
     counter("dqnode_replies_total", "Replies to connections.").push(out, totals.replies.value())?;
-    counter("dqnode_reply_bytes_total", "Bytes of the replies to connections.")
-        .push(out, totals.reply_bytes.value())?;
-    counter("dqnode_queries_lent_total", "Queries that were lent to readers.")
-        .push(out, totals.lent_queries.value())
+    counter(
+        "dqnode_reply_bytes_total",
+        "Bytes of the replies to connections.",
+    )
+    .push(out, totals.reply_bytes.value())?;
+    counter(
+        "dqnode_queries_lent_total",
+        "Queries that were lent to readers.",
+    )
+    .push(out, totals.lent_queries.value())
 }
 
 /// What the threads count.
@@ -83,8 +101,10 @@ fn push_totals(out: &mut String, totals: &Totals) -> Result<(), AllocError> {
         "Time of a sync of a file or of the folder.",
         &totals.sync_times,
     )?;
-    counter("dqnode_disk_faults_total", "Calls of the disk that failed.")
-        .push(out, totals.disk_faults.value())?;
+    counter("dqnode_disk_faults_total", "Calls of the disk that failed.").push(
+        out,
+        totals.disk_faults.value(),
+    )?;
     counter(
         "dqnode_raft_leader_changes_total",
         "How many times the node saw another leader, or another term of one.",
@@ -130,17 +150,24 @@ fn push_figures(
 /// What the process knows of itself.
 fn push_process(out: &mut String, view: &NodeView<'_>) -> Result<(), AllocError> {
     let process = view.process;
-    gauge("dqnode_segment_bytes", "Bytes of the files of the log.")
-        .push(out, process.segment_bytes)?;
-    gauge("dqnode_snapshot_bytes", "Bytes of the files of snapshots.")
-        .push(out, process.snapshot_bytes)?;
+    gauge("dqnode_segment_bytes", "Bytes of the files of the log.").push(
+        out,
+        process.segment_bytes,
+    )?;
+    gauge("dqnode_snapshot_bytes", "Bytes of the files of snapshots.").push(
+        out,
+        process.snapshot_bytes,
+    )?;
     counter(
         "dqnode_log_lines_lost_total",
         "Lines of the error stream that were left out.",
     )
     .push(out, view.meters.journal().left_out_count())?;
-    gauge("process_resident_memory_bytes", "Resident memory size in bytes.")
-        .push(out, process.resident_bytes)?;
+    gauge(
+        "process_resident_memory_bytes",
+        "Resident memory size in bytes.",
+    )
+    .push(out, process.resident_bytes)?;
     gauge(
         "process_start_time_seconds",
         "Start time of the process since unix epoch in seconds.",
@@ -159,9 +186,14 @@ pub fn metrics(alloc: Global, view: &NodeView<'_>) -> Result<String, AllocError>
     .push_head(out)?;
     let version = view.process.version;
     let id = view.process.id;
-    write!(out, "dqnode_build_info{{version=\"{version}\",id=\"{id}\"}} 1\n")?;
-    gauge("dqnode_healthy", "1 if the node is well, as /health says.")
-        .push(out, u64::from(condition(view).is_well()))?;
+    write!(
+        out,
+        "dqnode_build_info{{version=\"{version}\",id=\"{id}\"}} 1\n"
+    )?;
+    gauge("dqnode_healthy", "1 if the node is well, as /health says.").push(
+        out,
+        u64::from(condition(view).is_well()),
+    )?;
     if let Some(figures) = &view.figures {
         push_figures(out, view, &**figures)?;
     }

@@ -13,7 +13,8 @@ use std::alloc::{AllocError, Global};
 const SHOWN_STEP_MS: u64 = 500;
 
 /// The colors and the layout, light and dark, narrow and wide.
-const STYLE: &str = ":root{color-scheme:light dark;--bg:#fbfbfa;--fg:#1c1e21;--dim:#63696f;--rule:#d9dcdf;--card:#fff;--accent:#0b62a8;--soft:#0b62a822;--warn:#a04a00;--bad:#b3261e;--good:#1e7a3c}\
+const STYLE: &str =
+    ":root{color-scheme:light dark;--bg:#fbfbfa;--fg:#1c1e21;--dim:#63696f;--rule:#d9dcdf;--card:#fff;--accent:#0b62a8;--soft:#0b62a822;--warn:#a04a00;--bad:#b3261e;--good:#1e7a3c}\
 @media(prefers-color-scheme:dark){:root{--bg:#15171a;--fg:#e4e6e8;--dim:#9aa1a8;--rule:#33383d;--card:#1c1f23;--accent:#6cb6f0;--soft:#6cb6f026;--warn:#f0a35e;--bad:#ff8a80;--good:#7fd197}}\
 *{box-sizing:border-box}body{margin:0;background:var(--bg);color:var(--fg);font:15px/1.45 system-ui,sans-serif}main{max-width:62rem;margin:0 auto;padding:1rem}\
 h1{font-size:1.3rem;margin:.2rem 0}h2{font-size:1rem;margin:1.6rem 0 .4rem}p{margin:.2rem 0}.dim,figcaption span,.axis{color:var(--dim)}\
@@ -30,7 +31,10 @@ pre{background:var(--card);border:1px solid var(--rule);border-radius:6px;paddin
 fn push_head(out: &mut String, id: u64) -> Result<(), AllocError> {
     out.push_str("<!doctype html><html lang=en><head><meta charset=utf-8>")?;
     out.push_str("<meta name=viewport content=\"width=device-width,initial-scale=1\">")?;
-    write!(out, "<meta http-equiv=refresh content=5><title>dqnode {id}</title><style>")?;
+    write!(
+        out,
+        "<meta http-equiv=refresh content=5><title>dqnode {id}</title><style>"
+    )?;
     out.push_str(STYLE)?;
     out.push_str("</style></head><body><main>")
 }
@@ -50,7 +54,10 @@ fn push_title(out: &mut String, view: &NodeView<'_>) -> Result<(), AllocError> {
     out.push_str("<p class=dim>The cluster as this node sees it")?;
     let step = view.step_age;
     if step > SHOWN_STEP_MS {
-        write!(out, "; <span class=bad>a step takes {step} ms so far</span>")?;
+        write!(
+            out,
+            "; <span class=bad>a step takes {step} ms so far</span>"
+        )?;
     }
     out.push_str(".</p>")
 }
@@ -123,8 +130,13 @@ fn push_foot(out: &mut String, view: &NodeView<'_>) -> Result<(), AllocError> {
     let seconds = view.process.uptime / 1_000;
     let version = view.process.version;
     let (hours, minutes, rest) = (seconds / 3_600, seconds / 60 % 60, seconds % 60);
-    write!(out, "<footer>dqnode {version}, up {hours} h {minutes} min {rest} s. Read again every five seconds. ")?;
-    out.push_str("<a href=/metrics>metrics</a> <a href=/health>health</a> <a href=/status>status</a>")?;
+    write!(
+        out,
+        "<footer>dqnode {version}, up {hours} h {minutes} min {rest} s. Read again every five seconds. "
+    )?;
+    out.push_str(
+        "<a href=/metrics>metrics</a> <a href=/health>health</a> <a href=/status>status</a>",
+    )?;
     out.push_str("</footer></main></body></html>\n")
 }
 

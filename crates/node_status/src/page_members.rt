@@ -98,7 +98,9 @@ pub(crate) fn push_members(
     view: &NodeView<'_>,
     figures: &Figures,
 ) -> Result<(), AllocError> {
-    out.push_str("<h2>Members</h2><div class=scroll><table><tr><th>id<th>address<th>role<th>now<th>state")?;
+    out.push_str(
+        "<h2>Members</h2><div class=scroll><table><tr><th>id<th>address<th>role<th>now<th>state",
+    )?;
     out.push_str("<th class=n>match<th class=n>lag</tr>")?;
     for server in &figures.servers {
         push_member(out, view, server)?;

@@ -24,7 +24,10 @@ pub(crate) fn push_databases(out: &mut String, figures: &Figures) -> Result<(), 
         sum = sum.saturating_add(pages);
     }
     let count = figures.databases.len();
-    write!(out, "<tr><td class=dim>{count} of 16<td class=\"n dim\">{sum} of 16,384")?;
+    write!(
+        out,
+        "<tr><td class=dim>{count} of 16<td class=\"n dim\">{sum} of 16,384"
+    )?;
     out.push_str("<td class=\"n dim\">")?;
     push_size(out, sum.saturating_mul(PAGE_BYTES))?;
     out.push_str("</tr></table></div></div>")
@@ -37,10 +40,16 @@ pub(crate) fn push_disk(
     figures: &Figures,
 ) -> Result<(), AllocError> {
     let entries = view.raft.last.saturating_sub(figures.compacted);
-    write!(out, "<div><h2>Log and disk</h2><table><tr><td>log<td class=n>{entries} entries<td class=n>")?;
+    write!(
+        out,
+        "<div><h2>Log and disk</h2><table><tr><td>log<td class=n>{entries} entries<td class=n>"
+    )?;
     push_size(out, view.process.segment_bytes)?;
     let snapshot = figures.snapshot;
-    write!(out, "</tr><tr><td>snapshot<td class=n>at {snapshot}<td class=n>")?;
+    write!(
+        out,
+        "</tr><tr><td>snapshot<td class=n>at {snapshot}<td class=n>"
+    )?;
     push_size(out, view.process.snapshot_bytes)?;
     let syncs = view.meters.totals().sync_times.read();
     let count = syncs.total();
@@ -51,7 +60,10 @@ pub(crate) fn push_disk(
     }
     let slow = view.slow_syncs();
     let class = if slow > 0 { "n warn" } else { "n" };
-    write!(out, "</tr><tr><td>syncs above 1 s<td class=\"{class}\">{slow}<td></tr></table></div>")
+    write!(
+        out,
+        "</tr><tr><td>syncs above 1 s<td class=\"{class}\">{slow}<td></tr></table></div>"
+    )
 }
 
 /// The connections that were refused or closed, by cause.
@@ -71,7 +83,10 @@ pub(crate) fn push_refused(out: &mut String, view: &NodeView<'_>) -> Result<(), 
         out.push_str("<tr><td class=dim>none<td></tr>")?;
     }
     let accepted = totals.accepted.value();
-    write!(out, "<tr><td class=dim>accepted<td class=\"n dim\">{accepted}</tr></table></div>")
+    write!(
+        out,
+        "<tr><td class=dim>accepted<td class=\"n dim\">{accepted}</tr></table></div>"
+    )
 }
 
 /// A line of the error stream.

@@ -74,9 +74,17 @@ fn push_points(
 
 /// The beginning of a plot with this title.
 fn push_begin(out: &mut String, title: &str, label: &str) -> Result<(), AllocError> {
-    write!(out, "<figure><figcaption><b>{title}</b> <span>{label}</span></figcaption><div class=plot>")?;
-    write!(out, "<svg viewBox=\"0 0 299 60\" preserveAspectRatio=none role=img aria-label=\"{title}\">")?;
-    out.push_str("<line class=grid x1=0 x2=299 y1=0.5 y2=0.5 /><line class=grid x1=0 x2=299 y1=30 y2=30 />")?;
+    write!(
+        out,
+        "<figure><figcaption><b>{title}</b> <span>{label}</span></figcaption><div class=plot>"
+    )?;
+    write!(
+        out,
+        "<svg viewBox=\"0 0 299 60\" preserveAspectRatio=none role=img aria-label=\"{title}\">"
+    )?;
+    out.push_str(
+        "<line class=grid x1=0 x2=299 y1=0.5 y2=0.5 /><line class=grid x1=0 x2=299 y1=30 y2=30 />",
+    )?;
     out.push_str("<line class=grid x1=0 x2=299 y1=59.5 y2=59.5 />")
 }
 
@@ -101,7 +109,11 @@ pub(crate) fn push_rate(out: &mut String, history: &History) -> Result<(), Alloc
 /// How long the commits took.
 pub(crate) fn push_commit_times(out: &mut String, history: &History) -> Result<(), AllocError> {
     let top = rounded_up(largest(history, Series::Longest));
-    push_begin(out, "Commit time", "mean and longest of each second, at the leader")?;
+    push_begin(
+        out,
+        "Commit time",
+        "mean and longest of each second, at the leader",
+    )?;
     out.push_str("<polyline class=line2 points=\"")?;
     push_points(out, history, Series::Longest, top)?;
     out.push_str("\"/><polyline class=line points=\"")?;

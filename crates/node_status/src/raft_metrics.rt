@@ -34,8 +34,11 @@ pub(crate) fn push_raft(out: &mut String, view: &NodeView<'_>) -> Result<(), All
     role.push_labelled(out, "role", "follower", u64::from(follows))?;
     role.push_labelled(out, "role", "candidate", u64::from(raft.stands))?;
     role.push_labelled(out, "role", "leader", u64::from(raft.leads))?;
-    gauge("dqnode_raft_leader_id", "Id of the leader that the node knows, 0 for none.")
-        .push(out, view.leader())?;
+    gauge(
+        "dqnode_raft_leader_id",
+        "Id of the leader that the node knows, 0 for none.",
+    )
+    .push(out, view.leader())?;
     gauge("dqnode_raft_last_index", "Last index of the log.").push(out, raft.last)?;
     gauge(
         "dqnode_raft_applied_index",
@@ -51,8 +54,10 @@ pub(crate) fn push_servers(
     figures: &Figures,
 ) -> Result<(), AllocError> {
     gauge("dqnode_raft_snapshot_index", "Index of the snapshot.").push(out, figures.snapshot)?;
-    gauge("dqnode_raft_log_entries", "Entries that the log has.")
-        .push(out, view.raft.last.saturating_sub(figures.compacted))?;
+    gauge("dqnode_raft_log_entries", "Entries that the log has.").push(
+        out,
+        view.raft.last.saturating_sub(figures.compacted),
+    )?;
     let servers = gauge("dqnode_raft_servers", "Servers of the cluster by role.");
     servers.push_head(out)?;
     for role in SERVER_ROLES {
@@ -71,11 +76,7 @@ pub(crate) fn push_servers(
 }
 
 /// How far the others are, at the leader.
-fn push_lags(
-    out: &mut String,
-    view: &NodeView<'_>,
-    figures: &Figures,
-) -> Result<(), AllocError> {
+fn push_lags(out: &mut String, view: &NodeView<'_>, figures: &Figures) -> Result<(), AllocError> {
     let matched = gauge(
         "dqnode_raft_peer_match_index",
         "Index up to which a peer's log is known to agree, at the leader.",
@@ -153,11 +154,16 @@ pub(crate) fn push_peers(
 
 /// The databases.
 pub(crate) fn push_databases(out: &mut String, figures: &Figures) -> Result<(), AllocError> {
-    gauge("dqnode_databases", "Databases of the node.")
-        .push(out, figures.databases.len() as u64)?;
-    gauge("dqnode_databases_limit", "Databases that the node may have.")
-        .push(out, MAX_DATABASES)?;
-    let pages = gauge("dqnode_database_pages", "Pages of 4096 bytes of a database.");
+    gauge("dqnode_databases", "Databases of the node.").push(out, figures.databases.len() as u64)?;
+    gauge(
+        "dqnode_databases_limit",
+        "Databases that the node may have.",
+    )
+    .push(out, MAX_DATABASES)?;
+    let pages = gauge(
+        "dqnode_database_pages",
+        "Pages of 4096 bytes of a database.",
+    );
     pages.push_head(out)?;
     for database in &figures.databases {
         out.push_str("dqnode_database_pages{database=")?;

@@ -42,8 +42,14 @@ fn push_figures(
     let (snapshot, sessions) = (figures.snapshot, figures.sessions);
     let (peers, held) = (figures.peer_connections, figures.held_bytes);
     let entries = view.raft.last.saturating_sub(figures.compacted);
-    write!(out, ",\"snapshot\":{snapshot},\"log_entries\":{entries},\"sessions\":{sessions}")?;
-    write!(out, ",\"peer_sessions\":{peers},\"held_bytes\":{held},\"servers\":[")?;
+    write!(
+        out,
+        ",\"snapshot\":{snapshot},\"log_entries\":{entries},\"sessions\":{sessions}"
+    )?;
+    write!(
+        out,
+        ",\"peer_sessions\":{peers},\"held_bytes\":{held},\"servers\":["
+    )?;
     for (k, server) in figures.servers.iter().enumerate() {
         if k > 0 {
             out.push(',')?;
@@ -73,15 +79,24 @@ fn push_raft(out: &mut String, view: &NodeView<'_>) -> Result<(), AllocError> {
     };
     let (term, last, applied) = (raft.term, raft.last, raft.applied);
     let leader = view.leader();
-    write!(out, ",\"age_ms\":{age},\"step_ms\":{step},\"role\":\"{role}\"")?;
-    write!(out, ",\"term\":{term},\"leader\":{leader},\"last\":{last},\"applied\":{applied}")
+    write!(
+        out,
+        ",\"age_ms\":{age},\"step_ms\":{step},\"role\":\"{role}\""
+    )?;
+    write!(
+        out,
+        ",\"term\":{term},\"leader\":{leader},\"last\":{last},\"applied\":{applied}"
+    )
 }
 
 /// What the threads count.
 fn push_totals(out: &mut String, view: &NodeView<'_>) -> Result<(), AllocError> {
     let totals = view.meters.totals();
     let (clients, connections) = (totals.clients.value(), totals.connections.value());
-    write!(out, ",\"clients\":{clients},\"connections\":{connections},\"refused\":{{")?;
+    write!(
+        out,
+        ",\"clients\":{clients},\"connections\":{connections},\"refused\":{{"
+    )?;
     for cause in RefusalCause::all() {
         if cause.place() > 0 {
             out.push(',')?;
@@ -104,7 +119,10 @@ pub fn status(alloc: Global, view: &NodeView<'_>) -> Result<String, AllocError> 
     let (id, version, uptime) = (process.id, process.version, process.uptime);
     let found = condition(view);
     let (is_well, word) = (found.is_well(), found.word());
-    write!(out, "{{\"id\":{id},\"version\":\"{version}\",\"healthy\":{is_well},\"state\":\"{word}\"")?;
+    write!(
+        out,
+        "{{\"id\":{id},\"version\":\"{version}\",\"healthy\":{is_well},\"state\":\"{word}\""
+    )?;
     write!(out, ",\"uptime_ms\":{uptime}")?;
     push_raft(out, view)?;
     if let Some(figures) = &view.figures {
@@ -113,7 +131,10 @@ pub fn status(alloc: Global, view: &NodeView<'_>) -> Result<String, AllocError> 
     push_totals(out, view)?;
     let (segments, snapshots) = (process.segment_bytes, process.snapshot_bytes);
     let resident = process.resident_bytes;
-    write!(out, ",\"segment_bytes\":{segments},\"snapshot_bytes\":{snapshots}")?;
+    write!(
+        out,
+        ",\"segment_bytes\":{segments},\"snapshot_bytes\":{snapshots}"
+    )?;
     write!(out, ",\"resident_bytes\":{resident}}}\n")?;
     Ok(text)
 }

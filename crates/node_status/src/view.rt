@@ -121,11 +121,7 @@ impl<'a> NodeView<'a> {
         if self.is_own(server) {
             return Some(0);
         }
-        Some(
-            self.raft
-                .last
-                .saturating_sub(server.matched.unwrap_or(0)),
-        )
+        Some(self.raft.last.saturating_sub(server.matched.unwrap_or(0)))
     }
 
     /// How many syncs took more than a second.

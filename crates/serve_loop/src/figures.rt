@@ -18,7 +18,11 @@ fn role_word(role: ServerRole) -> &'static str {
 }
 
 /// A server as the node sees it.
-fn server_figures(alloc: Global, node: &Node, server: &Server) -> Result<ServerFigures, AllocError> {
+fn server_figures(
+    alloc: Global,
+    node: &Node,
+    server: &Server,
+) -> Result<ServerFigures, AllocError> {
     Ok(ServerFigures {
         id: server.id,
         address: String::from_str(alloc, server.address.as_str())?,

@@ -50,8 +50,9 @@ impl Announced {
     /// Says that the connection is up or down. If memory runs out the line is left out.
     fn say(&self, level: Level, state: &str) {
         let address = self.address.as_str();
-        if let Ok(line) = format!(in self.rt.alloc(); "peer connection {state}: address={address}")
-        {
+        if let Ok(line) = format!(in self.rt.alloc();
+            "peer connection {state}: address={address}"
+        ) {
             self.meters.say(&self.rt, level, line);
         }
     }

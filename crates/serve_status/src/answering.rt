@@ -5,13 +5,12 @@ use crate::sights::Sights;
 use http_server::{Config, Connection, serve};
 use node_meters::Meters;
 use std::hash::RandomState;
-use std::io;
 use std::io::ErrorKind;
 use std::net::{TcpListener, TcpStream};
 use std::sync::Wait;
-use std::thread;
 use std::thread::{Builder, Threads};
 use std::time::{Clock, Duration};
+use std::{io, thread};
 
 /// The room of a thread, in bytes.
 const STACK: usize = 524_288;

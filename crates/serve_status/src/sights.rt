@@ -36,10 +36,7 @@ fn give(
     text: String,
 ) -> Result<(), AllocError> {
     response.add_header(header::CONTENT_TYPE, HeaderValue::from_static(content_type))?;
-    response.add_header(
-        header::CACHE_CONTROL,
-        HeaderValue::from_static("no-store"),
-    )?;
+    response.add_header(header::CACHE_CONTROL, HeaderValue::from_static("no-store"))?;
     response.add_header(
         header::CONTENT_SECURITY_POLICY,
         HeaderValue::from_static(POLICY),

@@ -4,11 +4,10 @@ use crate::process_info::ProcessInfo;
 use node_meters::{HistogramCounts, Meters, SecondCounts};
 use node_status::{NodeView, status};
 use std::alloc::AllocError;
-use std::io;
 use std::sync::Wait;
-use std::thread;
 use std::thread::{Builder, Threads};
 use std::time::{Clock, Duration};
+use std::{io, thread};
 
 /// The room of the thread, in bytes.
 const STACK: usize = 524_288;

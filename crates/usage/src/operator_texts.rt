@@ -180,3 +180,29 @@ Status:
   12  no leader was found, or the server was not reached
   13  nobody knows whether the weight is set
 ";
+
+pub(crate) const STATUS_USAGE: &str = "\
+Usage: dqnode status [--json] [--cluster] ADDRESS..
+";
+
+pub(crate) const STATUS_DETAILS: &str = "\
+Asks nodes how they are, and prints a row for each, and a line for what an operator
+should see. A node that has not answered within 3 s is shown so.
+
+Arguments:
+  ADDRESS     where a node is reached, as localhost:9001, or the address of its
+              --metrics, which answers also while a statement holds the node up;
+              1 to 9
+
+Options:
+  --json      print an array of JSON
+  --cluster   ask all servers that the first node knows that answers
+  -h, --help  print this page
+
+Status:
+   0  all nodes that were asked are well
+   4  the output failed
+   7  out of memory
+  12  none of them knows a leader
+  14  one of them is not well, or was not reached
+";

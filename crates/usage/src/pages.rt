@@ -19,6 +19,8 @@ pub enum Page {
     Dump,
     /// The page of `cluster`.
     Cluster,
+    /// The page of `status`.
+    Status,
     /// The page of `transfer`.
     Transfer,
     /// The page of `add`.
@@ -67,6 +69,9 @@ impl Page {
         if name == "cluster" {
             return Some(Page::Cluster);
         }
+        if name == "status" {
+            return Some(Page::Status);
+        }
         if name == "transfer" {
             return Some(Page::Transfer);
         }
@@ -103,6 +108,7 @@ impl Page {
             Page::Query => texts::QUERY_USAGE,
             Page::Dump => operator_texts::DUMP_USAGE,
             Page::Cluster => operator_texts::CLUSTER_USAGE,
+            Page::Status => operator_texts::STATUS_USAGE,
             Page::Transfer => operator_texts::TRANSFER_USAGE,
             Page::Add => operator_texts::ADD_USAGE,
             Page::Assign => operator_texts::ASSIGN_USAGE,
@@ -123,6 +129,7 @@ impl Page {
             Page::Query => texts::QUERY_DETAILS,
             Page::Dump => operator_texts::DUMP_DETAILS,
             Page::Cluster => operator_texts::CLUSTER_DETAILS,
+            Page::Status => operator_texts::STATUS_DETAILS,
             Page::Transfer => operator_texts::TRANSFER_DETAILS,
             Page::Add => operator_texts::ADD_DETAILS,
             Page::Assign => operator_texts::ASSIGN_DETAILS,
@@ -143,6 +150,7 @@ impl Page {
             Page::Query => "query --help",
             Page::Dump => "dump --help",
             Page::Cluster => "cluster --help",
+            Page::Status => "status --help",
             Page::Transfer => "transfer --help",
             Page::Add => "add --help",
             Page::Assign => "assign --help",

@@ -14,6 +14,7 @@ Ask a cluster:
   exec NAME SQL ADDRESS..         have the leader run a statement
   query NAME SQL ADDRESS..        have the leader answer a query
   cluster ADDRESS..               print the servers and their roles
+  status ADDRESS..                print how each node is
 
 Change a cluster:
   transfer ADDRESS..              have another voter lead
@@ -38,7 +39,7 @@ Options:
   --metrics LISTEN
                  of serve: show the node by HTTP at this address
   --all-log      of dump: apply the whole log
-  --json         of cluster: print JSON
+  --json         of cluster and status: print JSON
   --from N       of transfer: only if server N leads
   --to N         of transfer: have server N lead
   --voter, --standby, --spare
@@ -62,6 +63,7 @@ Status:
   11  a server refused the statement, or what an operator asked for
   12  no leader was found
   13  nobody knows whether the statement was run, or what was asked for was done
+  14  a node is not well
   15  internal fault, a bug of the program: please report it
 ";
 
