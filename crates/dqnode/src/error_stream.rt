@@ -36,6 +36,7 @@ pub struct ErrorStream {
     meters: Meters,
     commits: CommitTimes,
     id: u64,
+    is_for_journal: bool,
     has_writer: bool,
 }
 
@@ -64,13 +65,14 @@ fn raft_figures(id: u64, state: &NodeState) -> RaftFigures {
 }
 
 impl ErrorStream {
-    /// The error stream of the process, with the meters of a node and the queue of its lines.
-    pub fn new(rt: HostRuntime, meters: Meters) -> ErrorStream {
+    /// The error stream of the process, which may go to the journal of systemd, with the meters of a node and the queue of its lines.
+    pub fn new(rt: HostRuntime, is_for_journal: bool, meters: Meters) -> ErrorStream {
         ErrorStream {
             rt,
             meters,
             commits: CommitTimes::new(rt.alloc()),
             id: 0,
+            is_for_journal,
             has_writer: false,
         }
     }
@@ -81,7 +83,11 @@ impl ErrorStream {
         waits: R,
     ) -> io::Result<()> {
         let started = match self.meters.journal().again() {
-            Ok(lines) => write_beside(waits, lines, StreamWriter::new(self.rt)),
+            Ok(lines) => write_beside(
+                waits,
+                lines,
+                StreamWriter::new(self.rt, self.is_for_journal),
+            ),
             Err(_) => Err(ErrorKind::OutOfMemory.into()),
         };
         match started {

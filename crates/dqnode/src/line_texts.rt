@@ -3,10 +3,6 @@
 use node_meters::{Line, LineWriter, NextLine, millis_of_day};
 use node_status::push_time;
 use std::alloc::AllocError;
-use std::env;
-
-/// What systemd sets for a process whose error stream goes to its journal.
-const JOURNAL_STREAM: &str = "JOURNAL_STREAM";
 
 /// Writes lines on the error stream: with their time and level, or for the journal of systemd with the priority alone in front.
 #[derive(Drop)]
@@ -24,12 +20,9 @@ struct LineFront {
 }
 
 impl StreamWriter {
-    /// Writes on the error stream of the process.
-    pub fn new(rt: HostRuntime) -> StreamWriter {
-        StreamWriter {
-            rt,
-            is_for_journal: env::var(&rt, JOURNAL_STREAM).is_ok(),
-        }
+    /// Writes on the error stream of the process, which may go to the journal of systemd.
+    pub fn new(rt: HostRuntime, is_for_journal: bool) -> StreamWriter {
+        StreamWriter { rt, is_for_journal }
     }
 
     /// The front of a line.

@@ -260,7 +260,7 @@ fn main(rt: HostRuntime) -> ExitCode {
     let (Ok(meters), Ok(syncs)) = (host.meters(), host.meters()) else {
         return no_memory;
     };
-    let mut errors = ErrorStream::new(rt, meters);
+    let mut errors = ErrorStream::new(rt, words::is_for_journal(&rt), meters);
     match run_command(&rt, words, &mut disk, &errors) {
         Ok(Some(status)) => return ExitCode::from(status.code()),
         Ok(None) => {}

@@ -98,7 +98,7 @@ fn show(rt: &HostRuntime, request: &StatusRequest<'_>) -> Result<u8, AllocError>
     } else {
         table_text(rt.alloc(), reports.as_slice())?
     };
-    if print!(*rt; "{text}").is_err() {
+    if print!(rt; "{text}").is_err() {
         return Ok(WRITE_FAULT);
     }
     Ok(code_of(reports.as_slice()))

@@ -1,4 +1,4 @@
-//! The arguments that the program was started with.
+//! The arguments and the environment that the program was started with.
 
 ghost use Rattle.std.specs.Prelude.{◌≡◌, drop};
 
@@ -6,6 +6,14 @@ use std::alloc::{AllocError, Global};
 use std::env;
 use std::io::ErrorKind;
 use std::rt::Env;
+
+/// What systemd sets for a process whose error stream goes to its journal.
+const JOURNAL_STREAM: &str = "JOURNAL_STREAM";
+
+/// Whether the error stream of the process goes to the journal of systemd.
+pub fn is_for_journal<R: Env + AllocGlobal>(rt: &R) -> bool {
+    env::var(rt, JOURNAL_STREAM).is_ok()
+}
 
 /// All arguments of the process, of which the first is the program's name. If one of them isn't UTF-8 there are none, since the program
 /// knows no argument that isn't.

@@ -14,6 +14,9 @@ use std::alloc::{AllocError, Global};
 use std::sync::{Arc, Mutex, Wait};
 use std::time::Clock;
 
+/// How many times a note on a peer is tried while another thread touches the table.
+const MAX_TRIES: u64 = 10_000;
+
 /// From how long on a sync or a step gets a line, in microseconds.
 const SLOW_US: u64 = 1_000_000;
 
@@ -140,17 +143,24 @@ impl Meters {
         }
     }
 
-    /// An address was dialed, and a connection is up or it failed.
-    pub fn note_dial<R: Wait>(&self, rt: &R, address: &str, is_up: bool) {
-        self.shared
-            .peers
-            .lock(rt)
-            .note_dial(self.alloc, address, is_up);
+    /// An address was dialed, and a connection is up or it failed. It isn't noted if others touch the table all the time.
+    pub fn note_dial(&self, address: &str, is_up: bool) {
+        for _ in 0..MAX_TRIES {
+            if let Some(mut peers) = self.shared.peers.try_lock() {
+                peers.note_dial(self.alloc, address, is_up);
+                return;
+            }
+        }
     }
 
     /// The connection to an address is down.
-    pub fn note_link_end<R: Wait>(&self, rt: &R, address: &str) {
-        self.shared.peers.lock(rt).note_end(address);
+    pub fn note_link_end(&self, address: &str) {
+        for _ in 0..MAX_TRIES {
+            if let Some(mut peers) = self.shared.peers.try_lock() {
+                peers.note_end(address);
+                return;
+            }
+        }
     }
 
     /// The connections to peers.

@@ -59,7 +59,7 @@ impl Announced {
 
     /// Says that the connection is down, and notes it.
     fn end(&self) {
-        self.meters.note_link_end(&self.rt, self.address.as_str());
+        self.meters.note_link_end(self.address.as_str());
         self.say(Level::Warning, "down");
     }
 }
@@ -167,7 +167,7 @@ impl PeerDialer for TcpPeerDialer {
 
     fn dial(&mut self, address: &str) -> Result<TcpPeerConnection, Failed> {
         let opened = open(&self.rt, address);
-        self.meters.note_dial(&self.rt, address, opened.is_ok());
+        self.meters.note_dial(address, opened.is_ok());
         match opened {
             Ok(stream) => Ok(TcpPeerConnection::new(self.rt, &self.meters, address, stream)),
             Err(_) => Err(self.fail()),
