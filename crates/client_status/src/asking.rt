@@ -17,7 +17,7 @@ const READ_BYTES: usize = 8_192;
 /// What is sent. Its first 16 bytes say at a node's own address what is asked for.
 const REQUEST: &[u8] = b"GET /status HTTP/1.0\r\n\r\n";
 
-/// What stands between the head of an answer and its body.
+/// The end of the head of an answer, which its body follows.
 const HEAD_END: &str = "\r\n\r\n";
 
 /// Why there is no status of a node.

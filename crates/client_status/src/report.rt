@@ -149,7 +149,7 @@ pub fn table_text(alloc: Global, reports: &[NodeReport]) -> Result<String, Alloc
     Ok(text)
 }
 
-/// What nodes answered as one array of JSON: each answer with `asked`, or with `error` if there is none.
+/// What nodes answered as one array of JSON: each answer with `asked`, or `error` without an answer.
 pub fn json_text(alloc: Global, reports: &[NodeReport]) -> Result<String, AllocError> {
     let mut text = String::from_str(alloc, "[")?;
     for (place, report) in reports.iter().enumerate() {

@@ -57,7 +57,7 @@ fn raft_figures(id: u64, state: &NodeState) -> RaftFigures {
     RaftFigures {
         term: state.term,
         leads,
-        stands: state.role == RaftRole::Candidate,
+        is_candidate: state.role == RaftRole::Candidate,
         leader,
         last: state.last,
         applied: state.applied,

@@ -11,7 +11,7 @@ pub struct StreamWriter {
     is_for_journal: bool,
 }
 
-/// What stands in front of a line.
+/// The parts in front of a line's text.
 #[derive(Clone, Copy)]
 struct LineFront {
     at: u64,

@@ -48,8 +48,8 @@ pub struct RaftFigures {
     pub term: u64,
     /// Whether it leads in this term.
     pub leads: bool,
-    /// Whether it stands for election in this term.
-    pub stands: bool,
+    /// Whether it is a candidate in this term.
+    pub is_candidate: bool,
     /// The leader of the term, the node itself too; 0 if it knows none.
     pub leader: u64,
     /// The last index of its log.

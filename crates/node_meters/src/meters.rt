@@ -35,7 +35,7 @@ struct Shared {
     history: Mutex<History>,
     /// The answer to who asks for the status.
     status: Mutex<Option<Arc<String, Global>>>,
-    /// When the step began that isn't over, in microseconds; 0 if there is none.
+    /// When the step began that isn't over, in microseconds; 0 if the node waits for an event.
     step_began: Counter,
     step_kind: Counter,
     unsaid: Unsaid,
@@ -134,7 +134,7 @@ impl Meters {
         }
     }
 
-    /// The answer to who asks for the status. None if there is none yet, or another thread sets it just now.
+    /// The answer to who asks for the status. None if no answer was set yet, or another thread sets it just now.
     pub fn status(&self) -> Option<Arc<String, Global>> {
         let status = self.shared.status.try_lock()?;
         match &*status {
@@ -154,7 +154,7 @@ impl Meters {
     }
 
     /// The connection to an address is down.
-    pub fn note_link_end(&self, address: &str) {
+    pub fn note_peer_end(&self, address: &str) {
         for _ in 0..MAX_TRIES {
             if let Some(mut peers) = self.shared.peers.try_lock() {
                 peers.note_end(address);

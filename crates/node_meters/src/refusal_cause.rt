@@ -30,7 +30,7 @@ pub enum RefusalCause {
     NoMemory,
     /// The node holds too much of what its clients have said, and this one's share is too large.
     SaidTooMuch,
-    /// It had a transaction and said nothing for as long as `--idle-transaction` says.
+    /// It had a transaction and said nothing for the time of `--idle-transaction`.
     IdleTransaction,
     /// It said nothing, or took nothing of what waits for it, for too long.
     Idle,

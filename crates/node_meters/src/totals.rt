@@ -36,7 +36,7 @@ impl RaftTotals {
         self.term.set(now.term);
         self.role.set(if now.leads {
             2
-        } else if now.stands {
+        } else if now.is_candidate {
             1
         } else {
             0
@@ -52,7 +52,7 @@ impl RaftTotals {
         RaftFigures {
             term: self.term.value(),
             leads: role == 2,
-            stands: role == 1,
+            is_candidate: role == 1,
             leader: self.leader.value(),
             last: self.last.value(),
             applied: self.applied.value(),

@@ -126,7 +126,7 @@ fn push_figures(
     .push_time(out, view.age().saturating_mul(1_000))?;
     gauge(
         "dqnode_step_age_seconds",
-        "For how long the step takes that is not over; 0 if there is none.",
+        "For how long the step takes that is not over; 0 if the node waits.",
     )
     .push_time(out, view.step_age.saturating_mul(1_000))?;
     push_raft(out, view)?;

@@ -27,7 +27,7 @@ figure{margin:.4rem 0}.plot{position:relative;height:7rem}.plot svg{width:100%;h
 .axis{display:flex;justify-content:space-between;font-size:.75rem}svg *{vector-effect:non-scaling-stroke}.grid{stroke:var(--rule);stroke-width:1}.area{fill:var(--soft)}.line{fill:none;stroke:var(--accent);stroke-width:1.5}.line2{fill:none;stroke:var(--warn);stroke-width:1;opacity:.75}\
 pre{background:var(--card);border:1px solid var(--rule);border-radius:6px;padding:.6rem;overflow-x:auto;font-size:.8rem;line-height:1.5;margin:0}footer{margin:2rem 0 1rem;color:var(--dim);font-size:.85rem}a{color:var(--accent)}";
 
-/// What stands before the body.
+/// The head of the page, and the beginning of its body.
 fn push_head(out: &mut String, id: u64) -> Result<(), AllocError> {
     out.push_str("<!doctype html><html lang=en><head><meta charset=utf-8>")?;
     out.push_str("<meta name=viewport content=\"width=device-width,initial-scale=1\">")?;
@@ -125,7 +125,7 @@ fn push_figures(
     out.push_str("</div>")
 }
 
-/// What stands after the lines.
+/// The foot of the page.
 fn push_foot(out: &mut String, view: &NodeView<'_>) -> Result<(), AllocError> {
     let seconds = view.process.uptime / 1_000;
     let version = view.process.version;

@@ -21,7 +21,7 @@ fn push_now(
     if !view.is_own(server) {
         return out.push_str("<td class=dim>-");
     }
-    if view.raft.stands {
+    if view.raft.is_candidate {
         return out.push_str("<td>candidate");
     }
     out.push_str("<td>follower")

@@ -30,9 +30,9 @@ pub(crate) fn push_raft(out: &mut String, view: &NodeView<'_>) -> Result<(), All
     gauge("dqnode_raft_term", "Term of Raft.").push(out, raft.term)?;
     let role = gauge("dqnode_raft_role", "1 at the role that the node has.");
     role.push_head(out)?;
-    let follows = !raft.leads && !raft.stands;
+    let follows = !raft.leads && !raft.is_candidate;
     role.push_labelled(out, "role", "follower", u64::from(follows))?;
-    role.push_labelled(out, "role", "candidate", u64::from(raft.stands))?;
+    role.push_labelled(out, "role", "candidate", u64::from(raft.is_candidate))?;
     role.push_labelled(out, "role", "leader", u64::from(raft.leads))?;
     gauge(
         "dqnode_raft_leader_id",

@@ -72,7 +72,7 @@ fn push_raft(out: &mut String, view: &NodeView<'_>) -> Result<(), AllocError> {
     let raft = view.raft;
     let role = if raft.leads {
         "leader"
-    } else if raft.stands {
+    } else if raft.is_candidate {
         "candidate"
     } else {
         "follower"

@@ -42,7 +42,7 @@ pub struct NodeView<'a> {
     pub figures: Option<Arc<Figures, Global>>,
     /// When that was, in milliseconds.
     pub published_at: u64,
-    /// For how many milliseconds the step takes that is not over; 0 if there is none.
+    /// For how many milliseconds the step takes that is not over; 0 if the node waits for an event.
     pub step_age: u64,
     /// The moment, in milliseconds.
     pub now: u64,

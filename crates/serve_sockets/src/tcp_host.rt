@@ -221,7 +221,7 @@ impl<R: Wait + Copy + Drop, T: Drop> TcpHost<R, T> {
         }
     }
 
-    /// The answer to a socket that asks for the status of the node. None if there is none yet, or memory runs out.
+    /// The answer to a socket that asks for the status of the node. None if it was not prepared yet, or memory runs out.
     fn status_answer(&self) -> Option<WireBytes> {
         let status = self.meters.status()?;
         let bytes = Vec::from_slice(self.sockets.alloc(), status.as_bytes()).ok()?;

@@ -59,7 +59,7 @@ impl Announced {
 
     /// Says that the connection is down, and notes it.
     fn end(&self) {
-        self.meters.note_link_end(self.address.as_str());
+        self.meters.note_peer_end(self.address.as_str());
         self.say(Level::Warning, "down");
     }
 }

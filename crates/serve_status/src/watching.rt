@@ -33,7 +33,7 @@ fn counted(meters: &Meters) -> Counted {
     }
 }
 
-/// The mean of times, 0 if there is none.
+/// The mean of times; 0 without a time.
 fn mean_of(sum: u64, count: u64) -> u64 {
     if count == 0 { 0 } else { sum / count }
 }
