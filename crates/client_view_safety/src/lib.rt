@@ -2,6 +2,7 @@
 //! function.
 #![tactic(auto)]
 
+ghost use Rattle.client_view_safety.specs.Losses.{LossesKeepViews};
 ghost use Rattle.client_view_safety.specs.Views.{AnswersKeepViews, RequestsAskPurposes};
 
 pub mod refusals;
@@ -16,4 +17,10 @@ pub fn requests_ask_purposes()
 /// or when the last entry of what it proposed is applied. The refusal of a COMMIT that ends a lost transaction is an answer at once.
 pub fn answers_keep_views()
     ensures { AnswersKeepViews }
+{}
+
+/// If a client knows its session, for which nothing was proposed, then it knows the session after its node has lost its leadership, be it told of the
+/// loss, by the refusal of a query that waited, or not.
+pub fn losses_keep_views()
+    ensures { LossesKeepViews }
 {}

@@ -177,14 +177,15 @@ brings_none old (Compacts index) asks conn h none = h conn
 -- ---- one event
 
 module _ (m : Meaning) (kind : EngineKind) (setup : Setup) where
-  -- the clauses of an act that ended well hold as those of an event
-  pub record EventHolds (r : Run) (n : ℕ) (begin : Begin) (new : Node) (made : Made) : Type 0 where
+  -- the clauses of an act that ended well hold as those of an event, in which connections ask these requests
+  pub record EventHolds (r : Run) (n : ℕ) (begin : Begin) (new : Node) (made : Made) (requests : ℕ → List Request) : Type 0 where
     pub came : runs.Comes
     pub added : List raft.LocalEvent
     pub holds : Holds m kind setup r (Goes n came added new made.letters made.replies made.jobs)
     pub answers : holds.1 ≡ made.answers
     pub joins : joins_in came ≡ joins_of begin
     pub asks : (conn : ℕ) → asks_of begin ≢ Some conn → asks_in came conn ≡ []
+    pub asks_are : (conn : ℕ) → asks_in came conn ≡ requests conn
 
   knows : (r : Run) (acts : List RuleAct) (n : ℕ) (old : Running) → RunIs m kind setup r acts → r.places n ≡ Up (seen old) → AtRest old → KnowsServers setup old
   knows r acts n old was up rest =
@@ -193,7 +194,7 @@ module _ (m : Meaning) (kind : EngineKind) (setup : Setup) where
       subst (λ (z : Moment). HasServers setup z old.members.servers) (sym rest.rests) (resting_servers_hold setup (seen old) (node_at setup (cluster setup acts).raft n) ((cluster setup acts).lives n) here.0 here.1 at)
 
   pub act_holds : (r : Run) (acts : List RuleAct) (n : ℕ) (old new : Running) (begin : Begin) (made : Made) → RunIs m kind setup r acts → r.places n ≡ Up (seen old) → (seen old).raft.id ≡ n →
-      Arrives m kind r n begin → (a : Act m kind setup old new begin made) → EventHolds r n begin (seen new) made
+      Arrives m kind r n begin → (a : Act m kind setup old new begin made) → EventHolds r n begin (seen new) made a.taken.asks
   act_holds r acts n old new begin made was up id here a =
       let c = comes_so m kind r n old begin a.taken here a.takes in
       let me : old.replica.id ≡ n = sym a.stood.id ∙ id in
@@ -218,6 +219,7 @@ module _ (m : Meaning) (kind : EngineKind) (setup : Setup) where
         answers = refl;
         joins = sym c.like.joins ∙ a.takes.joins;
         asks = λ conn none. sym (c.like.asks conn) ∙ brings_none old begin a.taken.asks conn a.takes.asks none;
+        asks_are = λ conn. sym (c.like.asks conn);
       }
 
   pub record StopHolds (r : Run) (n : ℕ) (begin : Begin) (kept : Kept) : Type 0 where

@@ -20,7 +20,7 @@ use Rattle.node_spec.specs.Steps.{Letter, Made}
 use Rattle.node_core.specs.declared.event.Event as core
 use Rattle.node_core.specs.declared.outs.StepOutputs.{StepOutputs}
 use Rattle.node_core.specs.declared.running.Running.{Running}
-use Rattle.node_core.specs.Account.{letter_of, Begin, Happens, Comes, Compacts, Acts, Stopped, AccountsForStep, AccountsForStop}
+use Rattle.node_core.specs.Account.{letter_of, Begin, Happens, Comes, Compacts, Brings, Acts, acts_asks, Stopped, AccountsForStep, AccountsForStop}
 use Rattle.node_core.specs.Values.{seen}
 use Rattle.wire_msgs.specs.declared.request.Request.{Request}
 use Rattle.cluster_safety.specs.Acts.{RunIs, asked}
@@ -89,7 +89,8 @@ module _ (m : Meaning) (kind : EngineKind) (setup : Setup) where
     said_is = sym (append-nil r.said) ∙ ap (λ (l : List (ℕ × Reply)). r.said ++ map (spoken n) l) (sym rs);
   }
 
-  module _ (r : Run) (n : ℕ) (place : Place) (begin : Begin) (new : Node) (made : Made) (h : EventHolds m kind setup r n begin new made) where
+  module _ (r : Run) (n : ℕ) (place : Place) (begin : Begin) (new : Node) (made : Made) (requests : ℕ → List Request)
+      (h : EventHolds m kind setup r n begin new made requests) where
     abbrev event : Event
     event = Goes n h.came h.added new made.letters made.replies made.jobs
 
@@ -115,20 +116,26 @@ module _ (m : Meaning) (kind : EngineKind) (setup : Setup) where
 
   -- ---- the acts of a step
 
-  pub record ActsRun (r : Run) (n : ℕ) (new : Running) (begins : List Begin) (made : Made) : Type 0 where
+  pub record ActsRun (r : Run) (n : ℕ) (old new : Running) (begins : List Begin) (made : Made) (a : Acts m kind setup old new begins made) : Type 0 where
     pub leads : Leads m kind setup r n (Up (seen new)) made.letters made.replies
     pub stays : StaysUp n begins leads.events
     pub reads : (conn : ℕ) → (run_from r leads.events).jobs n conn ≡ handed_on (r.jobs n) made.jobs conn
     pub used : used_in m kind setup r leads.events leads.hold ≡ made.answers
+    pub asks : (conn : ℕ) → asked n conn leads.events ≡ acts_asks m kind setup old new begins made a conn
     pub id : (seen new).raft.id ≡ n
 
+  -- the node itself asks this first, and then that
+  asked_here : (n : ℕ) (first more here rest : List Request) → first ≡ here → more ≡ rest → cond (n == n) first [] ++ more ≡ here ++ rest
+  asked_here n first more here rest e f = ap (λ l. l ++ more) (cond-true (n == n) first [] (eq-eqb n n refl) ∙ e) ∙ ap (λ l. here ++ l) f
+
   acts_run : (r : Run) (acts : List RuleAct) (n : ℕ) (old new : Running) (begins : List Begin) (made : Made) → RunIs m kind setup r acts → r.places n ≡ Up (seen old) → (seen old).raft.id ≡ n →
-      AllArrive m kind r n begins → (a : Acts m kind setup old new begins made) → ActsRun r n new begins made
+      AllArrive m kind r n begins → (a : Acts m kind setup old new begins made) → ActsRun r n old new begins made a
   acts_run r acts n old new [] made was up id here a = record {
     leads = leads_none r n (Up (seen new)) made.letters made.replies (up ∙ ap Up (sym a.0)) (ap (λ (z : Made). z.letters) a.1) (ap (λ (z : Made). z.replies) a.1);
     stays = record { starts = λ k. tt; joined = λ k conn none. tt; asks = λ k conn none. refl };
     reads = λ conn. ap (λ (z : Made). handed_on (r.jobs n) z.jobs conn) (sym a.1);
     used = ap (λ (z : Made). z.answers) (sym a.1);
+    asks = λ conn. refl;
     id = ap (λ (v : Node). v.raft.id) a.0 ∙ id;
   }
   acts_run r acts n old new (begin ∷ begins) made was up id here a =
@@ -145,10 +152,13 @@ module _ (m : Meaning) (kind : EngineKind) (setup : Setup) where
       let g = runs_go_on_hold m kind setup r acts (e ∷ []) was (one.holds, tt) in
       let more = acts_run q (acts ++ g.later) n mid new begins rest g.is (here_place m kind r n (Up (seen mid)) js first.letters (map (spoken n) first.replies)) (a.5.id ∙ from_id) (all_arrive m kind r q n first.letters refl begins here.1) a.6 in
       record {
-        leads = leads_on r n (Up (seen new)) begin (seen mid) first one rest.letters rest.replies made.letters made.replies (ap (λ (z : Made). z.letters) a.7) (ap (λ (z : Made). z.replies) a.7) more.leads;
-        stays = stays_first r n (Up (seen new)) begin (seen mid) first one begins more.leads.events more.stays;
+        leads = leads_on r n (Up (seen new)) begin (seen mid) first a.5.taken.asks one rest.letters rest.replies made.letters made.replies (ap (λ (z : Made). z.letters) a.7) (ap (λ (z : Made). z.replies) a.7) more.leads;
+        stays = stays_first r n (Up (seen new)) begin (seen mid) first a.5.taken.asks one begins more.leads.events more.stays;
         reads = λ conn. more.reads conn ∙ ap (λ (z : ℕ → Option Job). handed_on z rest.jobs conn) (here_jobs r n (Up (seen mid)) js first.letters first.replies) ∙ sym (handed_join (r.jobs n) first.jobs rest.jobs conn) ∙ ap (λ (z : Made). handed_on (r.jobs n) z.jobs conn) (sym a.7);
         used = ap (λ z. z ++ used_in m kind setup q more.leads.events more.leads.hold) one.answers ∙ ap (λ z. first.answers ++ z) more.used ∙ ap (λ (z : Made). z.answers) (sym a.7);
+        asks =
+            λ conn. asked_here n (asks_in one.came conn) (asked n conn more.leads.events) (a.5.taken.asks conn)
+            (acts_asks m kind setup mid new begins rest a.6 conn) (one.asks_are conn) (more.asks conn);
         id = more.id;
       }
 
@@ -192,14 +202,14 @@ module _ (m : Meaning) (kind : EngineKind) (setup : Setup) where
       record {
         letters = first.letters ++ more.letters;
         replies = first.replies ++ more.replies;
-        leads = leads_on r n (Down kept) begin (seen next) first one more.letters more.replies (first.letters ++ more.letters) (first.replies ++ more.replies) refl refl more.leads;
-        stays = stays_first r n (Down kept) begin (seen next) first one (begins ++ last ∷ []) more.leads.events more.stays;
+        leads = leads_on r n (Down kept) begin (seen next) first a.5.taken.asks one more.letters more.replies (first.letters ++ more.letters) (first.replies ++ more.replies) refl refl more.leads;
+        stays = stays_first r n (Down kept) begin (seen next) first a.5.taken.asks one (begins ++ last ∷ []) more.leads.events more.stays;
       }
 
 -- ---- from any run
 
 module _ (m : Meaning) (kind : EngineKind) (setup : Setup) (r : Run) (acts : List RuleAct) (was : RunIs m kind setup r acts) (n : ℕ) (old : Running) (up : r.places n ≡ Up (seen old)) (id : (seen old).raft.id ≡ n) (what : core.Event) where
-  pub step_at : (new : Running) (outs : StepOutputs) (told_before told_now : Option Told) (s : AccountsForStep m kind setup old new what outs told_before told_now) → AllArrive m kind r n s.begins → StepRuns m kind setup r n new s.begins outs told_before told_now
+  pub step_at : (new : Running) (outs : StepOutputs) (told_before told_now : Option Told) (s : AccountsForStep m kind setup old new what outs told_before told_now) → AllArrive m kind r n s.begins → StepRuns m kind setup r n old new what s.begins outs told_before told_now
   step_at new outs told_before told_now s here =
       let a = acts_run m kind setup r acts n old new s.begins s.made was up id here s.acts in
       record {
@@ -213,6 +223,7 @@ module _ (m : Meaning) (kind : EngineKind) (setup : Setup) (r : Run) (acts : Lis
         tells = s.tells;
         reads = λ conn. a.reads conn ∙ ap (λ (l : List (ℕ × Job)). handed_on (r.jobs n) l conn) (sym s.reads);
         heard = subst (λ (l : List Answer). TellsAll l told_before told_now) (sym a.used) s.heard;
+        brings = subst (λ (f : ℕ → List Request). Brings old (Happens what) f) (λ i. λ conn. (sym (a.asks conn)) i) s.asks;
         id = a.id;
       }
 

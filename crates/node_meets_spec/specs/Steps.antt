@@ -14,7 +14,7 @@ use Rattle.node_spec.specs.Steps.{Letter}
 use Rattle.node_core.specs.declared.event.Event as core
 use Rattle.node_core.specs.declared.outs.StepOutputs.{StepOutputs}
 use Rattle.node_core.specs.declared.running.Running.{Running}
-use Rattle.node_core.specs.Account.{letter_of, Sends, Begin, joins_of, AccountsForStep, AccountsForStop}
+use Rattle.node_core.specs.Account.{letter_of, Sends, Begin, Happens, Brings, joins_of, AccountsForStep, AccountsForStop}
 use Rattle.node_core.specs.Values.{seen}
 use Rattle.cluster_safety.specs.Acts.{NotStarted, NotJoined, asked}
 use Rattle.cluster_safety.specs.Runs.{Place, Up, Down, Run, Event, Goes, Fails, Crashes, Starts, StartFails}
@@ -68,9 +68,9 @@ AreAmong messages letters = (k : ℕ) (m : RaftMessage) → slice_get messages k
 
 -- The step is events of the run. All that it says to other nodes is among the run's peer messages; what it says to clients is what the run
 -- said, except for the refusals of messages that read as no request; and what it lends to readers is what the run has handed out. Its
--- engine gave the answers that the events use.
-pub record StepRuns (m : Meaning) (kind : EngineKind) (setup : Setup) (r : Run) (n : ℕ) (new : Running) (begins : List Begin) (outs : StepOutputs)
-    (told_before told_now : Option Told) : Type 0 where
+-- engine gave the answers that the events use. In them its connections ask what the bytes of its event bring to the streams that they had.
+pub record StepRuns (m : Meaning) (kind : EngineKind) (setup : Setup) (r : Run) (n : ℕ) (old new : Running) (event : core.Event) (begins : List Begin)
+    (outs : StepOutputs) (told_before told_now : Option Told) : Type 0 where
   pub letters : List Letter
   pub replies : List (ℕ × Reply)
   pub leads : Leads m kind setup r n (Up (seen new)) letters replies
@@ -79,6 +79,7 @@ pub record StepRuns (m : Meaning) (kind : EngineKind) (setup : Setup) (r : Run) 
   pub tells : Sends replies outs.replies.items
   pub reads : (conn : ℕ) → (run_from r leads.events).jobs n conn ≡ handed_on (r.jobs n) outs.reads.items conn
   pub heard : TellsAll (used_in m kind setup r leads.events leads.hold) told_before told_now
+  pub brings : Brings old (Happens event) (λ conn. asked n conn leads.events)
   pub id : (seen new).raft.id ≡ n
 
 -- A step at a node of a run that ended well, where what came may come there, is events of the run.
@@ -87,7 +88,7 @@ StepsRun m kind =
     (setup : Setup) (past : List Event) (n : ℕ) (old new : Running) (event : core.Event) (outs : StepOutputs) (told_before told_now : Option Told) →
     AllHold m kind setup first_run past → (run past).places n ≡ Up (seen old) → (seen old).raft.id ≡ n →
     (s : AccountsForStep m kind setup old new event outs told_before told_now) → AllArrive m kind (run past) n s.begins →
-    StepRuns m kind setup (run past) n new s.begins outs told_before told_now
+    StepRuns m kind setup (run past) n old new event s.begins outs told_before told_now
 
 -- ---- a step that failed or was stopped
 

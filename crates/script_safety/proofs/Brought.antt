@@ -27,7 +27,7 @@ joined_on k conn (Crashes n ∷ xs) ys a b = joined_on k conn xs ys a b
 joined_on k conn (Starts n servers new ∷ xs) ys a b = joined_on k conn xs ys a b
 joined_on k conn (StartFails n kept ∷ xs) ys a b = joined_on k conn xs ys a b
 
-asked_on : (k conn : ℕ) (xs ys : List Event) → asked k conn (xs ++ ys) ≡ asked k conn xs ++ asked k conn ys
+pub asked_on : (k conn : ℕ) (xs ys : List Event) → asked k conn (xs ++ ys) ≡ asked k conn xs ++ asked k conn ys
 asked_on k conn [] ys = refl
 asked_on k conn (Goes n came added new letters replies jobs ∷ xs) ys = ap (λ (l : List Request). cond (k == n) (asks_in came conn) [] ++ l) (asked_on k conn xs ys) ∙ sym (append_assoc (cond (k == n) (asks_in came conn) []) (asked k conn xs) (asked k conn ys))
 asked_on k conn (Fails n came added kept ∷ xs) ys = ap (λ (l : List Request). cond (k == n) (asks_in came conn) [] ++ l) (asked_on k conn xs ys) ∙ sym (append_assoc (cond (k == n) (asks_in came conn) []) (asked k conn xs) (asked k conn ys))

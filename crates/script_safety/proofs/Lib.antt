@@ -10,3 +10,6 @@ pub mod Showing
 mod Bringing
 mod Brought
 pub mod Completing
+mod Hearing
+mod Wrongs
+mod Telling

@@ -18,9 +18,9 @@ use Rattle.node_spec.specs.Nodes.{KeptIs}
 use Rattle.node_spec.specs.Steps.{Letter, StopsInStart, CompletesStart}
 use Rattle.node_core.specs.declared.event.Event as core
 use Rattle.node_core.specs.declared.running.Running.{Running}
-use Rattle.node_core.specs.Account.{Sends, Begin, Happens, Comes, Compacts, IsMore, AreOf, IsAlone}
+use Rattle.node_core.specs.Account.{Sends, Begin, Happens, Comes, Compacts, IsMore, AreOf, IsAlone, Brings}
 use Rattle.node_core.specs.Values.{seen}
-use Rattle.cluster_safety.specs.Acts.{PlaceIs, RunIs}
+use Rattle.cluster_safety.specs.Acts.{PlaceIs, RunIs, asked}
 use Rattle.cluster_safety.specs.Runs.{Place, Up, Down, Run, Event, Starts as Boots, StartFails, Crashes as Halts, kept_at, nothing_kept, happens, first_run, run_from, AllHold}
 use Rattle.cluster_safety.proofs.Runs.{runs_go_on_hold, first_run_is}
 use Rattle.cluster_safety.proofs.Safes.{runs_are_safe_hold}
@@ -32,6 +32,7 @@ use Rattle.node_meets_spec.proofs.Starting.{leads_by}
 use Rattle.script_cluster.specs.Outcomes.{Standing, Outs, Ending, Steps, Starts, Stops, Fails, Unreadable, Doing, Timeout, Beat, Connect, Bytes, Hangup, Receive, Start, Turn, Does, Crashes}
 use Rattle.script_safety.specs.Slots.{Seat, Runs, Rests, EventIs, StepDone, StopDone, StartDone, SlotEnds, IsUnreadable, SlotCrashes, SlotTurn, SlotPath, setup_of}
 use Rattle.script_safety.specs.Turns.{actor, turns_at, messages_of, messages_in, WasSent, SentTo, AllSentTo, IsDown, EndShows, TurnShows, TurnRuns, AreRun, events_of, HasLoaded, AllLoad}
+use Rattle.script_safety.specs.Hearing.{StepAsks, TurnAsks, StepQuiet, TurnQuiet, AreSeated, first_seats, NodesAreSeated}
 use Rattle.script_safety.specs.Laws.{TurnsAreRuns, RunsHold, NodesAreSafe, LatersAreSafe}
 use Rattle.script_safety.proofs.Bringing.{Brought, true_false, brought, by_doing}
 use Rattle.script_safety.proofs.Answering.{told_are}
@@ -42,6 +43,16 @@ use Rattle.script_safety.proofs.Reading.{snapshots_read}
 SeatIs : ℕ → Seat → Place → Type 0
 SeatIs n (Runs node) place = (place ≡ Up (seen node)) × ((seen node).raft.id ≡ n) × (node.has_links ≡ false)
 SeatIs n (Rests kept) place = place ≡ Down kept
+
+-- what a node is asked to do is one event
+event_same : (doing : Doing) (one other : core.Event) → EventIs doing one → EventIs doing other → one ≡ other
+event_same Timeout one other a b = a ∙ sym b
+event_same Beat one other a b = a ∙ sym b
+event_same (Connect conn) one other a b = a ∙ sym b
+event_same (Bytes conn bytes) one other a b = a ∙ sym b
+event_same (Hangup conn) one other a b = a ∙ sym b
+event_same (Receive message) one other a b = a ∙ sym b
+event_same (Start voters) one other a b = absurd a
 
 module _ (m : Meaning) (kind : EngineKind) (setup : Setup) (r : Run) (n : ℕ) where
   -- ---- what comes
@@ -74,7 +85,7 @@ module _ (m : Meaning) (kind : EngineKind) (setup : Setup) (r : Run) (n : ℕ) w
     -- ---- one turn
 
     module _ (acts : List RuleAct) (was : RunIs m kind setup r acts) where
-      record Done (doing : Doing) (answers : List Answer) (ending : Ending) (new : Seat) : Type 0 where
+      record Done (old : Seat) (doing : Doing) (answers : List Answer) (ending : Ending) (new : Seat) : Type 0 where
         pub place : Place
         pub letters : List Letter
         pub replies : List (ℕ × Reply)
@@ -83,8 +94,10 @@ module _ (m : Meaning) (kind : EngineKind) (setup : Setup) (r : Run) (n : ℕ) w
         pub seat : SeatIs n new place
         pub says : AreAmong (messages_of ending) letters
         pub brings : Brought n doing leads.events
+        pub asks : StepAsks old n doing ending leads.events
+        pub quiet : StepQuiet old replies
 
-      steps_so : (old new : Running) (doing : Doing) (answers : List Answer) (outs : Outs) (standing : Standing) → r.places n ≡ Up (seen old) → (seen old).raft.id ≡ n → old.has_links ≡ false → WasSent sent n doing → StepDone m kind setup old new doing answers outs standing → Done doing answers (Steps outs standing) (Runs new)
+      steps_so : (old new : Running) (doing : Doing) (answers : List Answer) (outs : Outs) (standing : Standing) → r.places n ≡ Up (seen old) → (seen old).raft.id ≡ n → old.has_links ≡ false → WasSent sent n doing → StepDone m kind setup old new doing answers outs standing → Done (Runs old) doing answers (Steps outs standing) (Runs new)
       unfolding SeatIs
       steps_so old new doing answers outs standing up id none sent_so d =
           let s = step_at m kind setup r acts was n old up id d.event new d.said _ _ d.steps (all_arrive doing d.event d.steps.begins d.is sent_so d.steps.are (d.steps.alone none)) in
@@ -105,6 +118,10 @@ module _ (m : Meaning) (kind : EngineKind) (setup : Setup) (r : Run) (n : ℕ) w
             seat = (refl, s.id, d.steps.links ∙ none);
             says = among_them;
             brings = brought n doing d.event d.steps.begins s.leads.events d.is d.steps.are s.stays;
+            asks =
+                λ event is. subst (λ (e : core.Event). Brings old (Happens e) (λ conn. asked n conn s.leads.events))
+                (event_same doing d.event event d.is is) s.brings;
+            quiet = tt;
           }
 
       stops_so : (old : Running) (doing : Doing) (kept : Kept) → r.places n ≡ Up (seen old) → (seen old).raft.id ≡ n → old.has_links ≡ false → WasSent sent n doing → (d : StopDone m kind setup old doing kept) → StopRuns m kind setup r n (d.stops.begins ++ d.stops.last ∷ []) kept
@@ -112,10 +129,10 @@ module _ (m : Meaning) (kind : EngineKind) (setup : Setup) (r : Run) (n : ℕ) w
           stop_at m kind setup r acts was n old up id d.event kept d.stops (all_arrive doing d.event (d.stops.begins ++ d.stops.last ∷ []) d.is sent_so d.stops.are (d.stops.alone none))
 
       -- an event after which the node is down
-      down_so : (doing : Doing) (answers : List Answer) (ending : Ending) (kept : Kept) (letters : List Letter) (replies : List (ℕ × Reply)) (l : Leads m kind setup r n (Down kept) letters replies) → Brought n doing l.events →
-          ((place : Place) (used : List Answer) → IsDown place → EndShows answers ending place letters replies used) → messages_of ending ≡ [] → Done doing answers ending (Rests kept)
+      down_so : (old : Seat) (doing : Doing) (answers : List Answer) (ending : Ending) (kept : Kept) (letters : List Letter) (replies : List (ℕ × Reply)) (l : Leads m kind setup r n (Down kept) letters replies) → Brought n doing l.events →
+          ((place : Place) (used : List Answer) → IsDown place → EndShows answers ending place letters replies used) → messages_of ending ≡ [] → StepAsks old n doing ending l.events → StepQuiet old replies → Done old doing answers ending (Rests kept)
       unfolding SeatIs
-      down_so doing answers ending kept letters replies l brings shows none = record {
+      down_so old doing answers ending kept letters replies l brings shows none asks quiet = record {
         place = Down kept;
         letters = letters;
         replies = replies;
@@ -124,9 +141,11 @@ module _ (m : Meaning) (kind : EngineKind) (setup : Setup) (r : Run) (n : ℕ) w
         seat = refl;
         says = subst (λ (ms : List RaftMessage). AreAmong ms letters) (sym none) (among_none letters);
         brings = brings;
+        asks = asks;
+        quiet = quiet;
       }
 
-      begins_so : (kept loaded : Kept) (new : Running) (answers : List Answer) (standing : Standing) → r.places n ≡ Down kept → (voters : ℕ) → setup ≡ setup_of voters → StartDone voters n kept loaded new answers standing → Done (Start voters) answers (Starts loaded standing) (Runs new)
+      begins_so : (kept loaded : Kept) (new : Running) (answers : List Answer) (standing : Standing) → r.places n ≡ Down kept → (voters : ℕ) → setup ≡ setup_of voters → StartDone voters n kept loaded new answers standing → Done (Rests kept) (Start voters) answers (Starts loaded standing) (Runs new)
       unfolding SeatIs
       begins_so kept loaded new answers standing down voters opens d = record {
         place = Up (seen new);
@@ -137,6 +156,8 @@ module _ (m : Meaning) (kind : EngineKind) (setup : Setup) (r : Run) (n : ℕ) w
         seat = (refl, d.id, d.links);
         says = among_none [];
         brings = record { starts = λ k none. ((λ at. true_false (none at)), tt); joined = λ k conn none. tt; asks = λ k conn none. refl };
+        asks = tt;
+        quiet = refl;
       }
 
       abbrev fails_so : (kept left : Kept) → r.places n ≡ Down kept → StopsInStart setup kept left → Leads m kind setup r n (Down left) [] []
@@ -158,18 +179,18 @@ module _ (m : Meaning) (kind : EngineKind) (setup : Setup) (r : Run) (n : ℕ) w
           none_some : {A : Type 0} {x : A} → None ≡ Some x → ⊥
           none_some e = cc
 
-      ends_so : (old : Seat) (doing : Doing) (answers : List Answer) (ending : Ending) (new : Seat) → SeatIs n old (r.places n) → WasSent sent n doing → SlotEnds m kind setup n old doing answers ending new → Done doing answers ending new
+      ends_so : (old : Seat) (doing : Doing) (answers : List Answer) (ending : Ending) (new : Seat) → SeatIs n old (r.places n) → WasSent sent n doing → SlotEnds m kind setup n old doing answers ending new → Done old doing answers ending new
       unfolding SeatIs
       ends_so (Runs old) doing answers (Steps outs standing) (Runs new) seat was_sent h = steps_so old new doing answers outs standing seat.0 seat.1 seat.2 was_sent h
       ends_so (Runs old) doing answers (Stops keeps) (Rests kept) seat was_sent h =
           let s = stops_so old doing kept seat.0 seat.1 seat.2 was_sent h in
-          down_so doing answers (Stops keeps) kept s.letters s.replies s.leads (brought n doing h.event (h.stops.begins ++ h.stops.last ∷ []) s.leads.events h.is h.stops.are s.stays) (λ place used d. d) refl
+          down_so (Runs old) doing answers (Stops keeps) kept s.letters s.replies s.leads (brought n doing h.event (h.stops.begins ++ h.stops.last ∷ []) s.leads.events h.is h.stops.are s.stays) (λ place used d. d) refl tt tt
       ends_so (Runs old) doing answers (Fails keeps) (Rests kept) seat was_sent h =
           let s = stops_so old doing kept seat.0 seat.1 seat.2 was_sent h in
-          down_so doing answers (Fails keeps) kept s.letters s.replies s.leads (brought n doing h.event (h.stops.begins ++ h.stops.last ∷ []) s.leads.events h.is h.stops.are s.stays) (λ place used d. d) refl
-      ends_so (Rests kept) doing answers (Starts loaded standing) (Runs new) seat was_sent h = subst (λ z. Done z answers (Starts loaded standing) (Runs new)) (sym h.0.is) (begins_so kept loaded new answers standing seat h.0.voters h.0.opens h.1)
-      ends_so (Rests kept) doing answers (Stops keeps) (Rests left) seat was_sent h = down_so doing answers (Stops keeps) left [] [] (fails_so kept left seat h.1) (fails_bring doing left) (λ place used d. d) refl
-      ends_so (Rests kept) doing answers (Fails keeps) (Rests left) seat was_sent h = down_so doing answers (Fails keeps) left [] [] (fails_so kept left seat h.1) (fails_bring doing left) (λ place used d. d) refl
+          down_so (Runs old) doing answers (Fails keeps) kept s.letters s.replies s.leads (brought n doing h.event (h.stops.begins ++ h.stops.last ∷ []) s.leads.events h.is h.stops.are s.stays) (λ place used d. d) refl tt tt
+      ends_so (Rests kept) doing answers (Starts loaded standing) (Runs new) seat was_sent h = subst (λ z. Done (Rests kept) z answers (Starts loaded standing) (Runs new)) (sym h.0.is) (begins_so kept loaded new answers standing seat h.0.voters h.0.opens h.1)
+      ends_so (Rests kept) doing answers (Stops keeps) (Rests left) seat was_sent h = down_so (Rests kept) doing answers (Stops keeps) left [] [] (fails_so kept left seat h.1) (fails_bring doing left) (λ place used d. d) refl tt refl
+      ends_so (Rests kept) doing answers (Fails keeps) (Rests left) seat was_sent h = down_so (Rests kept) doing answers (Fails keeps) left [] [] (fails_so kept left seat h.1) (fails_bring doing left) (λ place used d. d) refl tt refl
       ends_so (Rests kept) doing answers Unreadable (Rests left) seat was_sent h = absurd (all_read kept seat h.1)
       ends_so (Runs old) doing answers (Steps outs standing) (Rests kept) seat was_sent h = absurd h
       ends_so (Runs old) doing answers (Starts loaded standing) new seat was_sent h = absurd h
@@ -192,16 +213,18 @@ module _ (m : Meaning) (kind : EngineKind) (setup : Setup) (r : Run) (n : ℕ) w
 -- ---- any turn
 
 module _ (m : Meaning) (kind : EngineKind) (setup : Setup) where
-  record TurnDone (r : Run) (turn : Turn) (new : Seat) : Type 0 where
+  record TurnDone (r : Run) (turn : Turn) (old new : Seat) : Type 0 where
     pub run : TurnRuns m kind setup r turn
     pub seat : SeatIs (actor turn) new run.place
     pub among : AreAmong (messages_in turn) run.letters
+    pub asks : TurnAsks old turn run.leads.events
+    pub quiet : TurnQuiet old turn run.replies
 
-  turn_so : (r : Run) (sent : List RaftMessage) (among : AreAmong sent r.letters) (acts : List RuleAct) (was : RunIs m kind setup r acts) (turn : Turn) (old new : Seat) → SeatIs (actor turn) old (r.places (actor turn)) → SentTo sent turn → SlotTurn m kind setup (actor turn) old turn new → TurnDone r turn new
+  turn_so : (r : Run) (sent : List RaftMessage) (among : AreAmong sent r.letters) (acts : List RuleAct) (was : RunIs m kind setup r acts) (turn : Turn) (old new : Seat) → SeatIs (actor turn) old (r.places (actor turn)) → SentTo sent turn → SlotTurn m kind setup (actor turn) old turn new → TurnDone r turn old new
   unfolding SeatIs
   turn_so r sent among acts was (Does n doing aim outcome) old new seat was_sent h =
       let d = ends_so m kind setup r n sent among acts was old doing outcome.answers outcome.ending new seat was_sent h in
-      record { run = record { place = d.place; letters = d.letters; replies = d.replies; leads = d.leads; shows = d.shows; brings = by_doing n doing aim outcome d.leads.events d.brings }; seat = d.seat; among = d.says }
+      record { run = record { place = d.place; letters = d.letters; replies = d.replies; leads = d.leads; shows = d.shows; brings = by_doing n doing aim outcome d.leads.events d.brings }; seat = d.seat; among = d.says; asks = d.asks; quiet = d.quiet }
   turn_so r sent among acts was (Crashes n pick) old new seat was_sent h =
       let c = crashes_so m kind setup r n sent among acts was old new seat h in
       let place = Down (kept_at (r.places n)) in
@@ -209,6 +232,8 @@ module _ (m : Meaning) (kind : EngineKind) (setup : Setup) where
         run = record { place = place; letters = []; replies = []; leads = leads_by m kind setup r n place (Halts n) tt refl; shows = record { kept = kept_at (r.places n); down = refl }; brings = record { starts = λ k none. tt; joined = λ k conn none. tt; asks = λ k conn none. refl } };
         seat = subst (λ z. SeatIs n z place) (sym c.1) (ap Down (sym c.2));
         among = among_none [];
+        asks = tt;
+        quiet = refl;
       }
 
   -- ---- all turns
@@ -246,20 +271,39 @@ module _ (m : Meaning) (kind : EngineKind) (setup : Setup) where
   seat_next n k seats next r q now others same at false e =
       subst (λ z. SeatIs k z (q.places k)) (sym (same k e)) (subst (SeatIs k (seats k)) (sym (others k (λ z. eqb-false n k e (sym z)))) (at k))
 
+  -- the seats after a turn
+  next_is : (n : ℕ) (seats next : ℕ → Seat) → ((j : ℕ) → (n == j) ≡ false → next j ≡ seats j) → (k : ℕ) (b : Bool) → (n == k) ≡ b
+      → next k ≡ cond b (next n) (seats k)
+  next_is n seats next same k true e = ap next (sym (eqb-true n k e))
+  next_is n seats next same k false e = same k e
+
   turns_so : (turns : List Turn) (r : Run) (sent : List RaftMessage) (among : AreAmong sent r.letters) (acts : List RuleAct) (was : RunIs m kind setup r acts) (seats ends : ℕ → Seat) →
-      ((n : ℕ) → SeatIs n (seats n) (r.places n)) → ((n : ℕ) → SlotPath m kind setup n (seats n) (turns_at n turns) (ends n)) → AllSentTo sent turns → AreRun m kind setup r turns
-  turns_so [] r sent among acts was seats ends at paths all = tt
+      ((n : ℕ) → SeatIs n (seats n) (r.places n)) → ((n : ℕ) → SlotPath m kind setup n (seats n) (turns_at n turns) (ends n)) → AllSentTo sent turns →
+      (is : AreRun m kind setup r turns) × AreSeated m kind setup r seats ends turns is
+  turns_so [] r sent among acts was seats ends at paths all = (tt, paths)
   turns_so (turn ∷ turns) r sent among acts was seats ends at paths all =
       let n = actor turn in
       let next : ℕ → Seat = λ k. nexts k (seats k) turn (turns_at k turns) (ends k) (n == k) (paths k) in
-      let one = turn_so r sent among acts was turn (seats n) (next n) (at n) all.0 (so_now n (seats n) turn (turns_at n turns) (ends n) (n == n) (eq-eqb n n refl) (paths n)) in
+      let acts_so = so_now n (seats n) turn (turns_at n turns) (ends n) (n == n) (eq-eqb n n refl) (paths n) in
+      let one = turn_so r sent among acts was turn (seats n) (next n) (at n) all.0 acts_so in
       let q = run_from r one.run.leads.events in
-      let g = runs_go_on_hold m kind setup r acts one.run.leads.events was one.run.leads.hold in (
-        one.run,
-        turns_so turns q (sent ++ messages_in turn) (among_join sent (messages_in turn) r.letters one.run.letters q.letters one.run.leads.letters_are among one.among) (acts ++ g.later) g.is next ends
-            (λ k. seat_next n k seats next r q (subst (SeatIs n (next n)) (sym one.run.leads.here) one.seat) (λ j e. (one.run.leads.others j e).0) (λ j e. still j (seats j) turn (turns_at j turns) (ends j) (n == j) e (paths j)) at (n == k) refl)
-            (λ k. path_on k (seats k) turn (turns_at k turns) (ends k) (n == k) (paths k))
-            all.1,
+      let g = runs_go_on_hold m kind setup r acts one.run.leads.events was one.run.leads.hold in
+      let same : (j : ℕ) → (n == j) ≡ false → next j ≡ seats j = λ j e. still j (seats j) turn (turns_at j turns) (ends j) (n == j) e (paths j) in
+      let sent_so = among_join sent (messages_in turn) r.letters one.run.letters q.letters one.run.leads.letters_are among one.among in
+      let here : SeatIs n (next n) (q.places n) = subst (SeatIs n (next n)) (sym one.run.leads.here) one.seat in
+      let seats_so : (k : ℕ) → SeatIs k (next k) (q.places k) =
+      λ k. seat_next n k seats next r q here (λ j e. (one.run.leads.others j e).0) same at (n == k) refl in
+      let rest = turns_so turns q (sent ++ messages_in turn) sent_so (acts ++ g.later) g.is next ends seats_so
+      (λ k. path_on k (seats k) turn (turns_at k turns) (ends k) (n == k) (paths k))
+      all.1 in (
+        (one.run, rest.0),
+        (
+          next n,
+          acts_so,
+          one.asks,
+          one.quiet,
+          subst (λ (z : ℕ → Seat). AreSeated m kind setup q z ends turns rest.0) (λ i. λ k. next_is n seats next same k (n == k) refl i) rest.1,
+        ),
       )
 
   hold_join : (xs ys : List Event) (r : Run) → AllHold m kind setup r xs → AllHold m kind setup (run_from r xs) ys → AllHold m kind setup r (xs ++ ys)
@@ -319,10 +363,13 @@ module _ (m : Meaning) (kind : EngineKind) (setup : Setup) where
 -- ---- the laws
 
 module _ (m : Meaning) (kind : EngineKind) where
-  pub turns_are_runs_hold : TurnsAreRuns m kind
+  pub nodes_are_seated_hold : NodesAreSeated m kind
   unfolding SeatIs
-  turns_are_runs_hold setup turns d =
-      turns_so m kind setup turns first_run [] (among_none []) [] (first_run_is m kind setup) (λ n. Rests nothing_kept) d.ends (λ n. refl) d.paths d.sent
+  nodes_are_seated_hold setup turns d =
+      turns_so m kind setup turns first_run [] (among_none []) [] (first_run_is m kind setup) first_seats d.ends (λ n. refl) d.paths d.sent
+
+  pub turns_are_runs_hold : TurnsAreRuns m kind
+  turns_are_runs_hold setup turns d = (nodes_are_seated_hold setup turns d).0
 
   pub runs_hold_hold : RunsHold m kind
   runs_hold_hold setup turns is = all_hold m kind setup turns first_run is

@@ -5,3 +5,6 @@ pub mod Places
 pub mod Mails
 pub mod Complete
 pub mod Showing
+pub mod Hearing
+pub mod Wrong
+pub mod Telling

@@ -17,6 +17,7 @@ use Rattle.node_core.specs.declared.event.Event.TheVariants as events
 use Rattle.node_core.specs.declared.outs.StepOutputs as core_outs
 use Rattle.node_core.specs.declared.running.Running.{Running}
 use Rattle.node_core.specs.Account.{AccountsForStep, AccountsForStop}
+use Rattle.node_core.specs.Conns.{StreamsOfStep}
 use Rattle.node_core.specs.Core.{core_of}
 use Rattle.node_core.specs.Exact.{StepsExactly}
 use Rattle.node_core.specs.ExactParts.{Answered}
@@ -62,7 +63,7 @@ has_told answers = Some (record { answers = answers; cut = false })
 abbrev pub outs_of : core_outs.StepOutputs → Outs
 outs_of outs = record { replies = outs.replies.items; closed = outs.closed.items; messages = outs.messages.items }
 
--- A step ended well: it said this, its engine answered this, and the node is so.
+-- A step ended well: it said this, its engine answered this, and the node is so. Clients' streams have what came on them.
 pub record StepDone (m : Meaning) (kind : EngineKind) (setup : Setup) (old new : Running) (doing : Doing) (answers : List Answer) (outs : Outs)
     (standing : Standing) : Type 0 where
   pub event : core.Event
@@ -70,6 +71,7 @@ pub record StepDone (m : Meaning) (kind : EngineKind) (setup : Setup) (old new :
   pub said : core_outs.StepOutputs
   pub before : List Answer
   pub steps : AccountsForStep m kind setup old new event said (has_told before) (has_told (before ++ answers))
+  pub conns : StreamsOfStep event old new said
   pub outs_are : outs ≡ outs_of said
   pub stands : SlotShowsNode (seen new) standing
   -- By these answers its core became that of the node after it, and by no others.

@@ -3,11 +3,16 @@
 #![tactic(auto)]
 
 ghost use Rattle.script_safety.specs.Complete.{ScriptsAreComplete};
+ghost use Rattle.script_safety.specs.Hearing.{NodesAreSeated, ScriptsAreHeard, SeatsHear, SeatsSplit};
 ghost use Rattle.script_safety.specs.Laws.{LatersAreSafe, NodesAreSafe, RunsHold, TurnsAreRuns, TurnsBring};
 ghost use Rattle.script_safety.specs.Mails.{LoadsNeverFail, MailIsSent, ScriptsAreSafe};
 ghost use Rattle.script_safety.specs.Places.{CrashesOn, DisksCrashOn, FallsOn, FindsOn, PlacesBegin, StartsFail, StartsOn, StepsOn};
 ghost use Rattle.script_safety.specs.Showing.{ShownAlike};
+ghost use Rattle.script_safety.specs.Telling.{SeatsTell};
 
+pub mod refusals;
+
+use node_core::requests_are_spelled;
 use sql_engine::Engine;
 
 /// If each node of a script does in its turns what whole nodes do, and receives only messages that were sent to it, the turns are a
@@ -43,6 +48,24 @@ pub fn scripts_are_safe<E: Engine>()
     ensures mail { MailIsSent }
     ensures safe { (kind : _) → ScriptsAreSafe (E.meaning kind) kind }
     ensures loads { (kind : _) → LoadsNeverFail (E.meaning kind) kind }
+{}
+
+/// What whole nodes do in a script is a run through their seats, in which each step asks what its bytes bring, and so is each front of it. If a
+/// node has not gone down since a connection came, the connection has asked the requests that a front of its bytes encodes. If it is still open
+/// these are those of all its bytes, unless one had no room.
+pub fn bytes_are_asked<E: Engine>()
+    ensures seated { (kind : _) → NodesAreSeated (E.meaning kind) kind }
+    ensures split { (kind : _) → SeatsSplit (E.meaning kind) kind }
+    ensures hear { (kind : _) → SeatsHear (E.meaning kind) kind }
+    ensures scripts { (kind : _) → ScriptsAreHeard (E.meaning kind) kind }
+{
+    requests_are_spelled();
+}
+
+/// If no turn of a node fails or is stopped, its clients are sent what it replies in this run, in order, with the refusals of messages that read as
+/// no request between.
+pub fn replies_are_sent<E: Engine>()
+    ensures { (kind : _) → SeatsTell (E.meaning kind) kind }
 {}
 
 /// Two nodes of a script that stand, at one moment, with as many entries applied have the same files, so what is shown of them is the

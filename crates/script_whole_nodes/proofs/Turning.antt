@@ -57,7 +57,7 @@ use Rattle.script_whole_nodes.specs.declared.node_slot.NodeSlot.{NodeSlot}
 use Rattle.script_whole_nodes.specs.Happening.{core_event}
 use Rattle.script_whole_nodes.specs.Lives.{FoundBy, Lives}
 use Rattle.script_whole_nodes.specs.Seats.{HasFallen, IsQuiet, Sits, SitsWell, place_of, place_with, standing_of}
-use Rattle.script_whole_nodes.specs.Turns.{ActsExactly, MadeActs, HasActed, HasStopped, FallsTo, IsFound, IsFoundBy, IsStartedIn, KeepsUp, Knows, LeavesShort, NodeStarted, NoneStarted, ShowsFiles, StartsBy, running_in, states_in}
+use Rattle.script_whole_nodes.specs.Turns.{ActsExactly, MadeActs, HasActed, HasStopped, FallsTo, IsFound, IsFoundBy, IsStartedIn, KeepsUp, Knows, LeavesShort, NodeStarted, NoneStarted, ShowsFiles, StartsBy, running_in, states_in, StreamsFollow}
 use Rattle.script_whole_nodes.proofs.Living.{life_falls, life_on, rest_is_fair}
 
 known_is : (states P : Disk Text → Type 0) → Known true states P → (d : Disk Text) × states d × P d
@@ -205,6 +205,7 @@ step_leads old mid new event aim said outs (Ok came) of_kind quiet acted well ar
           said = said;
           before = [];
           steps = acts_at old.kind old.engine mid.engine acted.was acted.now (core_event event) said came.answers (voters_from voters 1) of_kind (subst (IsQuiet old.engine) acted.was_is quiet) answers.0 answers.1 acted.acts;
+          conns = acted.conns;
           outs_are = are;
           stands = record { term = refl; role = refl; applied = acted.keeps.applied; databases = refl };
           exact = exact_at old.kind old.engine mid.engine acted.was acted.now (core_event event) said came.answers of_kind (subst (IsQuiet old.engine) acted.was_is quiet) answers.0 answers.1 acted.exact;
@@ -341,14 +342,15 @@ keeps_up disk mid now_disk was now same stored applied =
     record { stored = λ kept. subst (λ (c : Contents). IsKept true (states_in c) (replica_of now)) (sym same) (stored kept); applied = applied }
 
 pub has_acted : (old new : NodeSlot) (was now : Node) (event taken : Event) (outs : CoreOuts) (disk : Contents) → old.node ≡ Some was → new.node ≡ Some now → taken ≡ event → disk ≡ old.disk.contents
-    → MadeActs old.engine new.engine was now taken outs → ActsExactly old.engine new.engine was now taken outs → ShowsFiles now → KeepsUp disk new.disk.contents was now → HasActed old new event outs
-has_acted old new was now event taken outs disk was_is now_is is same acts exact files keeps = record {
+    → MadeActs old.engine new.engine was now taken outs → ActsExactly old.engine new.engine was now taken outs → StreamsFollow was now taken outs → ShowsFiles now → KeepsUp disk new.disk.contents was now → HasActed old new event outs
+has_acted old new was now event taken outs disk was_is now_is is same acts exact conns files keeps = record {
   was = was;
   now = now;
   was_is = was_is;
   now_is = now_is;
   acts = subst (λ (e : Event). MadeActs old.engine new.engine was now e outs) is acts;
   exact = subst (λ (e : Event). ActsExactly old.engine new.engine was now e outs) is exact;
+  conns = subst (λ (e : Event). StreamsFollow was now e outs) is conns;
   files = files;
   keeps = subst (λ (d : Contents). KeepsUp d new.disk.contents was now) same keeps;
 }

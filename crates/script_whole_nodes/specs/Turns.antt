@@ -19,6 +19,7 @@ use Rattle.node_core.specs.declared.node.Node.{Node}
 use Rattle.node_core.specs.declared.outs.StepOutputs.{StepOutputs as CoreOuts}
 use Rattle.node_core.specs.declared.running.Running.{Running}
 use Rattle.node_core.specs.Account.{AccountsForStep, AccountsForStop}
+use Rattle.node_core.specs.Conns.{StreamsOfStep}
 use Rattle.node_core.specs.Core.{core_of}
 use Rattle.node_core.specs.Exact.{StepsExactly}
 use Rattle.node_core.specs.ExactParts.{Answered}
@@ -67,6 +68,10 @@ ActsExactly engine engine_now was now event outs =
     Answered (Some (told_by engine.noted engine.cut)) (Some (told_by engine_now.noted engine_now.cut))
     (StepsExactly (any_meaning (any_kind engine.engine)) (any_kind engine.engine) event (core_of was.running) (core_of now.running) outs)
 
+-- Clients' streams have what the event brought to them, and messages were taken from their fronts.
+abbrev pub StreamsFollow : Node → Node → Event → CoreOuts → Type 0
+StreamsFollow was now event outs = StreamsOfStep event was.running now.running outs
+
 -- its databases are those that its core has, in the order of their names
 abbrev pub ShowsFiles : Node → Type 0
 ShowsFiles node = contents_of (databases_of node) ≡ contents_in (core_of node.running).files
@@ -89,6 +94,7 @@ pub record HasActed (old new : NodeSlot) (event : Event) (outs : CoreOuts) : Typ
   pub now_is : new.node ≡ Some now
   pub acts : MadeActs old.engine new.engine was now event outs
   pub exact : ActsExactly old.engine new.engine was now event outs
+  pub conns : StreamsFollow was now event outs
   pub files : ShowsFiles now
   pub keeps : KeepsUp old.disk.contents new.disk.contents was now
 

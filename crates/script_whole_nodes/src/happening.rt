@@ -9,7 +9,7 @@ ghost use Rattle.node_core.specs.Values.{has_links, kept_by};
 ghost use Rattle.node_core.specs.Whole.{Agrees, IsSound};
 ghost use Rattle.script_whole_nodes.specs.Happening.{core_event};
 ghost use Rattle.script_whole_nodes.specs.Seats.{IsSeated, RunsWell, Sits};
-ghost use Rattle.script_whole_nodes.specs.Turns.{ActsExactly, MadeActs, HasActed, HasStopped, IsStartedIn, KeepsUp, LeavesShort, NodeStarted, NoneStarted, ShowsFiles, StartsBy};
+ghost use Rattle.script_whole_nodes.specs.Turns.{ActsExactly, MadeActs, HasActed, HasStopped, IsStartedIn, KeepsUp, LeavesShort, NodeStarted, NoneStarted, ShowsFiles, StartsBy, StreamsFollow};
 
 use crate::node_slot::{NodeSlot, new_engine};
 use crate::opening::opening_servers;
@@ -90,6 +90,7 @@ fn step_in(
     ensures well { OnOk result (RunsWell (any_known engine.new.engine) node.new) }
     ensures acts { IfOk result (MadeActs engine.old engine.new node.old node.new event) }
     ensures exact { IfOk result (ActsExactly engine.old engine.new node.old node.new event) }
+    ensures conns { IfOk result (StreamsFollow node.old node.new event) }
     ensures files { OnOk result (ShowsFiles node.new) }
     ensures keeps { OnOk result (KeepsUp disk.old.contents disk.new.contents node.old node.new) }
     ensures leaves { OnErr result (LeavesShort engine.old disk.old.contents disk.new.contents node.old event) }

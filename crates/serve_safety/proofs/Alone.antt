@@ -85,7 +85,7 @@ module _ (m : Meaning) (kind : EngineKind) (setup : Setup) (n : ℕ) where
   step_on : (past : List Event) (jobs : ℕ → Option Job) (old new : Running) (event : core.Event) (o : StepOutputs) (before after : Option Told) →
       Alone m kind setup n past jobs old →
       (s : AccountsForStep m kind setup old new event o before after) → ComesAlone m kind jobs event →
-      (one : StepRuns m kind setup (run past) n new s.begins o before after) × Alone m kind setup n (past ++ one.leads.events) (handed_on jobs o.reads.items) new
+      (one : StepRuns m kind setup (run past) n old new event s.begins o before after) × Alone m kind setup n (past ++ one.leads.events) (handed_on jobs o.reads.items) new
   step_on past jobs old new event o before after a s comes =
       let one = steps_run_hold m kind setup past n old new event o before after a.hold a.up a.id s (all_arrive m kind (run past) n jobs a.jobs_are event s.begins s.are comes (s.alone a.links)) in
       let more = one.leads.events in

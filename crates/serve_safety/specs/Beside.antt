@@ -26,7 +26,7 @@ PathRuns m kind setup past n old before (event ∷ events) [] new after path = U
 PathRuns m kind setup past n old before (event ∷ events) (o ∷ more) new after path =
     (others : List Event) → AllHold m kind setup (run past) others → LeavesAlone (run past) n others →
     AllArrive m kind (run (past ++ others)) n path.2.begins →
-    (one : StepRuns m kind setup (run (past ++ others)) n path.0 path.2.begins o before path.1)
+    (one : StepRuns m kind setup (run (past ++ others)) n old path.0 event path.2.begins o before path.1)
     × AllHold m kind setup first_run ((past ++ others) ++ one.leads.events)
     × PathRuns m kind setup ((past ++ others) ++ one.leads.events) n path.0 path.1 events more new after path.3
 
