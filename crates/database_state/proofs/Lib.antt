@@ -18,3 +18,4 @@ pub mod RestoredLaws
 pub mod SnapshotLaws
 pub mod RestoringSteps
 pub mod ImageNumbers
+pub mod Committing

@@ -3,6 +3,7 @@ pub mod Files
 pub mod AsMap
 pub mod Databases
 pub mod ImageNumbers
+pub mod Commits
 pub mod Pins
 pub mod Machines
 pub mod Stated

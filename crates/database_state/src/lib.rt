@@ -1,6 +1,7 @@
 //! The state machine of a node: what replicated commands make of its databases, each under readers.
 #![tactic(auto)]
 
+mod commit;
 mod database;
 mod fault;
 mod laws;
@@ -14,6 +15,7 @@ mod readers;
 mod restoring;
 mod snapshot;
 
+pub use commit::Commit;
 pub use database::Database;
 pub use fault::SnapFault;
 pub use laws::{

@@ -1,11 +1,12 @@
 //! The state machine: databases by their names.
 
-ghost use Rattle.std.specs.Prelude.{◌≡◌, [], map, OnOk, OnErr, IfOk};
+ghost use Rattle.std.specs.Prelude.{◌≡◌, [], map, OnOk, OnErr, IfOk, IfSome};
 ghost use Rattle.std.specs.Arc.{arc_value};
 ghost use Rattle.std.specs.Option.{option_map};
 ghost use Rattle.dq_base.specs.Images.{page_count};
 ghost use Rattle.log_commands.specs.Numbers.{HasLowNumbers};
 ghost use Rattle.page_store.specs.Store.{newest, newest_image};
+ghost use Rattle.database_state.specs.Commits.{Commits};
 ghost use Rattle.database_state.specs.ByName.{change_first, Ascend};
 ghost use Rattle.database_state.specs.declared.database.Database.{Database};
 ghost use Rattle.database_state.specs.Files as of_files;
@@ -14,6 +15,7 @@ ghost use Rattle.database_state.specs.Machines.{names_of, AllShort};
 ghost use Rattle.database_state.specs.Pins.{Pinning, StillPinned};
 ghost use Rattle.database_state.specs.Databases.{contents_of, has_name, named, frames, undone, moved, changed, act, tx_pending};
 
+use crate::commit::{Commit, commit_of};
 use crate::database::Database;
 use crate::lookup::{find_named, named, place_of};
 use dq_base::{Image, ImageNumber, Name, NumberedPage};
@@ -264,6 +266,15 @@ impl Machine {
             place: database.place as u64,
             commits: database.store.newest(),
         })
+    }
+
+    /// The commit that a command would make, with the numbers of the newest image before and after. `None` if it commits nothing, if its
+    /// database isn't there or has pages pending, which the commit would have too, or if its pages can't be applied. Constant cost but
+    /// for a look at each page's number, and the look-up.
+    pub fn commit_of<'c>(&self, command: &'c Command) -> Option<Commit<'c>>
+        ensures { IfSome result (λ commit. Commits self.now command.now commit.pages.now commit.from commit.to) }
+    {
+        commit_of(self.databases.as_slice(), command)
     }
 
     /// The names of all databases, ascending by their bytes.

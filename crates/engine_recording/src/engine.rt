@@ -4,7 +4,7 @@ ghost use Rattle.engine_recording.specs.Noting.{note_of};
 
 use crate::copying::note;
 use crate::recorded_item::RecordedItem;
-use dq_base::{Image, ImageNumber};
+use dq_base::{Image, ImageNumber, NumberedPage};
 use sql_engine::{Engine, EngineFault, ImageNumbers, StatementResult};
 use std::alloc::{AllocError, Global};
 use std::marker::Model;
@@ -125,6 +125,10 @@ impl<E: Engine> Engine for RecordingEngine<E> {
 
     fn ready(&mut self, image: &Image, number: ImageNumber) {
         self.engine.ready(image, number);
+    }
+
+    fn committed(&mut self, from: ImageNumber, pages: &[NumberedPage], to: ImageNumber) {
+        self.engine.committed(from, pages, to);
     }
 
     fn forget(&mut self) {

@@ -12,4 +12,4 @@ pub use change::add_changed;
 pub use numbers::{add_numbers, in_order};
 pub use shown::{ImagePages, are_none, change_between};
 pub use touched_image::TouchedImage;
-pub use undoing::{Undo, apply_noted, put_back_all};
+pub use undoing::{Undo, apply_noted, put_back_all, undo_of_change};

@@ -96,6 +96,20 @@ impl Undo {
     }
 }
 
+/// What puts an image back over which the pages of a change are applied, which state these lengths.
+pub fn undo_of_change(
+    alloc: Global,
+    image: &Image,
+    pages: &[NumberedPage],
+    lengths: Lengths,
+) -> Result<Undo, AllocError>
+    requires change { IsChange image.now pages.now }
+    requires lengths { StateLengths pages.now lengths.main lengths.side }
+    ensures { IfOk result (λ undo. undoing.undone undo (applied image.now pages.now) ≡ image.now) }
+{
+    Undo::of(alloc, image, pages, lengths)
+}
+
 /// Puts an image back by each of these, the last one first, and forgets them.
 pub fn put_back_all(alloc: Global, undoes: &mut Vec<Undo>, image: &mut Image)
     ensures { image.new ≡ all_undone undoes.old.items image.old }

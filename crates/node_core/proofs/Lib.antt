@@ -17,6 +17,7 @@ mod Besides
 mod Accounting
 mod ClientMoves
 mod ApplyingTurns
+pub mod Informing
 mod TurnsOf
 mod Beginning
 mod SnapshotMoves

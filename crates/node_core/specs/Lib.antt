@@ -15,6 +15,7 @@ pub mod Voters
 pub mod Account
 pub mod Performing
 pub mod Applying
+pub mod Informing
 pub mod Posting
 pub mod Taking
 pub mod Duties

@@ -30,8 +30,9 @@ ghost use Rattle.node_core.specs.Stepping.{StaysAgreed};
 ghost use Rattle.node_core.specs.Whole.{IsGoing, IsLed};
 
 use crate::fault::NodeFault;
+use crate::informing::{commit_in, inform};
 use crate::running::{Running, one_more};
-use applied_state::{Applied, AppliedEffect};
+use applied_state::{Applied, AppliedEffect, content_of};
 use database_state::{Database, Machine};
 use node_spec::{logs_turn, stretches_join};
 use raft_core::RaftEvent;
@@ -107,13 +108,13 @@ impl Running {
         ensures exact { OnOk result (Answered (E.told engine.old) (E.told engine.new)
             (ExactEntry (E.meaning (E.kind engine.old)) (E.kind engine.old) (core_of self.old) (core_of self.new))) }
     {
-        let effect = self.apply_one()?;
+        let effect = self.apply_one(engine)?;
         self.run_due(engine)?;
         self.do_duties(&effect)
     }
 
-    /// Applies the next entry, and tells the client whose proposal ends with it.
-    fn apply_one(&mut self) -> Result<AppliedEffect, NodeFault>
+    /// Applies the next entry, of whose commit the engine is informed, and tells the client whose proposal ends with it.
+    fn apply_one<E: Engine>(&mut self, engine: &mut E) -> Result<AppliedEffect, NodeFault>
         requires going { IsGoing self.old }
         requires more { self.old.applied.index < self.old.replica.raft.commit }
         ensures conns { OnOk result (KeepsConns self.old self.new) }
@@ -121,21 +122,24 @@ impl Running {
         ensures index { OnOk result (self.new.applied.index ≡ suc self.old.applied.index) }
         ensures replica { self.new.replica ≡ self.old.replica }
         ensures wants { IfErr result (λ f. f ≡ fault.NoMemory) }
-        ensures agrees { StaysAgreed self.old self.new }
+        ensures agrees { Agrees (E.known engine.old) self.old.clients self.old.applied.machine →
+            Agrees (E.known engine.new) self.new.clients self.new.applied.machine }
+        ensures engine { Stays (E.kind engine.old) (E.kind engine.new) (E.refused_openings engine.old) (E.refused_openings engine.new) }
+        ensures told { E.told engine.new ≡ E.told engine.old }
         ensures due { self.new.due.items ≡ self.old.due.items }
         ensures office { self.new.office ≡ self.old.office }
         ensures applies { OnOk result (AppliesEntry self.old self.new) }
         ensures exact { IfOk result (λ effect. ExactTake entry_done (core_of self.old) (core_of self.new) effect) }
     {
         self.databases_stand();
-        let effect = self.apply_entry()?;
+        let effect = self.apply_entry(engine)?;
         self.tell_applied()?;
         self.databases_stand();
         Ok(effect)
     }
 
-    /// Applies the next entry, and says what it was.
-    fn apply_entry(&mut self) -> Result<AppliedEffect, NodeFault>
+    /// Applies the next entry, of whose commit the engine is informed, and says what it was.
+    fn apply_entry<E: Engine>(&mut self, engine: &mut E) -> Result<AppliedEffect, NodeFault>
         requires going { IsGoing self.old }
         requires more { self.old.applied.index < self.old.replica.raft.commit }
         ensures links { self.new.view.links ≡ self.old.view.links }
@@ -144,7 +148,10 @@ impl Running {
         ensures index { OnOk result (self.new.applied.index ≡ suc self.old.applied.index) }
         ensures replica { self.new.replica ≡ self.old.replica }
         ensures wants { IfErr result (λ f. f ≡ fault.NoMemory) }
-        ensures agrees { StaysAgreed self.old self.new }
+        ensures agrees { Agrees (E.known engine.old) self.old.clients self.old.applied.machine →
+            Agrees (E.known engine.new) self.new.clients self.new.applied.machine }
+        ensures engine { Stays (E.kind engine.old) (E.kind engine.new) (E.refused_openings engine.old) (E.refused_openings engine.new) }
+        ensures told { E.told engine.new ≡ E.told engine.old }
         ensures due { self.new.due.items ≡ self.old.due.items }
         ensures entry { OnOk result (TakesEntry self.old self.new) }
         ensures clients { OnOk result (clients_in self.new ≡ clients_in self.old) }
@@ -155,7 +162,10 @@ impl Running {
     {
         let index = one_more(self.applied.index)?;
         let entry = self.replica.entry(index).unwrap();
+        let content = content_of(self.alloc, entry)?;
+        let commit = commit_in(&self.applied.machine, &content);
         let effect = apply(self.alloc, &mut self.applied, entry)?;
+        inform(commit, engine);
         self.members.settle(index);
         if !changes_servers(&effect) {
             return Ok(effect);

@@ -7,6 +7,7 @@ mod comparing;
 mod event;
 mod fault;
 mod laws;
+mod informing;
 mod leading;
 mod links;
 mod node;

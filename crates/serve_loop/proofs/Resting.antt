@@ -10,16 +10,16 @@ use Rattle.page_store.specs.Store.{newest_image}
 use Rattle.disk_model.specs.Disk.{Disk}
 use Rattle.disk_model.specs.Trait.{Text}
 use Rattle.sql_engine.specs.declared.kind.EngineKind.{EngineKind}
-use Rattle.sql_engine.specs.Known.{Known, Knows, MayKnowBeside, was, handed}
+use Rattle.sql_engine.specs.Known.{Known, Knows, MayKnowBeside}
 use Rattle.sql_engine.specs.Meanings.{Meaning, Told}
-use Rattle.sql_engine.proofs.Knowing.{of_contained}
 use Rattle.database_state.specs.declared.database.Database.{Database}
 use Rattle.database_state.specs.Databases.{has_name, named}
 use Rattle.database_state.specs.ImageNumbers.{Numbered, number_of, numbered}
-use Rattle.session_statements.specs.Agreeing.{IsNamed, Agree, Stands, as_base}
+use Rattle.session_statements.specs.Agreeing.{Agree, Stands, as_base}
 use Rattle.session_statements.proofs.Agreeing.{may_run, joined}
 use Rattle.session_statements.proofs.AgreeingOn.{numbered_in}
 use Rattle.node_core.specs.declared.node.Node.{Node}
+use Rattle.node_core.proofs.Informing.{told_agrees}
 use Rattle.serve_traits.specs.declared.event.Event.{Event}
 use Rattle.session_outcomes.specs.declared.job.Read.{Read}
 use Rattle.serve_loop.specs.declared.step_report.StepReport.{StepReport}
@@ -56,24 +56,6 @@ newest_stands works databases name number image newest =
     found_stands works databases (named name databases) number image (found_in (has_name name) databases) newest.numbered newest.shown
 
 -- ---- no number represents two images where an engine is informed of one that stands
-
-beside : (known works : List Known) (next : ℕ) (bases : List Numbered) (number : ImageNumber) (image : Image)
-    (a : Agree known (record { number = number; image = image } ∷ works) next bases) (k : Known) → MayKnowBeside image number known k
-    → IsNamed a.working a.newest next bases k.number k.image
-beside known works next bases number image a k (was c) =
-    of_contained (λ (k : Known). IsNamed a.working a.newest next bases k.number k.image) known k a.knows c
-beside known works next bases number image a k (handed e) =
-    subst (λ (k : Known). IsNamed a.working a.newest next bases k.number k.image) (sym e) (a.works_so 0 k (omega arith))
-
-told_agrees : (known now works : List Known) (next : ℕ) (bases : List Numbered) (number : ImageNumber) (image : Image)
-    → Agree known (record { number = number; image = image } ∷ works) next bases → All (MayKnowBeside image number known) now → Agree now works next bases
-told_agrees known now works next bases number image a more = record {
-  working = a.working;
-  newest = a.newest;
-  knows = λ k d lt. beside known works next bases number image a (get_or now k d) (more k d lt);
-  works_so = λ k d lt. a.works_so (suc k) d (omega (arith, lt));
-  stands_so = a.stands_so;
-}
 
 -- the databases are those of a machine that is lent
 module _ (known works : List Known) (next : ℕ) (databases lent : List Database) (name : List ℕ) (number : ImageNumber) (image : Image)

@@ -4,7 +4,7 @@ ghost use Rattle.std.specs.Prelude.{[], None};
 ghost use Rattle.sql_engine.specs.declared.kind.EngineKind.TheVariants.{Sqlite};
 ghost use Rattle.sql_engine.specs.Cells.{cells};
 
-use dq_base::{Image, ImageNumber};
+use dq_base::{Image, ImageNumber, NumberedPage};
 use sql_engine::{CellEngine, Engine, EngineFault, ImageNumbers, StatementResult};
 use std::alloc::AllocError;
 use wire_words::Value;
@@ -75,6 +75,8 @@ impl Engine for LifeEngine {
     }
 
     fn ready(&mut self, _image: &Image, _number: ImageNumber) {}
+
+    fn committed(&mut self, _from: ImageNumber, _pages: &[NumberedPage], _to: ImageNumber) {}
 
     fn forget(&mut self) {}
 }

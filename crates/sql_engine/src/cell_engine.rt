@@ -7,7 +7,7 @@ use crate::cell_answers::run_statement;
 use crate::engine::Engine;
 use crate::fault::EngineFault;
 use crate::image_numbers::ImageNumbers;
-use dq_base::{Image, ImageNumber};
+use dq_base::{Image, ImageNumber, NumberedPage};
 use std::alloc::{AllocError, Global};
 use wire_words::Value;
 
@@ -66,6 +66,8 @@ impl Engine for CellEngine {
     }
 
     fn ready(&mut self, _image: &Image, _number: ImageNumber) {}
+
+    fn committed(&mut self, _from: ImageNumber, _pages: &[NumberedPage], _to: ImageNumber) {}
 
     fn forget(&mut self) {}
 }

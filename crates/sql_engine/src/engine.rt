@@ -1,7 +1,7 @@
 use crate::answer::StatementResult;
 use crate::fault::EngineFault;
 use crate::image_numbers::ImageNumbers;
-use dq_base::{Image, ImageNumber};
+use dq_base::{Image, ImageNumber, NumberedPage};
 use std::alloc::AllocError;
 use wire_words::Value;
 
@@ -22,6 +22,7 @@ pub trait Engine: Sized {
     ghost use Rattle.std.specs.Prelude.{◌≡◌, ◌≤◌, ℕ, [], List, Option, All, IfOk, IfErr};
     ghost use Rattle.dq_base.specs.declared.images.Image.{Image};
     ghost use Rattle.dq_base.specs.declared.image_number.ImageNumber.{ImageNumber};
+    ghost use Rattle.dq_base.specs.Applying.{applied};
     ghost use Rattle.sql_engine.specs.declared.kind.EngineKind.{EngineKind};
     ghost use Rattle.sql_engine.specs.Meanings.{Meaning, Answers, Faults, CountsOpenings, IsCutBy, Stays, Told, Tells, told_anew};
     ghost use Rattle.sql_engine.specs.Known.{Known, Knows, MayRun, MayKnow, MayKnowBeside};
@@ -84,6 +85,15 @@ pub trait Engine: Sized {
         ensures ready { gets_ready image.now number self.old self.new }
         ensures stays { Stays (kind self.old) (kind self.new) (refused_openings self.old) (refused_openings self.new) }
         ensures known { All (MayKnowBeside image.now number (known self.old)) (known self.new) }
+        ensures told { told self.new ≡ told self.old };
+
+    /// Informs the engine that these pages were committed over the newest image of a number, and that the image to which they lead is the
+    /// newest one by another number. If it has that image open, because a statement answered just these pages over the image before, it knows
+    /// it by this number from then on. No answer depends on it.
+    fn committed(&mut self, from: ImageNumber, pages: &[NumberedPage], to: ImageNumber)
+        ensures stays { Stays (kind self.old) (kind self.new) (refused_openings self.old) (refused_openings self.new) }
+        ensures known { (before : Image) → All (Knows from before) (known self.old)
+            → All (MayKnowBeside (applied before pages.now) to (known self.old)) (known self.new) }
         ensures told { told self.new ≡ told self.old };
 
     /// Knows nothing by its number any more, so that numbers may begin again, as they do where another machine takes a

@@ -11,7 +11,8 @@ ghost use Rattle.sqlite_engine.specs.Keeping.{known_in};
 
 use crate::image_history::{ImageHistory, Past};
 use crate::kept::Kept;
-use crate::open_images::{OpenImage, add, has_number, take_numbered};
+use crate::open_image::OpenImage;
+use crate::open_images::{add, has_number, take_numbered};
 use dq_base::{Image, ImageNumber};
 use std::alloc::Global;
 
@@ -49,7 +50,7 @@ fn follow(
 {
     if let Some((kept, past)) = follower(alloc, list, image, trail) {
         let number = Some(number);
-        add(list, OpenImage { number, kept, past });
+        add(list, OpenImage::new(number, kept, past));
     }
 }
 
@@ -66,6 +67,7 @@ fn without_trail(
         number: known,
         kept,
         past,
+        origin: _,
     } = one;
     let Past {
         trail,
@@ -83,11 +85,7 @@ fn without_trail(
         follows,
         unasked,
     };
-    let one = OpenImage {
-        number: known,
-        kept,
-        past,
-    };
+    let one = OpenImage::new(known, kept, past);
     (one, told)
 }
 
@@ -114,6 +112,7 @@ fn follower(
         number: _,
         kept,
         past,
+        origin: _,
     } = take_numbered(list, trail.from)?;
     let past = once_more(past)?;
     let kept = kept.led_to(alloc, trail.writes.as_slice(), image)?;

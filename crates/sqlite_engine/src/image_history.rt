@@ -10,6 +10,13 @@ const MAX_WRITES: usize = 16;
 /// The most bytes that the texts and parameters of a trail have together.
 const MAX_HISTORY_BYTES: usize = 65_536;
 
+/// A statement that is asked, with its parameters.
+#[derive(Clone, Copy)]
+pub(crate) struct Asked<'a> {
+    pub(crate) text: &'a str,
+    pub(crate) params: &'a [Value],
+}
+
 /// A statement that went on with its connection.
 #[derive(Drop)]
 pub(crate) struct Write {
@@ -39,13 +46,8 @@ impl ImageHistory {
     }
 
     /// The trail with one more statement, of which it has a copy. `None` where it would be long, or memory runs out.
-    fn with(
-        self,
-        alloc: Global,
-        text: &str,
-        params: &[Value],
-        shows: bool,
-    ) -> Option<ImageHistory> {
+    fn with(self, alloc: Global, asked: &Asked<'_>, shows: bool) -> Option<ImageHistory> {
+        let Asked { text, params } = *asked;
         let ImageHistory {
             from,
             mut writes,
@@ -134,8 +136,7 @@ impl Past {
         self,
         alloc: Global,
         from: ImageNumber,
-        text: &str,
-        params: &[Value],
+        asked: &Asked<'_>,
         shows: bool,
     ) -> Past {
         let trail = match self.trail {
@@ -143,7 +144,7 @@ impl Past {
             None => ImageHistory::new(alloc, from),
         };
         Past {
-            trail: trail.with(alloc, text, params, shows),
+            trail: trail.with(alloc, asked, shows),
             follows: false,
             unasked: 0,
         }

@@ -1,11 +1,14 @@
 ghost use Rattle.std.specs.Prelude.{◌≡◌, ◌⊎◌, ◌+◌, ◌<◌, ◌≤◌, false, [], IsTrue, length, slice_index_or, IfSome, Some, None};
 ghost use Rattle.std.specs.List.{All, Contains, sum_by};
 ghost use Rattle.sql_engine.specs.Known.{Knows, MayKnowBeside};
+ghost use Rattle.dq_base.specs.Applying.{applied};
+ghost use Rattle.dq_base.specs.declared.images.Image.{Image};
+ghost use Rattle.sqlite_engine.specs.Coming.{ComesBy};
 ghost use Rattle.sqlite_engine.specs.Keeping.{images_in, known_in, bytes_of, bytes_in, HasRoom};
 
-use crate::image_history::Past;
-use crate::kept::Kept;
-use dq_base::{Image, ImageNumber};
+use crate::open_image::OpenImage;
+use crate::origin::came_by;
+use dq_base::{Image, ImageNumber, NumberedPage};
 
 /// The most connections that an engine keeps.
 const MAX_OPEN: usize = 20;
@@ -13,14 +16,6 @@ const MAX_OPEN: usize = 20;
 /// The most bytes that the images of the connections have together that an engine keeps, except for the one that was used last. It is
 /// as many as the two longest files of an image have.
 const MAX_OPEN_BYTES: usize = 134_217_728;
-
-/// A connection, and the number that the image has which it is over, if that is known.
-#[derive(Drop)]
-pub(crate) struct OpenImage {
-    pub(crate) number: Option<ImageNumber>,
-    pub(crate) kept: Kept,
-    pub(crate) past: Past,
-}
 
 /// Takes the connection over this image out of the list. One that has its number is taken with no look at its bytes.
 pub(crate) fn take(
@@ -82,6 +77,33 @@ fn renumber_at(list: &mut [OpenImage], image: &Image, number: ImageNumber) -> bo
         }
         None => false,
     }
+}
+
+/// Gives the connection that came from the image of a number by just these pages the number of the image to which they lead, if there is one.
+pub(crate) fn renumber_led(
+    list: &mut [OpenImage],
+    from: ImageNumber,
+    pages: &[NumberedPage],
+    to: ImageNumber,
+)
+    ensures { (before : Image) → All (Knows from before) (known_in list.old)
+        → All (MayKnowBeside (applied before pages.now) to (known_in list.old)) (known_in list.new) }
+{
+    if let Some(at) = place_led(list, from, pages) {
+        list[at].number = Some(to);
+    }
+}
+
+/// Where in the list a connection stands that came from the image of a number by just these pages.
+fn place_led(list: &[OpenImage], from: ImageNumber, pages: &[NumberedPage]) -> Option<usize>
+    ensures { IfSome result (λ at. (at < length list.now) × ((other : _) → ComesBy from pages.now (slice_index_or list.now at other).origin)) }
+{
+    for (at, one) in list.iter().enumerate() {
+        if came_by(&one.origin, from, pages) {
+            return Some(at);
+        }
+    }
+    None
 }
 
 /// Where in the list the connection over this image stands.
@@ -218,6 +240,6 @@ pub(crate) fn forget(list: &mut [OpenImage])
     ensures { known_in list.new ≡ [] }
 {
     for at in 0..list.len() {
-        list[at].number = None;
+        list[at].forget();
     }
 }

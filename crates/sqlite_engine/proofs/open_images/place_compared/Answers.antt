@@ -1,6 +1,6 @@
 use Rattle.std.proofs.Common.{◌≡◌, get_or, arith, below_more, ap, ◌∙◌}
 use Rattle.std.proofs.lemmas.List.{get_or_default}
-use Rattle.sqlite_engine.specs.declared.open_images.OpenImage.{OpenImage}
+use Rattle.sqlite_engine.specs.declared.open_image.OpenImage.{OpenImage}
 use Rattle.sqlite_engine.proofs.OpenImages.{not_open}
 use Rattle.sqlite_engine.proofs.open_images.place_compared.Goals as goal
 

@@ -1,5 +1,5 @@
 use Rattle.std.proofs.Common.{◌≡◌, ℕ, ◌<◌, get_or}
-use Rattle.sqlite_engine.specs.declared.open_images.OpenImage.{OpenImage}
+use Rattle.sqlite_engine.specs.declared.open_image.OpenImage.{OpenImage}
 use Rattle.sqlite_engine.proofs.open_images.place_compared.Given as goal
 
 -- none of those before is over the image

@@ -1,7 +1,7 @@
 use Rattle.std.proofs.Common.{rules, ◌≡◌, List, length, sym, subst}
 use Rattle.std.specs.List.{Contains}
 use Rattle.std.proofs.lemmas.List.{with_items_is}
-use Rattle.sqlite_engine.specs.declared.open_images.OpenImage.{OpenImage}
+use Rattle.sqlite_engine.specs.declared.open_image.OpenImage.{OpenImage}
 use Rattle.sqlite_engine.specs.Keeping.{known_in}
 use Rattle.sqlite_engine.proofs.open_images.renumber.Goals as goal
 

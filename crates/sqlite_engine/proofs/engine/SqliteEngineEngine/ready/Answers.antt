@@ -3,6 +3,7 @@ use Rattle.std.specs.List.{All, Contains}
 use Rattle.std.proofs.lemmas.List.Elements.{All-same}
 use Rattle.sql_engine.specs.Known.{Known, MayKnowBeside, handed}
 use Rattle.sqlite_engine.specs.Keeping.{images_in, known_in}
+use Rattle.sqlite_engine.specs.declared.kept.Kept.{Kept}
 use Rattle.sqlite_engine.specs.Openings.{Openings, IsReadied}
 use Rattle.sqlite_engine.proofs.OpenImages.{added_known, holds_one, still_beside}
 use Rattle.sqlite_engine.proofs.engine.SqliteEngineEngine.ready.Goals as goal
@@ -34,7 +35,8 @@ returns-in-Ok-clause-known c =
     ap (λ (o : Openings). o.known) c.self-2.view_is ∙ c.open_anew.ensures.images.1 ∙ ap known_in (c.renumber.ensures.same c.if-renumber.false) ∙ ap (λ (o : Openings). o.known) c.self.view_is in
     added_known P c.self-2.inside.images.items c.add.new.list.items _ c.add.ensures
     (All-same P (known_in c.self-2.inside.images.items) c.args.self.now.known same (still_beside c.args.image.now c.args.number c.args.self.now.known))
-    (holds_one P c.args.number c.in-Ok.kept c.new-past.result (handed (λ i. record { number = c.args.number; image = c.in-Ok.ensures.ok i })))
+    (holds_one P c.args.number c.new.result c.new.ensures.number c.new.ensures.origin
+    (handed (λ i. record { number = c.args.number; image = (ap (λ (k : Kept). k.base) c.new.ensures.kept ∙ c.in-Ok.ensures.ok) i })))
 
 pub returns-in_default-clause-known : goal.returns-in_default-clause-known
 returns-in_default-clause-known c =
