@@ -3,16 +3,26 @@
 //	go_clients ADDRESS..
 //
 // Prints `pass NAME` for each case, or ends with 1 and a line. Between two of its cases it prints `kill ADDRESS` and waits for a line on its
-// input: whoever started it has then killed that node.
+// input: whoever started it has then killed that node. If DQLITE_TLS is set, it dials over TLS, with node.pem, node.key and the authority ca.pem
+// of that folder.
+//
+//	go_clients --grow ID=ADDRESS ADDRESS..
+//
+// has the node of this id, which joins, become a voter and the leader, and removes another voter.
 package main
 
 import (
 	"bufio"
 	"context"
+	"crypto/tls"
+	"crypto/x509"
 	"database/sql"
 	"errors"
 	"fmt"
 	"os"
+	"path/filepath"
+	"strconv"
+	"strings"
 	"sync"
 	"time"
 
@@ -126,8 +136,23 @@ func insertAgain(ctx context.Context, db *sql.DB, text string) error {
 	}
 }
 
+// How nodes are dialled: over TLS, if there is a folder with keys.
+func dialler() client.DialFunc {
+	folder := os.Getenv("DQLITE_TLS")
+	if folder == "" {
+		return client.DefaultDialFunc
+	}
+	certificate, err := tls.LoadX509KeyPair(filepath.Join(folder, "node.pem"), filepath.Join(folder, "node.key"))
+	insist("keys", err)
+	authority, err := os.ReadFile(filepath.Join(folder, "ca.pem"))
+	insist("keys", err)
+	pool := x509.NewCertPool()
+	pool.AppendCertsFromPEM(authority)
+	return client.DialFuncWithTLS(client.DefaultDialFunc, &tls.Config{Certificates: []tls.Certificate{certificate}, RootCAs: pool})
+}
+
 func leader(ctx context.Context, store client.NodeStore, what string) (*client.Client, client.NodeInfo) {
-	cli, err := client.FindLeader(ctx, store)
+	cli, err := client.FindLeader(ctx, store, client.WithDialFunc(dialler()))
 	insist(what, err)
 	node, err := cli.Leader(ctx)
 	insist(what, err)
@@ -189,16 +214,80 @@ func administration(ctx context.Context, store client.NodeStore) {
 	insist("administration", errors.New("no server takes the leadership"))
 }
 
+// A change of the servers, again while the leader has to wait for another change or for a server that lacks entries.
+func changed(ctx context.Context, store client.NodeStore, what string, change func(cli *client.Client) error) {
+	for {
+		cli, _ := leader(ctx, store, what)
+		err := change(cli)
+		cli.Close()
+		if err == nil {
+			return
+		}
+		if ctx.Err() != nil {
+			insist(what, err)
+		}
+		time.Sleep(50 * time.Millisecond)
+	}
+}
+
+// A node joins: it is added as a spare, becomes a standby and a voter, and leads; another voter leaves by way of standby.
+func growth(ctx context.Context, store client.NodeStore, node client.NodeInfo) {
+	node.Role = client.Spare
+	changed(ctx, store, "growth", func(cli *client.Client) error { return cli.Add(ctx, node) })
+	for _, role := range []client.NodeRole{client.StandBy, client.Voter} {
+		changed(ctx, store, "growth", func(cli *client.Client) error { return cli.Assign(ctx, node.ID, role) })
+	}
+	changed(ctx, store, "growth", func(cli *client.Client) error { return cli.Transfer(ctx, node.ID) })
+	var left client.NodeInfo
+	for leads := false; !leads; time.Sleep(50 * time.Millisecond) {
+		cli, now := leader(ctx, store, "growth")
+		servers, err := cli.Cluster(ctx)
+		cli.Close()
+		insist("growth", err)
+		leads, left = now.ID == node.ID, servers[0]
+	}
+	changed(ctx, store, "growth", func(cli *client.Client) error { return cli.Assign(ctx, left.ID, client.StandBy) })
+	changed(ctx, store, "growth", func(cli *client.Client) error { return cli.Remove(ctx, left.ID) })
+	cli, _ := leader(ctx, store, "growth")
+	defer cli.Close()
+	servers, err := cli.Cluster(ctx)
+	insist("growth", err)
+	for _, server := range servers {
+		if server.Role != client.Voter || server.ID == left.ID || len(servers) != 3 {
+			insist("growth", fmt.Errorf("the servers are %v", servers))
+		}
+	}
+	fmt.Println("pass growth")
+}
+
+// The id and the address of ID=ADDRESS.
+func joining(text string) client.NodeInfo {
+	id, address, _ := strings.Cut(text, "=")
+	number, err := strconv.ParseUint(id, 10, 64)
+	insist("arguments", err)
+	return client.NodeInfo{ID: number, Address: address}
+}
+
 func main() {
 	ctx, cancel := context.WithTimeout(context.Background(), maxSeconds*time.Second)
 	defer cancel()
 	store := client.NewInmemNodeStore()
+	words := os.Args[1:]
+	grows := len(words) > 2 && words[0] == "--grow"
 	nodes := []client.NodeInfo{}
-	for number, address := range os.Args[1:] {
+	if grows {
+		nodes = append(nodes, joining(words[1]))
+		words = words[2:]
+	}
+	for number, address := range words {
 		nodes = append(nodes, client.NodeInfo{ID: uint64(number + 1), Address: address})
 	}
 	insist("store", store.Set(ctx, nodes))
-	made, err := driver.New(store)
+	if grows {
+		growth(ctx, store, nodes[0])
+		return
+	}
+	made, err := driver.New(store, driver.WithDialFunc(dialler()))
 	insist("driver", err)
 	sql.Register("dqlite", made)
 	db, err := sql.Open("dqlite", "app")

@@ -2,7 +2,7 @@
 use Rattle.std.proofs.Common.{◌≡◌, ◌≤◌, ◌+◌, ◌&&◌, ℕ, Bool, true, false, not, cond, List, [], ◌∷◌, ◌++◌, length, codes, Option, Some, None, Result, Ok, Err, IfOk, refl, sym, subst, arith}
 use Rattle.std.specs.Prelude.{nat_le, nat_lt, ◌||◌, ◌==◌, ◌^◌, IfSome}
 use Rattle.std.specs.List.{AllByRecursion, position_or_len, before_first, after_first}
-use Rattle.std.proofs.lemmas.Bool.{leb-true, and_parts, or_parts, or_from, not-true, ne_eqb, eqb-false}
+use Rattle.std.proofs.lemmas.Bool.{leb-true, and_parts, or_parts, or_from, not-true, ne_eqb, eqb-false, eqb-true}
 use Rattle.std.proofs.lemmas.List.{length-append}
 use Rattle.dq_base.specs.Decimal.{number_below}
 use Rattle.dq_base.specs.Names.{has_nul}
@@ -13,7 +13,7 @@ use Rattle.arguments.specs.declared.invocation.Peer.{Peer}
 use Rattle.arguments.specs.declared.invocation.Serve.{Serve}
 use Rattle.arguments.specs.declared.serving.ServeOptions.{ServeOptions}
 use Rattle.arguments.specs.Values.{engine_named, is_set, is_at_host, is_at_brackets, is_address, is_within, within, number_in}
-use Rattle.arguments.specs.Serving.{is_mark, peer_with, peer_of, has_id, is_new, new_peer, peers_behind, with_peer, peers_of, events_of, idle_of, words_of, options_with, options_in, serve_with_peers, serve_with, serve_found, IsNodeId, IsAddress, IsPeer, AreDistinct, IsServable}
+use Rattle.arguments.specs.Serving.{is_mark, peer_with, peer_of, has_id, is_new, new_peer, peers_behind, with_peer, peers_of, events_of, idle_of, words_of, options_with, options_in, fits_peers, serve_with_peers, serve_with, serve_found, IsNodeId, IsAddress, IsPeer, AreDistinct, IsServable}
 
 -- ---- numbers and addresses
 
@@ -110,12 +110,39 @@ peers_fit id count before (word ∷ words) so_far =
 
 -- ---- a node
 
+joins_some : (joins alone : Bool) (count : ℕ) → cond joins (nat_le 1 count && not alone) (not alone || (count == 0)) ≡ true → joins ≡ true → 1 ≤ count
+joins_some true alone count e j = leb-true 1 count (and_parts (nat_le 1 count) (not alone) e).0
+joins_some false alone count e j = absurd cc
+
+alone_none : (joins alone : Bool) (count : ℕ) → cond joins (nat_le 1 count && not alone) (not alone || (count == 0)) ≡ true → alone ≡ true → count ≡ 0
+alone_none true true count e a = let bad : false ≡ true = (and_parts (nat_le 1 count) false e).1 in absurd cc
+alone_none false true count e a = eqb-true count 0 e
+alone_none joins false count e a = absurd cc
+
+empty : (ps : List Peer) → length ps ≡ 0 → ps ≡ []
+empty [] e = refl
+empty (p ∷ ps) e = absurd (omega (arith, e))
+
 with_fit : (id : ℕ) (listen : Text) (options : ServeOptions) (count : ℕ) (o : Option (List Peer)) → IsNodeId id → IsAddress listen → 1 ≤ options.events → count ≤ 6
     → IfSome o (Fits id count) → IfSome (serve_with_peers id listen options o) IsServable
 with_fit id listen options count None i l some few h = tt
-with_fit id listen options count (Some peers) i l some few h =
-    let counted : length peers ≡ count = h.count_is in
-    record { id = i; listen = l; each = h.each; other = h.other; distinct = h.distinct; few = omega arith; some = some }
+with_fit id listen options count (Some peers) i l some few h = by (fits_peers options (length peers)) refl
+  where
+    by : (b : Bool) → fits_peers options (length peers) ≡ b → IfSome (cond b (Some (record { id = id; listen = listen; peers = peers; engine = options.engine; events = options.events; idle_transaction = options.idle; new = options.new; joins = options.joins; alone = options.alone })) None) IsServable
+    by true e =
+        let counted : length peers ≡ count = h.count_is in
+        record {
+          id = i;
+          listen = l;
+          each = h.each;
+          other = h.other;
+          distinct = h.distinct;
+          few = omega arith;
+          some = some;
+          joins = joins_some options.joins options.alone (length peers) e;
+          alone = λ lone. empty peers (alone_none options.joins options.alone (length peers) e lone);
+        }
+    by false e = tt
 
 peers_fit_of : (id : ℕ) (listen : Text) (options : ServeOptions) (words : List Text) → IsNodeId id → IsAddress listen → 1 ≤ options.events
     → IfSome (serve_with_peers id listen options (peers_of id words)) IsServable
@@ -141,19 +168,19 @@ events_fit : (o : Option Text) → IfSome (events_of o) (λ n. (1 ≤ n) × (n �
 events_fit None = (omega arith, omega arith)
 events_fit (Some word) = number_fits 1 4294967295 (Some word)
 
-options_fit : (engine : Option EngineKind) (events idle : Option ℕ) (new : Bool) → IfSome events (λ n. (1 ≤ n) × (n ≤ 4294967295))
-    → IfSome (options_with engine events idle new) (λ given. 1 ≤ given.events)
-options_fit None events idle new h = tt
-options_fit (Some engine) None idle new h = tt
-options_fit (Some engine) (Some events) None new h = tt
-options_fit (Some engine) (Some events) (Some idle) new h = h.0
+options_fit : (engine : Option EngineKind) (events idle : Option ℕ) (new joins alone : Bool) → IfSome events (λ n. (1 ≤ n) × (n ≤ 4294967295))
+    → IfSome (options_with engine events idle new joins alone) (λ given. 1 ≤ given.events)
+options_fit None events idle new joins alone h = tt
+options_fit (Some engine) None idle new joins alone h = tt
+options_fit (Some engine) (Some events) None new joins alone h = tt
+options_fit (Some engine) (Some events) (Some idle) new joins alone h = h.0
 
 pub serve_fits : (o : Option (List Row)) → IfSome (serve_found o) IsServable
 serve_fits None = tt
 serve_fits (Some rows) = node_fits (number_in 1 9 (first_of (codes "ID") rows)) (first_of (codes "LISTEN") rows) (words_of (all_of (codes "PEER") rows))
     (options_in rows) (number_fits 1 9 (first_of (codes "ID") rows))
     (options_fit (engine_named (first_of (codes "engine") rows)) (events_of (first_of (codes "events") rows)) (idle_of (first_of (codes "idle-transaction") rows))
-    (is_set (first_of (codes "new") rows)) (events_fit (first_of (codes "events") rows)))
+    (is_set (first_of (codes "new") rows)) (is_set (first_of (codes "join") rows)) (is_set (first_of (codes "alone") rows)) (events_fit (first_of (codes "events") rows)))
 
 pub served_fits : (o : Option (List Row)) (r : Result (Option Serve) AllocError) → IfOk r (λ (served : Option Serve). served ≡ serve_found o) → IfOk r (λ (served : Option Serve). IfSome served IsServable)
 served_fits o (Err f) h = tt

@@ -18,6 +18,10 @@ option_rule name = record (new_rule name) { long = Some name; action = Some Set 
 abbrev pub flag_rule : Text → Rule
 flag_rule name = record (new_rule name) { long = Some name; action = Some SetTrue }
 
+-- an option with a value that may be there several times, by its long name
+abbrev pub each_rule : Text → Rule
+each_rule name = record (new_rule name) { long = Some name; action = Some Append }
+
 -- a word that has to be there
 abbrev pub one_rule : Text → Rule
 one_rule name = record (new_rule name) { required = true; action = Some Set }
@@ -51,18 +55,24 @@ abbrev pub served_numbers_app : App
 served_numbers_app = plain_app (codes "serve")
     (option_rule (codes "engine") ∷ option_rule (codes "events") ∷ option_rule (codes "idle-transaction") ∷ [])
 
--- [--engine E] [--events K] [--idle-transaction S] [--new] [--secret FILE]
+-- [--engine E] [--events K] [--idle-transaction S] [--new] [--join] [--alone] [--secret FILE]
 abbrev pub served_options_app : App
 served_options_app = plain_app (codes "serve")
-    (option_rule (codes "engine") ∷ option_rule (codes "events") ∷ option_rule (codes "idle-transaction") ∷
-    flag_rule (codes "new") ∷ option_rule (codes "secret") ∷ [])
+    (option_rule (codes "engine") ∷ option_rule (codes "events") ∷ option_rule (codes "idle-transaction") ∷ flag_rule (codes "new") ∷
+    flag_rule (codes "join") ∷ flag_rule (codes "alone") ∷ option_rule (codes "secret") ∷ [])
 
--- [--engine E] [--events K] [--idle-transaction S] [--new] [--secret FILE] ID LISTEN [PEER]..
+-- the same and [--bind ADDRESS] [--via N=ADDRESS]..
+abbrev pub served_tunnels_app : App
+served_tunnels_app = plain_app (codes "serve")
+    (option_rule (codes "engine") ∷ option_rule (codes "events") ∷ option_rule (codes "idle-transaction") ∷ flag_rule (codes "new") ∷
+    flag_rule (codes "join") ∷ flag_rule (codes "alone") ∷ option_rule (codes "secret") ∷ option_rule (codes "bind") ∷ each_rule (codes "via") ∷ [])
+
+-- these options, and ID LISTEN [PEER]..
 unfoldable pub serve_app : App
 serve_app = plain_app (codes "serve")
-    (option_rule (codes "engine") ∷ option_rule (codes "events") ∷ option_rule (codes "idle-transaction") ∷
-    flag_rule (codes "new") ∷ option_rule (codes "secret") ∷ one_rule (codes "ID") ∷
-    one_rule (codes "LISTEN") ∷ any_rule (codes "PEER") ∷ [])
+    (option_rule (codes "engine") ∷ option_rule (codes "events") ∷ option_rule (codes "idle-transaction") ∷ flag_rule (codes "new") ∷
+    flag_rule (codes "join") ∷ flag_rule (codes "alone") ∷ option_rule (codes "secret") ∷ option_rule (codes "bind") ∷ each_rule (codes "via") ∷
+    one_rule (codes "ID") ∷ one_rule (codes "LISTEN") ∷ any_rule (codes "PEER") ∷ [])
 
 -- what was found, unless there is a reason to refuse
 abbrev pub unless_refused : Kinds → List Row → Option (List Row)

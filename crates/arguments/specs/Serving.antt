@@ -1,5 +1,6 @@
 -- What the arguments after `serve` ask for: a node that is to be served.
-use Rattle.std.specs.Prelude.{◌≡◌, ◌≤◌, ℕ, Bool, false, not, ◌||◌, ◌==◌, cond, List, [], ◌∷◌, ◌++◌, length, nat_le, nat_lt, codes, Option, Some, None}
+use Rattle.std.specs.Prelude.{◌≡◌, ◌≤◌, ℕ, Bool, true, false, not, ◌&&◌, ◌||◌, ◌==◌, cond, List, [], ◌∷◌, ◌++◌}
+use Rattle.std.specs.Prelude.{length, nat_le, nat_lt, codes, Option, Some, None}
 use Rattle.std.specs.List.{AllByRecursion, list_any, position_or_len, before_first, after_first}
 use Rattle.clap.specs.Walk.{Row, Text, first_of, all_of}
 use Rattle.wire_words.specs.Items.{HasNoNul}
@@ -65,20 +66,38 @@ abbrev pub words_of : Option (List Text) → List Text
 words_of None = []
 words_of (Some words) = words
 
-abbrev pub options_with : Option EngineKind → Option ℕ → Option ℕ → Bool → Option ServeOptions
-options_with (Some engine) (Some events) (Some idle) new = Some (record { engine = engine; events = events; idle = idle; new = new })
-options_with engine events idle new = None
+abbrev pub options_with : Option EngineKind → Option ℕ → Option ℕ → Bool → Bool → Bool → Option ServeOptions
+options_with (Some engine) (Some events) (Some idle) new joins alone =
+    Some (record { engine = engine; events = events; idle = idle; new = new; joins = joins; alone = alone })
+options_with engine events idle new joins alone = None
 
 -- what the options say
 abbrev pub options_in : List Row → Option ServeOptions
 options_in rows =
     options_with (engine_named (first_of (codes "engine") rows)) (events_of (first_of (codes "events") rows))
-    (idle_of (first_of (codes "idle-transaction") rows)) (is_set (first_of (codes "new") rows))
+    (idle_of (first_of (codes "idle-transaction") rows)) (is_set (first_of (codes "new") rows)) (is_set (first_of (codes "join") rows))
+    (is_set (first_of (codes "alone") rows))
+
+-- one that joins has a peer at least, and one that is alone has none
+abbrev pub fits_peers : ServeOptions → ℕ → Bool
+fits_peers options count = cond options.joins (nat_le 1 count && not options.alone) (not options.alone || (count == 0))
 
 abbrev pub serve_with_peers : ℕ → Text → ServeOptions → Option (List Peer) → Option Serve
 serve_with_peers id listen options None = None
 serve_with_peers id listen options (Some peers) =
-    Some (record { id = id; listen = listen; peers = peers; engine = options.engine; events = options.events; idle_transaction = options.idle; new = options.new })
+    cond (fits_peers options (length peers))
+    (Some (record {
+      id = id;
+      listen = listen;
+      peers = peers;
+      engine = options.engine;
+      events = options.events;
+      idle_transaction = options.idle;
+      new = options.new;
+      joins = options.joins;
+      alone = options.alone;
+    }))
+    None
 
 abbrev pub serve_with : Option ℕ → Option Text → List Text → Option ServeOptions → Option Serve
 serve_with (Some id) (Some listen) words (Some options) = cond (is_address listen) (serve_with_peers id listen options (peers_of id words)) None
@@ -119,7 +138,7 @@ abbrev pub AreDistinct : List Peer → Type 0
 AreDistinct [] = Unit {0}
 AreDistinct (p ∷ ps) = (has_id p.id ps ≡ false) × AreDistinct ps
 
--- A node with at most six peers; no two of all have one number, and it takes an event at least.
+-- A node with at most six peers; no two of all have one number, and it takes an event at least. One that joins has a peer, one that is alone has none.
 pub record IsServable (words : Serve) : Type 0 where
   pub id : IsNodeId words.id
   pub listen : IsAddress words.listen
@@ -128,3 +147,5 @@ pub record IsServable (words : Serve) : Type 0 where
   pub distinct : AreDistinct words.peers
   pub few : length words.peers ≤ 6
   pub some : 1 ≤ words.events
+  pub joins : words.joins ≡ true → 1 ≤ length words.peers
+  pub alone : words.alone ≡ true → words.peers ≡ []

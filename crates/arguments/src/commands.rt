@@ -3,7 +3,7 @@
 ghost use Rattle.std.specs.Prelude.{◌≡◌, ◌≢◌, [], true, false, None, IfOk, map, string_bytes};
 ghost use Rattle.std.specs.Option.{option_map};
 ghost use Rattle.clap.specs.Words.{app_of, rule_of, found_of, rows_of, first_of, all_of, is_simple_and_free, kind_of};
-ghost use Rattle.arguments.specs.Commands.{plain_app, option_rule, flag_rule, one_rule, several_rule, any_rule, script_app, statement_app, check_app, generate_app, served_numbers_app, served_options_app, serve_app, read_by};
+ghost use Rattle.arguments.specs.Commands.{plain_app, option_rule, flag_rule, one_rule, several_rule, any_rule, script_app, statement_app, check_app, generate_app, served_numbers_app, served_options_app, served_tunnels_app, serve_app, each_rule, read_by};
 
 use clap::error::ErrorKind;
 use clap::{Arg, ArgAction, ArgMatches, Command, Error};
@@ -32,6 +32,14 @@ fn flag<'a>(alloc: Global, name: &'a str) -> Arg<'a>
     ensures local { result.global ≡ false }
 {
     Arg::new(alloc, name).long(name).action(ArgAction::SetTrue)
+}
+
+/// An option with a value that may be there several times, by its long name.
+fn each<'a>(alloc: Global, name: &'a str) -> Arg<'a>
+    ensures rule { rule_of result ≡ each_rule name.entry.now }
+    ensures local { result.global ≡ false }
+{
+    Arg::new(alloc, name).long(name).action(ArgAction::Append)
 }
 
 /// A word that has to be there.
@@ -110,7 +118,18 @@ fn served_options<'a>(alloc: Global) -> Result<Command<'a>, AllocError>
 {
     served_numbers(alloc)?
         .arg(flag(alloc, "new"))?
+        .arg(flag(alloc, "join"))?
+        .arg(flag(alloc, "alone"))?
         .arg(option(alloc, "secret"))
+}
+
+/// The options of the arguments after `serve`, with those for tunnels.
+fn served_tunnels<'a>(alloc: Global) -> Result<Command<'a>, AllocError>
+    ensures { IfOk result (λ command. app_of command ≡ served_tunnels_app) }
+{
+    served_options(alloc)?
+        .arg(option(alloc, "bind"))?
+        .arg(each(alloc, "via"))
 }
 
 /// The command of the arguments after `serve`.
@@ -118,7 +137,7 @@ fn served_options<'a>(alloc: Global) -> Result<Command<'a>, AllocError>
 pub(crate) fn serve_command<'a>(alloc: Global) -> Result<Command<'a>, AllocError>
     ensures { IfOk result (λ command. app_of command ≡ serve_app) }
 {
-    served_options(alloc)?
+    served_tunnels(alloc)?
         .arg(one(alloc, "ID"))?
         .arg(one(alloc, "LISTEN"))?
         .arg(any(alloc, "PEER"))

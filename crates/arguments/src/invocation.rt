@@ -38,7 +38,7 @@ pub struct Serve {
     pub id: u64,
     /// The address at which it listens, and at which others and clients reach it.
     pub listen: WireText,
-    /// The other nodes of the cluster, at most six.
+    /// The other nodes with which the cluster was founded, at most six.
     pub peers: Items<Peer>,
     /// The kind of its engine.
     pub engine: EngineKind,
@@ -48,6 +48,10 @@ pub struct Serve {
     pub idle_transaction: u64,
     /// Whether it is a new node, over a folder that is no node's.
     pub new: bool,
+    /// Whether it joins a cluster that its peers have founded, of which it is no voter at first. It has a peer then.
+    pub joins: bool,
+    /// Whether it takes no connections of other nodes, for ever. It has no peer then.
+    pub alone: bool,
 }
 
 /// Another node of a cluster.

@@ -7,8 +7,10 @@ mod invocation;
 mod reading;
 mod reasons;
 mod serving;
+mod tunnels;
 
 pub use invocation::{Invocation, Peer, Serve, Statement};
 pub use reading::read_words;
 pub use reasons::refusal_reason;
 pub use serving::{read_secret, read_serve};
+pub use tunnels::{TunnelOptions, read_tunnels};

@@ -5,7 +5,7 @@ use crate::commands::{
     check_command, generate_command, script_command, serve_command, statement_command, value,
     values,
 };
-use crate::reading::{Line, engine_named, line_of, number_in};
+use crate::reading::{Line, engine_named, is_set, line_of, number_in};
 use crate::serving::{MAX_EVENTS, MAX_IDLE, MAX_PEERS, has_id, peer_of};
 use clap::error::ErrorKind;
 use clap::{ArgMatches, Command, Error};
@@ -86,6 +86,11 @@ fn peers_reason(alloc: Global, id: u64, peers: &[&str]) -> Result<Option<String>
     if peers.len() > MAX_PEERS {
         return Ok(Some(format!(in alloc; "there are more than {MAX_PEERS} peers")?));
     }
+    nodes_reason(alloc, id, peers)
+}
+
+/// Why words are refused that name nodes other than that of this id.
+fn nodes_reason(alloc: Global, id: u64, peers: &[&str]) -> Result<Option<String>, AllocError> {
     let mut before = Vec::new(alloc);
     for named in peers {
         let Some(peer) = peer_of(alloc, named)? else {
@@ -119,12 +124,30 @@ fn node_reason(
             return Ok(Some("S is 0 to 86400, in decimal without leading zeros"));
         }
     }
-    if let Some(listen) = value(matches, "LISTEN") {
-        if !is_address(&text(alloc, listen)?) {
-            return Ok(Some(ADDRESS));
+    for name in ["LISTEN", "bind"] {
+        if let Some(address) = value(matches, name) {
+            if !is_address(&text(alloc, address)?) {
+                return Ok(Some(ADDRESS));
+            }
         }
     }
     Ok(None)
+}
+
+/// Why a node has too many or too few peers.
+fn number_reason(matches: &ArgMatches<'_>, count: usize) -> Option<&'static str> {
+    let joins = is_set(value(matches, "join"));
+    let alone = is_set(value(matches, "alone"));
+    if joins && alone {
+        return Some("a node that is alone joins no cluster");
+    }
+    if joins && count == 0 {
+        return Some("a node that joins needs the nodes that founded the cluster, as N=ADDRESS");
+    }
+    if alone && count > 0 {
+        return Some("a node that is alone has no peers");
+    }
+    None
 }
 
 /// Why the values after `serve` are refused.
@@ -135,10 +158,14 @@ fn serve_reason(alloc: Global, matches: &ArgMatches<'_>) -> Result<Option<String
     if let Some(reason) = node_reason(alloc, matches)? {
         return Ok(Some(String::from_str(alloc, reason)?));
     }
-    match values(matches, "PEER") {
-        Some(peers) => peers_reason(alloc, id as u64, peers),
-        None => Ok(None),
+    let peers = values(matches, "PEER").unwrap_or(&[]);
+    if let Some(reason) = number_reason(matches, peers.len()) {
+        return Ok(Some(String::from_str(alloc, reason)?));
     }
+    if let Some(reason) = peers_reason(alloc, id as u64, peers)? {
+        return Ok(Some(reason));
+    }
+    nodes_reason(alloc, id as u64, values(matches, "via").unwrap_or(&[]))
 }
 
 /// A reason as an owned text.

@@ -6,7 +6,7 @@ ghost use Rattle.std.specs.List.{before_first, after_first};
 ghost use Rattle.clap.specs.Words.{found_of, rows_of};
 ghost use Rattle.arguments.specs.Commands.{serve_app, read_by};
 ghost use Rattle.arguments.specs.Values.{is_address};
-ghost use Rattle.arguments.specs.Serving.{is_mark, peer_with, peer_of, has_id, is_new, new_peer, peers_behind, peers_of, events_of, idle_of, words_of, options_with, options_in, serve_with_peers, serve_with, serve_in, serve_found, secret_found, IsServable};
+ghost use Rattle.arguments.specs.Serving.{is_mark, peer_with, peer_of, has_id, is_new, new_peer, peers_behind, peers_of, events_of, idle_of, words_of, options_with, options_in, fits_peers, serve_with_peers, serve_with, serve_in, serve_found, secret_found, IsServable};
 
 use crate::addresses::{is_address, text};
 use crate::commands::{matches_by, serve_command, value, values};
@@ -36,6 +36,8 @@ pub(crate) struct ServeOptions {
     events: u32,
     idle: u32,
     new: bool,
+    joins: bool,
+    alone: bool,
 }
 
 /// The peer of an id at an address, if the word is an address.
@@ -93,7 +95,11 @@ fn new_peer(id: u64, before: &[Peer], peer: Option<Peer>) -> Option<Peer>
 }
 
 /// The peers that words name, if each names one, whose id is new.
-fn all_peers(alloc: Global, id: u64, words: &[&str]) -> Result<Option<Items<Peer>>, AllocError>
+pub(crate) fn all_peers(
+    alloc: Global,
+    id: u64,
+    words: &[&str],
+) -> Result<Option<Items<Peer>>, AllocError>
     ensures { IfOk result (λ peers. peers ≡ peers_behind id [] (map (λ word. word.now) words.now)) }
 {
     let mut peers = Vec::new(alloc);
@@ -144,11 +150,50 @@ fn options_in(matches: &ArgMatches<'_>) -> Option<ServeOptions>
     let events = events_of(value(matches, "events"))?;
     let idle = idle_of(value(matches, "idle-transaction"))?;
     let new = is_set(value(matches, "new"));
+    let joins = is_set(value(matches, "join"));
+    let alone = is_set(value(matches, "alone"));
     Some(ServeOptions {
         engine,
         events,
         idle,
         new,
+        joins,
+        alone,
+    })
+}
+
+/// Whether a node with these options may have this many peers: one that joins has one at least, and one that is alone has none.
+fn fits_peers(options: ServeOptions, count: usize) -> bool
+    ensures { result ≡ fits_peers options count }
+{
+    if options.joins {
+        return count >= 1 && !options.alone;
+    }
+    !options.alone || count == 0
+}
+
+/// A node with these options and peers, if it may have as many.
+fn with_options(
+    id: u32,
+    listen: WireText,
+    options: ServeOptions,
+    peers: Items<Peer>,
+) -> Option<Serve>
+    ensures { result ≡ serve_with_peers id listen options (Some peers) }
+{
+    if !fits_peers(options, peers.len()) {
+        return None;
+    }
+    Some(Serve {
+        id: id as u64,
+        listen,
+        peers,
+        engine: options.engine,
+        events: options.events as u64,
+        idle_transaction: options.idle as u64,
+        new: options.new,
+        joins: options.joins,
+        alone: options.alone,
     })
 }
 
@@ -167,15 +212,7 @@ fn with_peers(
         return Ok(None);
     }
     match peers_of(alloc, id as u64, words)? {
-        Some(peers) => Ok(Some(Serve {
-            id: id as u64,
-            listen,
-            peers,
-            engine: options.engine,
-            events: options.events as u64,
-            idle_transaction: options.idle as u64,
-            new: options.new,
-        })),
+        Some(peers) => Ok(with_options(id, listen, options, peers)),
         None => Ok(None),
     }
 }
@@ -204,7 +241,8 @@ fn serve_in(alloc: Global, matches: &ArgMatches<'_>) -> Result<Option<Serve>, Al
 /// the node and its peers have one number, and there are at most six peers. `--engine E` is as after `script`, and `--events K` with
 /// a number of 1 to 4,294,967,295, the greatest where it isn't there. `--idle-transaction S`, with a number of 0 to 86,400, closes the
 /// connection of a client that has a transaction and says nothing for S seconds; it is 60 without the option, and 0 is for any time.
-/// `--new` makes a new node. `--secret FILE` names a file of the cluster's secret, at which `read_secret` looks.
+/// `--new` makes a new node. With `--join` there is a peer at least, and with `--alone` no peer. `--secret FILE` names a file of the
+/// cluster's secret, at which `read_secret` looks; at `--bind ADDRESS` and `--via N=ADDRESS` looks `read_tunnels`.
 pub fn read_serve(alloc: Global, words: &[String]) -> Result<Option<Serve>, AllocError>
     ensures found { IfOk result (λ served. served ≡ serve_found (read_by serve_app (map string_bytes words.now))) }
     ensures fit { IfOk result (λ served. IfSome served IsServable) }

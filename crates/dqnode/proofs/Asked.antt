@@ -110,7 +110,8 @@ pub statement_linked : (statement : Statement) (start now : Net) (was is : Optio
 statement_linked statement start now was is code (inl c) a = end_linked start now (length statement.addresses) c.end (subst IsAnswered c.code_is a) c.dialled
 statement_linked statement start now was is code (inr b) a = absurd (not_broken code b.cause a)
 
-end_unled : (start now : Net) (n : ℕ) (end : ClientEnd) → status_code (end_status end) ≡ 12 → EndHasCause start now n end → HaveDialled start now (3 * n)
+end_unled : (start now : Net) (n : ℕ) (end : ClientEnd) → status_code (end_status end) ≡ 12 → EndHasCause start now n end →
+    HaveDialled start now (3 * n)
 end_unled start now n (ends.Result changed) e h = absurd cc
 end_unled start now n (ends.Rows parts) e h = absurd cc
 end_unled start now n (ends.Refused code text) e h = absurd cc
@@ -128,4 +129,5 @@ statement_unled statement start now was is code (inr b) e = elim b.cause [
 
 pub unled_for : (one : Statement) (start now : Net) (was is : Option (List ℕ)) (code : ℕ) → StatementEnds one start now was is code
     → (statement : Statement) → ForStatement statement (Some (asks.Statement one)) → code ≡ 12 → HaveDialled start now (3 * length statement.addresses)
-unled_for one start now was is code h statement e no_leader = statement_unled statement start now was is code (ends_for one start now was is code h statement e) no_leader
+unled_for one start now was is code h statement e no_leader =
+    statement_unled statement start now was is code (ends_for one start now was is code h statement e) no_leader

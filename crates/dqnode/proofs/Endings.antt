@@ -102,7 +102,8 @@ module _ (kind : EngineKind) where
   outcome_ends outcome.Internal journal left left' a b e = breaks (MayFollow left') (λ end. refl) left left' a b e
 
 -- by the status
-pub status_ends : (kind : EngineKind) (why : Outcome) (journal : List Item) (left left' a b : Option (List ℕ)) → OutcomeEnds kind journal why left left' a b →
+pub status_ends : (kind : EngineKind) (why : Outcome) (journal : List Item) (left left' a b : Option (List ℕ)) →
+    OutcomeEnds kind journal why left left' a b →
     ScriptEnds kind journal (status_for why) left left' a b
 status_ends kind outcome.Done journal left left' a b e = e
 status_ends kind (outcome.Script line) journal left left' a b e = (line, e)

@@ -18,7 +18,8 @@ written_whole number writes a b h = record {
   front = λ f. elim f [ inl e ↦ cc | inr e ↦ cc ];
 }
 
-pub written_in_part : (number writes code : ℕ) (a b : Option (List ℕ)) → (code ≡ 4) ⊎ (code ≡ 7) → AppendsFront a b (script_text number writes) →
+pub written_in_part : (number writes code : ℕ) (a b : Option (List ℕ)) → (code ≡ 4) ⊎ (code ≡ 7) →
+    AppendsFront a b (script_text number writes) →
     GenerateEnds number writes a b code
 written_in_part number writes code a b broken h = record {
   known = inr broken;
@@ -58,7 +59,8 @@ unfolding count_in number_in
 made_by one many runs journal a b code h number writes e =
     subst (λ (n : ℕ). RunEnds n writes journal a b code) (ap (number_in one) e) (subst (λ (n : ℕ). RunEnds one n journal a b code) (ap (count_in many) e) h)
 
-pub made_code : (number writes : ℕ) (journal : List Item) (a b : Option (List ℕ)) (code : ℕ) → RunEnds number writes journal a b code → IsScriptCode code
+pub made_code : (number writes : ℕ) (journal : List Item) (a b : Option (List ℕ)) (code : ℕ) → RunEnds number writes journal a b code →
+    IsScriptCode code
 made_code number writes journal a b code h = elim h.known [
   | inl e ↦ inl e
   | inr f ↦ elim f [

@@ -90,9 +90,12 @@ run_shown number writes outcome.Internal journal text a b whole t told = absurd 
 
 shows_front : (number writes : ℕ) (why : Outcome) (journal : List Item) (text : List ℕ) (a b : Option (List ℕ)) → is_whole why ≡ true →
     TextEnds number writes journal text why → AppendsFront a b (shown_lines text) → ShowsFront number writes a b
-shows_front number writes outcome.Done journal text a b whole t front = (t.outcomes, subst (λ (x : List ℕ). AppendsFront a b (shown_lines x)) t.text_is front)
-shows_front number writes (outcome.Script line) journal text a b whole t front = (t.outcomes, subst (λ (x : List ℕ). AppendsFront a b (shown_lines x)) t.text_is front)
-shows_front number writes outcome.Large journal text a b whole t front = (t.outcomes, subst (λ (x : List ℕ). AppendsFront a b (shown_lines x)) t.text_is front)
+shows_front number writes outcome.Done journal text a b whole t front =
+    (t.outcomes, subst (λ (x : List ℕ). AppendsFront a b (shown_lines x)) t.text_is front)
+shows_front number writes (outcome.Script line) journal text a b whole t front =
+    (t.outcomes, subst (λ (x : List ℕ). AppendsFront a b (shown_lines x)) t.text_is front)
+shows_front number writes outcome.Large journal text a b whole t front =
+    (t.outcomes, subst (λ (x : List ℕ). AppendsFront a b (shown_lines x)) t.text_is front)
 shows_front number writes outcome.ReadFault journal text a b whole t front = absurd cc
 shows_front number writes outcome.WriteFault journal text a b whole t front = absurd cc
 shows_front number writes outcome.NoMemory journal text a b whole t front = absurd cc
@@ -121,7 +124,8 @@ run_broken number writes journal a b code broken front = record {
 pub run_cut : (number writes : ℕ) (why : Outcome) (journal : List Item) (text : List ℕ) (a b : Option (List ℕ)) (code : ℕ) → IsBrokenOff code →
     is_whole why ≡ true → TextEnds number writes journal text why
     → AppendsFront a b (shown_lines text) → RunEnds number writes journal a b code
-run_cut number writes why journal text a b code broken whole t front = run_broken number writes journal a b code broken (shows_front number writes why journal text a b whole t front)
+run_cut number writes why journal text a b code broken whole t front =
+    run_broken number writes journal a b code broken (shows_front number writes why journal text a b whole t front)
 
 -- if nothing was written, as memory ran out or the program met a bug
 pub unrun : (number writes : ℕ) (journal : List Item) (written : Option (List ℕ)) → RunEnds number writes journal written written 7

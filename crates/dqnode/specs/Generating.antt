@@ -21,7 +21,7 @@ pub record GenerateEnds (number writes : ℕ) (written written' : Option (List �
 
 -- ---- the lines at the end of a run
 
--- a line that says how a node stands, or a fault of the script
+-- a line that shows a node's state, or a fault of the script
 abbrev pub is_shown : List ℕ → Bool
 is_shown line = if is_some (behind (codes "node ") line) then true else is_some (behind (codes "error ") line)
 
@@ -53,7 +53,7 @@ StopsAtByte byte now later line =
 
 -- ---- a run
 
--- The script was run with an engine of cells at each node, and ended so; of what it prints the lines were written that say how nodes stand,
+-- The script was run with an engine of cells at each node, and ended so; of what it prints the lines were written that show a node's state,
 -- and its fault. The journal is what it notes; what came of its events is what whole nodes do, and is safe.
 pub record RunsMade (number writes : ℕ) (fault : Option Fault) (journal : List Item) (written written' : Option (List ℕ)) : Type 0 where
   pub outcomes : List Outcome

@@ -23,9 +23,9 @@ pub enum FolderRefusal {
     Another(String),
 }
 
-/// The address of a node that the arguments name, by its id, if it is one of them.
+/// The address of a node with which the cluster was founded, by its id, if it is one of them.
 fn address_of(words: &Serve, id: u64) -> Option<&str> {
-    if words.id == id {
+    if words.id == id && !words.joins {
         return Some(words.listen.as_str());
     }
     for peer in words.peers.as_slice() {
@@ -36,7 +36,7 @@ fn address_of(words: &Serve, id: u64) -> Option<&str> {
     None
 }
 
-/// The name of a cluster: all voters that the arguments name, with their addresses, ascending by id.
+/// The name of a cluster: all voters with which it was founded, with their addresses, ascending by id.
 pub fn cluster_name(alloc: Global, words: &Serve) -> Result<String, AllocError> {
     let mut name = String::new(alloc);
     for before in 0..9 {
@@ -49,9 +49,13 @@ pub fn cluster_name(alloc: Global, words: &Serve) -> Result<String, AllocError> 
     Ok(name)
 }
 
-/// What the file of a node says: its id, and all voters with their addresses, ascending by id.
+/// What the file of a node says: its id, with its address if it joins, and all voters with which the cluster was founded.
 fn text_of(alloc: Global, words: &Serve) -> Result<String, AllocError> {
     let cluster = cluster_name(alloc, words)?;
+    if words.joins {
+        let (id, own) = (words.id, words.listen.as_str());
+        return format!(in alloc; "node {id}={own} joins{cluster}\n");
+    }
     format!(in alloc; "node {} of{cluster}\n", words.id)
 }
 

@@ -32,7 +32,7 @@ pub(crate) fn make_script<K: Sink>(alloc: Global, number: u32, count: u32, outpu
     }
 }
 
-/// Whether a line says how a node stands, or a fault of the script.
+/// Whether a line shows a node's state, or a fault of the script.
 fn is_shown(line: &[u8]) -> bool
     ensures { result ≡ is_shown line.now }
 {
@@ -83,7 +83,7 @@ fn take_byte<K: Sink>(line: &mut Vec<u8>, byte: u8, output: &mut K) -> Result<()
     Ok(())
 }
 
-/// Writes those lines of a text that say how nodes stand, or a fault of the script. After `Err` a front of them is written.
+/// Writes those lines of a text that show a node's state, or a fault of the script. After `Err` a front of them is written.
 #[tactic(auto, using(crate::proofs::Made::shown_first, crate::proofs::Made::shown_short, crate::proofs::Made::shown_all))]
 fn put_shown<K: Sink>(alloc: Global, text: &[u8], output: &mut K) -> Result<(), GenerateFault>
     ensures ok { OnOk result (Appends (K.written output.old) (K.written output.new) (shown_lines text.now)) }

@@ -18,6 +18,7 @@ mod serving;
 mod statements;
 mod status;
 mod tails;
+mod tunnels;
 mod words;
 
 use arguments::{Invocation, Serve, read_secret, read_words};
@@ -42,6 +43,7 @@ use std::sync::Wait;
 use std::thread::Threads;
 use std::time::Clock;
 use tails::{FolderUse, refused_tail};
+use tunnels::use_tunnels;
 
 /// The node that the arguments name, if they ask for one to be served.
 fn served(rt: &HostRuntime, words: &[String]) -> Option<Serve> {
@@ -108,7 +110,7 @@ fn take_secret<R: Wait + Copy + Drop>(
         return Ok(true);
     };
     match secret_in(rt, file.as_str()) {
-        Ok(secret) => guard(rt.alloc(), serve, secret.as_slice(), host)?,
+        Ok(secret) => guard(rt.alloc(), serve, secret, host)?,
         Err(fault) => {
             errors.tell_secret(file.as_str(), &fault);
             return Ok(false);
@@ -224,6 +226,9 @@ fn main(rt: HostRuntime) -> ExitCode {
     let mut errors = ErrorStream::new(rt, lines);
     let served = served(&rt, words);
     if let Some(serve) = &served {
+        if let Err(refused) = use_tunnels(&rt, all.as_slice(), &mut host) {
+            return ExitCode::from(refused.code());
+        }
         let ended = begin_serving(rt, &rt, words, serve, &mut disk, &mut host, &mut errors);
         if let Some(status) = ended {
             return ExitCode::from(status.code());

@@ -2,8 +2,9 @@
 
 use crate::founding::cluster_name;
 use arguments::Serve;
-use peer_secret::pass_text;
-use serve_node::peer_greeting;
+use dq_base::Items;
+use peer_secret::{PassCheck, pass_text};
+use serve_node::{MAX_ID, peer_greeting};
 use serve_sockets::TcpHost;
 use session_gateway::Read;
 use std::alloc::{AllocError, Global};
@@ -100,35 +101,42 @@ fn greeting_of(alloc: Global, id: u64, text: &WireText) -> Result<Option<WireByt
     Ok(Some(peer_greeting(alloc, id, text)?))
 }
 
-/// Has a host say and demand passes by a secret: each peer hears one of its own, and only peers that say theirs are taken.
-pub fn guard<R: Wait + Copy + Drop>(
+/// How connections to the nodes of all other ids begin: each hears a pass for itself.
+fn greetings(
     alloc: Global,
     words: &Serve,
     secret: &[u8],
+    cluster: &str,
+) -> Result<Vec<(u64, WireBytes)>, AllocError> {
+    let mut greetings = Vec::new(alloc);
+    for before in 0..MAX_ID {
+        let id = before + 1;
+        if id == words.id {
+            continue;
+        }
+        let pass = pass_text(alloc, secret, cluster, words.listen.as_str(), words.id, id)?;
+        if let Some(greeting) = greeting_of(alloc, words.id, &pass)? {
+            greetings.push((id, greeting))?;
+        }
+    }
+    Ok(greetings)
+}
+
+/// Has a host say and demand passes by a secret: each other node hears the one for it, and only nodes that say theirs are taken.
+pub fn guard<R: Wait + Copy + Drop>(
+    alloc: Global,
+    words: &Serve,
+    secret: Vec<u8>,
     host: &mut TcpHost<R, Read>,
 ) -> Result<(), AllocError> {
     let cluster = cluster_name(alloc, words)?;
-    let (name, own) = (cluster.as_str(), words.listen.as_str());
-    let mut said = Vec::new(alloc);
-    let mut taken = Vec::new(alloc);
-    for peer in words.peers.as_slice() {
-        let pass = pass_text(alloc, secret, name, own, words.id, peer.id)?;
-        if let Some(greeting) = greeting_of(alloc, words.id, &pass)? {
-            said.push((peer.id, greeting))?;
-        }
-        let pass = pass_text(
-            alloc,
-            secret,
-            name,
-            peer.address.as_str(),
-            peer.id,
-            words.id,
-        )?;
-        if let Some(greeting) = greeting_of(alloc, peer.id, &pass)? {
-            taken.push(greeting)?;
-        }
-    }
-    host.guard(said, taken);
+    let greetings = greetings(alloc, words, secret.as_slice(), cluster.as_str())?;
+    let check = PassCheck {
+        secret: Items::new(secret),
+        cluster: WireText::new(cluster),
+        receiver: words.id,
+    };
+    host.guard(greetings, check);
     Ok(())
 }
 

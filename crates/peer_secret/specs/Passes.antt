@@ -1,5 +1,5 @@
 -- The text with which a node makes itself known to a peer.
-use Rattle.std.specs.Prelude.{ℕ, List, ◌∷◌, ◌++◌}
+use Rattle.std.specs.Prelude.{ℕ, Bool, List, ◌∷◌, ◌++◌, ◌==◌}
 use Rattle.std.specs.Int.{w64, to_le_bytes}
 use Rattle.std.specs.Fmt.{decimal}
 use Rattle.hex.specs.Hex.{encode_lower}
@@ -18,3 +18,6 @@ abbrev pub pass_bytes : List ℕ → List ℕ → List ℕ → ℕ → ℕ → L
 pass_bytes secret cluster address sender receiver =
     with_word (with_word (with_word address (decimal sender)) (decimal receiver))
     (encode_lower (hmac secret (coded_bytes cluster address sender receiver)))
+
+abbrev pub is_space : ℕ → Bool
+is_space byte = byte == 32

@@ -9,5 +9,5 @@ mod same;
 
 pub use hmac::hmac_sha256;
 pub use laws::the_same_text;
-pub use passes::pass_text;
+pub use passes::{PassCheck, pass_text};
 pub use same::is_same;

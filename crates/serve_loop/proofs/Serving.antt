@@ -1,6 +1,6 @@
 -- Steps of a node that has its disk and its engine by reference, seen as those of the node, the disk and the engine.
 use Rattle.std.proofs.Common.{◌≡◌, ◌≤◌, ℕ, List, [], ◌∷◌, refl, sym, ap, subst, ◌∙◌, arith, inl, inr}
-use Rattle.std.specs.Prelude.{◌⊎◌, Bool, Option, None}
+use Rattle.std.specs.Prelude.{◌⊎◌, Bool, Option, None, IfSome}
 use Rattle.disk_model.specs.Disk.{Disk}
 use Rattle.disk_model.specs.Trait.{Text}
 use Rattle.sql_engine.specs.declared.kind.EngineKind.{EngineKind}
@@ -13,7 +13,7 @@ use Rattle.node_core.specs.declared.event.Event as core
 use Rattle.node_core.specs.Account.{AccountsForStep, AccountsForStop}
 use Rattle.node_core.specs.Finding.{Finds}
 use Rattle.node_core.specs.Stepping.{IsDown}
-use Rattle.node_core.specs.Values.{replica_of, raft_of, applied_of}
+use Rattle.node_core.specs.Values.{replica_of, raft_of, applied_of, servers_of}
 use Rattle.serve_traits.specs.declared.event.Event.{Event}
 use Rattle.serve_traits.specs.declared.looping.LoopEnd.{LoopEnd}
 use Rattle.serve_traits.specs.declared.looping.LoopEnd.TheVariants.{Closed, DiskFault, Spent, NoMemory, Unfit}
@@ -129,11 +129,12 @@ pub steps_well : (m : Meaning) (kind : EngineKind) (told_before told_now : Optio
     (event : Event Read) (e : core.Event) (said : StepReport) → e ≡ event_of event →
     ((opening : List Server) → AccountsForStep m kind (read_setup opening) old.running new.running e said.outs told_before told_now) →
     (IsKept tells before (replica_of old) → IsKept tells after (replica_of new)) → applied_of new ≡ (raft_of new).commit → IsStateOf said.state new → MayShut event said.shut →
-    StepsByRules m kind told_before told_now tells before after old new event said
-steps_well m kind told_before told_now tells before after old new event e said is acts stored applied told shuts = record {
+    IfSome said.servers (λ servers. servers ≡ servers_of new) → StepsByRules m kind told_before told_now tells before after old new event said
+steps_well m kind told_before told_now tells before after old new event e said is acts stored applied told shuts servers = record {
   acts = λ opening. subst (λ (z : core.Event). AccountsForStep m kind (read_setup opening) old.running new.running z said.outs told_before told_now) is (acts opening);
   well = record { stored = stored; applied = applied; told = told };
   shuts = shuts;
+  servers = servers;
 }
 
 pub stops_short : (m : Meaning) (kind : EngineKind) (tells : Bool) (before after : Disk Text → Type 0) (old new : Node) (event : Event Read) (e : core.Event) →

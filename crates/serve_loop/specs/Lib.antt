@@ -1,4 +1,5 @@
 pub mod Bridge
+pub mod News
 pub mod Watching
 pub mod Telling
 pub mod Serving

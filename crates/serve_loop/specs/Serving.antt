@@ -1,5 +1,5 @@
 -- What a node that is served does, step after step.
-use Rattle.std.specs.Prelude.{◌≡◌, ◌≤◌, ℕ, Bool, List, Option}
+use Rattle.std.specs.Prelude.{◌≡◌, ◌≤◌, ℕ, Bool, List, Option, IfSome}
 use Rattle.disk_model.specs.Disk.{Disk}
 use Rattle.disk_model.specs.Trait.{Text}
 use Rattle.sql_engine.specs.declared.kind.EngineKind.{EngineKind}
@@ -14,7 +14,7 @@ use Rattle.node_core.specs.declared.event.NodeState.{NodeState}
 use Rattle.node_core.specs.Account.{AccountsForStep, AccountsForStop}
 use Rattle.node_core.specs.Finding.{Finds}
 use Rattle.node_core.specs.Stepping.{IsUp, IsDown}
-use Rattle.node_core.specs.Values.{replica_of, raft_of, applied_of}
+use Rattle.node_core.specs.Values.{replica_of, raft_of, applied_of, servers_of}
 use Rattle.node_core.specs.Whole.{Agrees, IsSound}
 use Rattle.session_outcomes.specs.declared.job.Read.{Read}
 use Rattle.serve_traits.specs.declared.event.Event.{Event}
@@ -70,12 +70,13 @@ pub record StepsWell (tells : Bool) (before after : Disk Text → Type 0) (old n
   pub told : IsStateOf state new
 
 -- It makes the acts of the rules, whatever the servers are with which the cluster was opened, and says what they say; and of all connections it
--- has none shut but that of the connection whose bytes the event brought.
+-- has none shut but that of the connection whose bytes the event brought. If it reports servers, these are the last ones of its whole log.
 pub record StepsByRules (m : Meaning) (kind : EngineKind) (told_before told_now : Option Told) (tells : Bool) (before after : Disk Text → Type 0)
     (old new : Node) (event : Event Read) (said : StepReport) : Type 0 where
   pub acts : (opening : List Server) → AccountsForStep m kind (read_setup opening) old.running new.running (event_of event) said.outs told_before told_now
   pub well : StepsWell tells before after old new said.state
   pub shuts : MayShut event said.shut
+  pub servers : IfSome said.servers (λ servers. servers ≡ servers_of new)
 
 -- What a step leaves that failed: the node is down, and if the disk kept what Raft was, a load finds what the acts of the rules left.
 pub record StopsByRules (m : Meaning) (kind : EngineKind) (tells : Bool) (before after : Disk Text → Type 0) (old new : Node) (event : Event Read)

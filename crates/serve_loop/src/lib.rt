@@ -4,10 +4,12 @@
 
 mod bridge;
 mod newest;
+mod roster;
 mod running;
 mod served;
 mod step_report;
 mod watch;
 
-pub use running::run_node;
+pub use roster::Caller;
+pub use running::{LoopSettings, run_node};
 pub use step_report::StepReport;

@@ -7,6 +7,7 @@ ghost use Rattle.serve_traits.specs.declared.looping.LoopEnd.TheVariants as ends
 ghost use Rattle.serve_loop.specs.Serving.{CanStep, Runs, RunsByRules};
 
 use crate::newest::Telling;
+use crate::roster::Roster;
 use crate::served::ServedNode;
 use crate::step_report::StepReport;
 use crate::watch::HeldBytes;
@@ -15,6 +16,16 @@ use node_core::Node;
 use serve_traits::{Inbox, LoopEnd, Outbox, core_loop};
 use session_gateway::Read;
 use sql_engine::Engine;
+use std::alloc::Global;
+
+/// What a node's loop needs in addition to the node.
+#[derive(Clone, Copy)]
+pub struct LoopSettings {
+    /// For copies of what is reported.
+    pub alloc: Global,
+    /// How many bytes of what its clients have said the node may hold.
+    pub most_held: u64,
+}
 
 impl<'n, 'd, 'e, D: Disk, E: Engine> ServedNode<'n, 'd, 'e, D, E> {
     /// Makes steps while there are events, until this many were taken.
@@ -44,7 +55,7 @@ impl<'n, 'd, 'e, D: Disk, E: Engine> ServedNode<'n, 'd, 'e, D, E> {
 /// Has a node make a step for each event that the inbox brings, and hands on what it says, until this many were taken. The disk and the
 /// engine are the node's: those that its start and its steps had before, and no one else had since.
 ///
-/// If the node is found to hold more than `most` bytes of what its clients have said, the outbox is asked to shut the connection of the
+/// If the node is found to hold more than `most_held` bytes of what its clients have said, the outbox is asked to shut the connection of the
 /// connection whose bytes were taken last, if more than a 64th of these are its own. It is looked at once a 64th of these bytes came since it
 /// was found to hold no more, if each piece counts for 4,096 at least, and then after each piece while it holds too much.
 ///
@@ -57,7 +68,7 @@ pub fn run_node<D: Disk, E: Engine, I: Inbox<Read>, O: Outbox<StepReport>>(
     inbox: &mut I,
     outbox: &mut O,
     budget: u64,
-    most: u64,
+    settings: LoopSettings,
 ) -> LoopEnd
     requires { CanStep (E.known engine.old) node }
     ensures runs { Runs D.tells D.states D.faults E.kind E.refused_openings node disk.old disk.new engine.old engine.new
@@ -70,12 +81,14 @@ pub fn run_node<D: Disk, E: Engine, I: Inbox<Read>, O: Outbox<StepReport>>(
     ensures engine { Stays (E.kind engine.old) (E.kind engine.new) (E.refused_openings engine.old) (E.refused_openings engine.new) }
 {
     let mut node = node;
+    let mut roster = Roster::new(settings.alloc);
     let mut served = ServedNode {
         node: &mut node,
         disk,
         engine,
-        watch: HeldBytes::new(most),
+        watch: HeldBytes::new(settings.most_held),
         telling: Telling::new(),
+        roster: &mut roster,
     };
     served.run(inbox, outbox, budget)
 }

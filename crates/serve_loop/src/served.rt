@@ -6,6 +6,7 @@ ghost use Rattle.serve_loop.specs.Serving.{CanStep, StaysLent, StepsByRules, Sto
 
 use crate::bridge::{event_of, fault_of};
 use crate::newest::{Telling, tell_at};
+use crate::roster::{Roster, caller_of};
 use crate::step_report::StepReport;
 use crate::watch::{HeldBytes, piece_of};
 use disk_model::Disk;
@@ -15,7 +16,8 @@ use serve_traits::{Core, Event, ServerSet, StepFault};
 use session_gateway::Read;
 use sql_engine::Engine;
 
-/// A node, the disk and the engine that are lent to its steps, how much it may hold, and of which newest images its engine was informed.
+/// A node, the disk and the engine that are lent to its steps, how much it may hold, of which newest images its engine was informed, and which of its
+/// servers were reported.
 #[derive(Drop)]
 pub(crate) struct ServedNode<'n, 'd, 'e, D: Disk, E: Engine> {
     pub(crate) node: &'n mut Node,
@@ -23,6 +25,7 @@ pub(crate) struct ServedNode<'n, 'd, 'e, D: Disk, E: Engine> {
     pub(crate) engine: &'e mut E,
     pub(crate) watch: HeldBytes,
     pub(crate) telling: Telling,
+    pub(crate) roster: &'n mut Roster,
 }
 
 /// The voters among servers.
@@ -73,12 +76,15 @@ impl<'n, 'd, 'e, D: Disk, E: Engine> Core for ServedNode<'n, 'd, 'e, D, E> {
         ensures cause { StepCause (D.faults self.old.disk.now) (D.faults self.new.disk.now) result }
     {
         let piece = piece_of(&event);
+        let caller = caller_of(self.roster.alloc(), &event);
         match self.node.step(event_of(event), self.disk, self.engine) {
             Ok(outs) => Ok(StepReport {
                 outs,
                 state: self.node.state(),
                 voters: voters_among(self.node.servers()),
                 shut: self.watch.shuts(&*self.node, piece),
+                servers: self.roster.report(&*self.node),
+                caller,
             }),
             Err(fault) => Err(fault_of(fault)),
         }

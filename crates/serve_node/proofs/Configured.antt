@@ -3,15 +3,15 @@ use Rattle.std.proofs.Common.{add-one, ◌≡◌, ◌≤◌, ◌<◌, ◌+◌, �
 use Rattle.std.specs.Prelude.{◌==◌, filter, IfSome}
 use Rattle.std.specs.List.{AllByRecursion}
 use Rattle.std.specs.declared.alloc.AllocError.{AllocError}
-use Rattle.std.proofs.lemmas.Bool.{eqb-true}
+use Rattle.std.proofs.lemmas.Bool.{eqb-true, eqb-false, ne_eqb, or_from}
 use Rattle.std.proofs.lemmas.List.{length-append, length-map}
 use Rattle.std.proofs.lemmas.List.Filters.{length-filter_both}
-use Rattle.raft_spec.specs.Node.{Server, voters}
+use Rattle.raft_spec.specs.Node.{Server, among, voters}
 use Rattle.raft_messages.specs.Servers.{Ascend, IsServer, IsConfiguration}
 use Rattle.arguments.specs.declared.invocation.Serve.{Serve}
 use Rattle.arguments.specs.declared.invocation.Peer.{Peer}
 use Rattle.arguments.specs.Serving.{IsAddress, IsPeer, IsServable}
-use Rattle.serve_node.specs.Named.{address_in, address_of, voter_at, voters_to, voters_of}
+use Rattle.serve_node.specs.Named.{address_in, own_address, address_of, voter_at, voters_to, voters_of}
 
 -- ---- ids ascend
 
@@ -53,8 +53,12 @@ address_fits id (p ∷ ps) h = by (p.id == id) (address_fits id ps h.1)
 node_fits : (words : Serve) (id : ℕ) → IsServable words → IfSome (address_of words id) IsAddress
 node_fits words id h = by (words.id == id)
   where
-    by : (b : Bool) → IfSome (cond b (Some words.listen) (address_in id words.peers)) IsAddress
-    by true = h.listen
+    own : (joins : Bool) → IfSome (cond joins None (Some words.listen)) IsAddress
+    own true = tt
+    own false = h.listen
+
+    by : (b : Bool) → IfSome (cond b (own_address words) (address_in id words.peers)) IsAddress
+    by true = own words.joins
     by false = address_fits id words.peers h.each
 
 voter_fits : (id : ℕ) (o : Option (List ℕ)) → IfSome o IsAddress → AllByRecursion IsServer (voter_at id o)
@@ -140,9 +144,13 @@ node_has : (words : Serve) (id : ℕ) → length (voter_at id (address_of words 
 unfolding one
 node_has words id = by (words.id == id) (peers_have id words.peers)
   where
+    own : (joins : Bool) → length (voter_at id (cond joins None (Some words.listen))) ≤ 1
+    own true = omega arith
+    own false = omega arith
+
     by : (b : Bool) → length (voter_at id (address_in id words.peers)) ≤ times id words.peers
-        → length (voter_at id (cond b (Some words.listen) (address_in id words.peers))) ≤ cond b 1 0 + times id words.peers
-    by true h = omega arith
+        → length (voter_at id (cond b (own_address words) (address_in id words.peers))) ≤ cond b 1 0 + times id words.peers
+    by true h = let most_one : length (voter_at id (own_address words)) ≤ 1 = own words.joins in omega arith
     by false h = omega arith
 
 length_to : (words : Serve) (n : ℕ) → length (voters_to words n) ≤ upto (λ id. one words.id id + times id words.peers) n
@@ -186,6 +194,56 @@ configured words h =
 pub stands : (words : Serve) (r : Result (List Server) AllocError) → IsServable words → IfOk r (λ servers. servers ≡ voters_of words) → IfOk r IsConfiguration
 stands words (Err f) h e = tt
 stands words (Ok servers) h e = subst IsConfiguration (sym e) (configured words h)
+
+-- ---- a node that joins
+
+-- each has another id
+AreOthers : ℕ → List Server → Type 0
+AreOthers id ss = AllByRecursion (λ (s : Server). (s.id == id) ≡ false) ss
+
+turned : (a b : ℕ) → (a == b) ≡ false → (b == a) ≡ false
+turned a b e = ne_eqb b a (λ (same : b ≡ a). eqb-false a b e (sym same))
+
+others_more : (id : ℕ) (xs ys : List Server) → AreOthers id xs → AreOthers id ys → AreOthers id (xs ++ ys)
+unfolding AreOthers
+others_more id [] ys h k = k
+others_more id (x ∷ xs) ys h k = (h.0, others_more id xs ys h.1 k)
+
+voter_other : (me id : ℕ) (o : Option (List ℕ)) → (me == id) ≡ false → AreOthers me (voter_at id o)
+unfolding AreOthers
+voter_other me id None e = tt
+voter_other me id (Some address) e = (turned me id e, tt)
+
+none_own : (words : Serve) (id : ℕ) → words.joins ≡ true → AreOthers words.id (voter_at id (own_address words))
+unfolding AreOthers
+none_own words id joins = subst (λ (j : Bool). AreOthers words.id (voter_at id (cond j None (Some words.listen)))) (sym joins) tt
+
+voter_others : (words : Serve) (id : ℕ) → words.joins ≡ true → AreOthers words.id (voter_at id (address_of words id))
+voter_others words id joins = by (words.id == id) refl
+  where
+    by : (b : Bool) → (words.id == id) ≡ b → AreOthers words.id (voter_at id (cond b (own_address words) (address_in id words.peers)))
+    by true e = none_own words id joins
+    by false e = voter_other words.id id (address_in id words.peers) e
+
+all_others : (words : Serve) (n : ℕ) → words.joins ≡ true → AreOthers words.id (voters_to words n)
+unfolding voters_to AreOthers
+all_others words zero joins = tt
+all_others words (suc n) joins =
+    others_more words.id (voters_to words n) (voter_at (suc n) (address_of words (suc n))) (all_others words n joins) (voter_others words (suc n) joins)
+
+not_among : (id : ℕ) (ss : List Server) → AreOthers id ss → among (voters ss) id ≡ false
+unfolding voters AreOthers
+not_among id [] h = refl
+not_among id (s ∷ ss) h = by (s.role == 0) (not_among id ss h.1)
+  where
+    by : (b : Bool) → among (map (λ (x : Server). x.id) (filter (λ (x : Server). x.role == 0) ss)) id ≡ false
+        → among (map (λ (x : Server). x.id) (cond b (s ∷ filter (λ (x : Server). x.role == 0) ss) (filter (λ (x : Server). x.role == 0) ss))) id ≡ false
+    by true rest = or_from (s.id == id) _ h.0 rest
+    by false rest = rest
+
+-- one that joins is no voter of the cluster as it was opened
+pub joins_apart : (words : Serve) → words.joins ≡ true → among (voters (voters_of words)) words.id ≡ false
+joins_apart words joins = not_among words.id (voters_of words) (all_others words 9 joins)
 
 -- ---- the loop
 

@@ -20,13 +20,14 @@ pub hires_none : (was : HostCounts) → Hires 0 was was
 hires_none was = record { listens = refl; workers = omega arith }
 
 -- all of them
-pub all_hired : (n : ℕ) (a b c d : HostCounts) → Hires n a b → Hires 1 b c → Hires 4 c d → Hires (5 + n) a d
-all_hired n a b c d first second third =
+pub all_hired : (n : ℕ) (z a b c d : HostCounts) → a ≡ z → Hires n a b → Hires 1 b c → Hires 4 c d → Hires (5 + n) z d
+all_hired n z a b c d same first second third =
+    let v : a.workers ≡ z.workers = ap (λ (d : HostCounts). d.workers) same in
     let w : b.workers ≡ a.workers + n = first.workers in
     let x : c.workers ≡ b.workers + 1 = second.workers in
     let y : d.workers ≡ c.workers + 4 = third.workers in
     record {
-      listens = third.listens ∙ second.listens ∙ first.listens;
+      listens = third.listens ∙ second.listens ∙ first.listens ∙ ap (λ (d : HostCounts). d.listens) same;
       workers = omega arith;
     }
 

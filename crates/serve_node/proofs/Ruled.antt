@@ -34,6 +34,7 @@ use Rattle.serve_node.specs.declared.end.ServeEnd.{ServeEnd}
 use Rattle.serve_node.specs.declared.end.ServeEnd.TheVariants as ends
 use Rattle.serve_node.specs.Ending.{end_of_start, end_of_loop}
 use Rattle.serve_node.specs.Named.{voters_of}
+use Rattle.serve_node.proofs.Configured.{joins_apart}
 use Rattle.serve_node.specs.Rules.{IsNodeOf, EndsFor, NodeServed, IsRunOfRules, HasNode, GoesWell}
 use Rattle.serve_node.specs.Serving.{workers_of, Surroundings, StaysSo, GoesOn, Follows, Started}
 
@@ -41,13 +42,14 @@ use Rattle.serve_node.specs.Serving.{workers_of, Surroundings, StaysSo, GoesOn, 
 
 -- it is that of the arguments, if it was started with their voters
 pub is_node : (words : Serve) (servers : List Server) (id : ℕ) (links : Bool) (r : Result Node StartFault) → servers ≡ voters_of words → id ≡ words.id →
-    links ≡ not (length words.peers == 0) → IfOk r (λ node. CompletesStart (read_setup servers) (kept_by node) (node_of node) (servers_told node)) →
+    links ≡ not words.alone → IfOk r (λ node. CompletesStart (read_setup servers) (kept_by node) (node_of node) (servers_told node)) →
     IfOk r (λ node. (replica_of node).raft.id ≡ id) → IfOk r (λ node. has_links node ≡ links) → IfOk r (IsNodeOf words)
 is_node words servers id links (Err fault) same own peers starts is linked = tt
 is_node words servers id links (Ok node) same own peers starts is linked = record {
   starts = subst (λ (ss : List Server). CompletesStart (read_setup ss) (kept_by node) (node_of node) (servers_told node)) same starts;
   id = is ∙ own;
   links = linked ∙ peers;
+  joins = joins_apart words;
 }
 
 -- ---- no event was taken

@@ -1,9 +1,14 @@
 -- The workers of a served node.
-use Rattle.std.specs.Prelude.{◌≡◌, ◌+◌, ℕ, List, ◌++◌}
+use Rattle.std.specs.Prelude.{◌≡◌, ◌+◌, ℕ, cond, List, ◌++◌}
+use Rattle.arguments.specs.declared.invocation.Serve.{Serve}
 use Rattle.wire_words.specs.Stream.{version_word}
 use Rattle.wire_msgs.specs.declared.request.Request.TheVariants.{Connect}
 use Rattle.wire_msgs.specs.Requests.{request_bytes}
 use Rattle.serve_threads.specs.declared.host_counts.HostCounts.{HostCounts}
+
+-- how many workers send to other nodes: one for each other id, unless the node is alone
+abbrev pub others_of : Serve → ℕ
+others_of words = cond words.alone 0 8
 
 -- this many workers more were taken, and nothing else was done
 pub record Hires (count : ℕ) (old new : HostCounts) : Type 0 where

@@ -1,4 +1,4 @@
--- The voters of a cluster, by the arguments of one of its nodes.
+-- The voters with which a cluster was founded, by the arguments of one of its nodes.
 use Rattle.std.specs.Prelude.{◌==◌, ℕ, zero, suc, cond, List, [], ◌∷◌, ◌++◌, Option, Some, None}
 use Rattle.raft_spec.specs.Node.{Server}
 use Rattle.arguments.specs.declared.invocation.Serve.{Serve}
@@ -9,9 +9,13 @@ abbrev pub address_in : ℕ → List Peer → Option (List ℕ)
 address_in id [] = None
 address_in id (p ∷ ps) = cond (p.id == id) (Some p.address) (address_in id ps)
 
--- the address of the node of this id
+-- the address of the node itself; one that joins is no voter
+abbrev pub own_address : Serve → Option (List ℕ)
+own_address words = cond words.joins None (Some words.listen)
+
+-- the address of the voter of this id
 abbrev pub address_of : Serve → ℕ → Option (List ℕ)
-address_of words id = cond (words.id == id) (Some words.listen) (address_in id words.peers)
+address_of words id = cond (words.id == id) (own_address words) (address_in id words.peers)
 
 -- a voter of this id, if there is an address
 abbrev pub voter_at : ℕ → Option (List ℕ) → List Server

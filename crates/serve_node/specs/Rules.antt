@@ -1,10 +1,11 @@
 -- What was served is a run of the rules.
-use Rattle.std.specs.Prelude.{◌≡◌, ◌≢◌, ◌⊎◌, ◌<◌, ◌==◌, ℕ, not, Bool, [], length, Option, None}
+use Rattle.std.specs.Prelude.{◌≡◌, ◌≢◌, ◌⊎◌, ◌<◌, ℕ, not, Bool, true, false, [], Option, None}
 use Rattle.dq_base.specs.Faults.{Rose}
 use Rattle.disk_model.specs.Disk.{Disk}
 use Rattle.disk_model.specs.Trait.{Text}
 use Rattle.sql_engine.specs.declared.kind.EngineKind.{EngineKind}
 use Rattle.sql_engine.specs.Meanings.{Meaning, Told}
+use Rattle.raft_spec.specs.Node.{among, voters}
 use Rattle.raft_membership.specs.Members.{read_setup}
 use Rattle.raft_safety.specs.Members.{Setup}
 use Rattle.store_laws.specs.Store.{Kept, Loaded}
@@ -28,11 +29,13 @@ use Rattle.serve_node.specs.Named.{voters_of}
 abbrev pub setup_of : Serve → Setup
 setup_of words = read_setup (voters_of words)
 
--- It is the node that the arguments name, as the rules have one start over what was kept; it has peer connections exactly if there are peers.
+-- It is the node that the arguments name, as the rules have one start over what was kept; it takes peer connections unless it is alone. One that joins
+-- is no voter of the cluster as it was opened.
 pub record IsNodeOf (words : Serve) (node : Node) : Type 0 where
   pub starts : CompletesStart (setup_of words) (kept_by node) (node_of node) (servers_told node)
   pub id : (replica_of node).raft.id ≡ words.id
-  pub links : has_links node ≡ not (length words.peers == 0)
+  pub links : has_links node ≡ not words.alone
+  pub joins : words.joins ≡ true → among (voters (voters_of words)) words.id ≡ false
 
 -- no node was started, and no event was taken
 pub record NoNode (before after : Taken Read) (end : ServeEnd) : Type 0 where

@@ -1,5 +1,5 @@
 -- What comes of a node that is served.
-use Rattle.std.specs.Prelude.{◌≡◌, ◌≢◌, ◌⊎◌, ◌+◌, ℕ, length, Result, Ok, Err, IfOk}
+use Rattle.std.specs.Prelude.{◌≡◌, ◌≢◌, ◌⊎◌, ◌+◌, ℕ, Result, Ok, Err, IfOk}
 use Rattle.disk_model.specs.Disk.{Disk}
 use Rattle.disk_model.specs.Trait.{Text}
 use Rattle.session_outcomes.specs.declared.job.Read.{Read}
@@ -12,13 +12,13 @@ use Rattle.node_core.specs.Starting.{StartsOver}
 use Rattle.serve_threads.specs.declared.host_counts.HostCounts.{HostCounts}
 use Rattle.serve_node.specs.declared.end.ServeEnd.{ServeEnd}
 use Rattle.serve_node.specs.declared.end.ServeEnd.TheVariants as ends
-use Rattle.serve_node.specs.Crew.{HasBegun}
+use Rattle.serve_node.specs.Crew.{HasBegun, others_of}
 use Rattle.serve_node.specs.Ending.{end_of_start, end_of_loop}
 use Rattle.serve_node.specs.Rules.{IsNodeOf}
 
--- how many threads work concurrently with a node: a ticker and four readers, and one for each peer
+-- how many threads work concurrently with a node: a ticker and four readers, and those that send to other nodes
 abbrev pub workers_of : Serve → ℕ
-workers_of words = 5 + length words.peers
+workers_of words = 5 + others_of words
 
 -- What a node is served over: its disk, its engine, and the events of its host, of which those that are left are told or not
 pub record Surroundings (D E : Type 0) : Type 0 where

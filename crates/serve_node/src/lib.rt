@@ -13,6 +13,7 @@ mod serving;
 mod steps;
 mod voters;
 
+pub use crew::MAX_ID;
 pub use end::ServeEnd;
 pub use greeting::peer_greeting;
 pub use notes::{Note, Notes};

@@ -1,21 +1,23 @@
 //! What takes the output of a served node.
 
+use crate::crew::WorkerQueues;
 use crate::notes::{Note, Notes};
 use node_core::{NodeState, StepOutputs};
 use raft_core::RaftRole;
-use serve_loop::StepReport;
-use serve_threads::{Queues, Replies};
+use raft_messages::RaftMessage;
+use serve_loop::{Caller, StepReport};
+use serve_threads::{Host, PeerQueue, Queues};
 use serve_traits::{Outbox, ServerSet};
-use session_gateway::ReadJob;
-use std::sync::Wait;
+use session_gateway::{Read, ReadJob};
 
 /// Nine tenths of the last index that a log may have, 4,294,900,000.
 const WARN_INDEX: u64 = 3_865_410_000;
 
 /// Hands what a node says to those that carry it, and notes how it is where that is new.
 #[derive(Drop)]
-pub(crate) struct Dispatcher<'a, R: Wait + Copy + Drop, L: Replies, W: Notes> {
-    queues: Queues<R, L, ReadJob>,
+pub(crate) struct Dispatcher<'a, H: Host<Read>, W: Notes> {
+    queues: Queues<H::Rt, H::Dialer, H::Replies, ReadJob>,
+    mails: Vec<(u64, PeerQueue)>,
     notes: &'a mut W,
     noted: Option<(u64, u64)>,
     is_full_noted: bool,
@@ -30,15 +32,17 @@ fn leader_of(state: &NodeState, id: u64) -> Option<u64> {
     }
 }
 
-impl<'a, R: Wait + Copy + Drop, L: Replies, W: Notes> Dispatcher<'a, R, L, W> {
+impl<'a, H: Host<Read>, W: Notes> Dispatcher<'a, H, W> {
     /// Nothing was said so far by the node of this id.
     pub(crate) fn new(
-        queues: Queues<R, L, ReadJob>,
+        crew: WorkerQueues<H::Rt, H::Dialer, H::Replies>,
         notes: &'a mut W,
         id: u64,
-    ) -> Dispatcher<'a, R, L, W> {
+    ) -> Dispatcher<'a, H, W> {
+        let WorkerQueues { queues, mails } = crew;
         Dispatcher {
             queues,
+            mails,
             notes,
             noted: None,
             is_full_noted: false,
@@ -61,10 +65,22 @@ impl<'a, R: Wait + Copy + Drop, L: Replies, W: Notes> Dispatcher<'a, R, L, W> {
             self.queues.close(conn);
         }
         for message in messages {
-            self.queues.send(message);
+            self.send(message);
         }
         for (conn, job) in reads {
             self.queues.lend(conn, job);
+        }
+    }
+
+    /// Hands a message to the worker that sends to its receiver. It gets lost if too many wait, and if the receiver's address is not known.
+    fn send(&self, message: RaftMessage) {
+        self.queues.heard.note(&message);
+        let to = message.to;
+        let Some(place) = self.mails.iter().position(|mail| mail.0 == to) else {
+            return;
+        };
+        if let Some((_, mail)) = self.mails.get(place) {
+            mail.put(&self.queues.rt, message);
         }
     }
 
@@ -104,8 +120,7 @@ impl<'a, R: Wait + Copy + Drop, L: Replies, W: Notes> Dispatcher<'a, R, L, W> {
     }
 }
 
-impl<'a, R: Wait + Copy + Drop, L: Replies, W: Notes> Outbox<StepReport>
-    for Dispatcher<'a, R, L, W> {
+impl<'a, H: Host<Read>, W: Notes> Outbox<StepReport> for Dispatcher<'a, H, W> {
     ghost use Rattle.std.specs.Prelude.{None};
 
     ghost said = { λ _. None };
@@ -116,7 +131,15 @@ impl<'a, R: Wait + Copy + Drop, L: Replies, W: Notes> Outbox<StepReport>
             state,
             voters,
             shut,
+            servers,
+            caller,
         } = said;
+        if let Some(servers) = servers {
+            self.queues.peers.follow(servers.as_slice());
+        }
+        if let Some(Caller { id, address }) = caller {
+            self.queues.peers.call(id, address);
+        }
         self.queues.note_step();
         self.hand_on(outs);
         if let Some(conn) = shut {

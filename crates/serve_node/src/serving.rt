@@ -15,7 +15,7 @@ ghost use Rattle.serve_node.specs.Rules.{GoesWell, IsNodeOf, IsRunOfRules};
 ghost use Rattle.serve_node.specs.Serving.{workers_of, GoesOn, Started, Serves};
 ghost use Rattle.serve_node.specs.declared.end.ServeEnd.TheVariants as ends;
 
-use crate::crew::crew;
+use crate::crew::{WorkerQueues, crew};
 use crate::end::{ServeEnd, end_of_crew, end_of_loop, end_of_start};
 use crate::fault::CrewFault;
 use crate::notes::{Note, Notes};
@@ -26,10 +26,10 @@ use arguments::Serve;
 use disk_model::Disk;
 use node_core::{Node, NodeSpec, StartFault};
 use raft_messages::Servers;
-use serve_loop::run_node;
-use serve_threads::{Host, Queues};
+use serve_loop::{LoopSettings, run_node};
+use serve_threads::Host;
 use serve_traits::LoopEnd;
-use session_gateway::{Read, ReadJob};
+use session_gateway::Read;
 use sql_engine::Engine;
 use std::alloc::Global;
 
@@ -50,7 +50,7 @@ fn start<D: Disk>(
     let spec = NodeSpec {
         id: words.id,
         servers,
-        links: !words.peers.is_empty(),
+        links: !words.alone,
         readers: true,
         steps: step_limits(),
     };
@@ -65,7 +65,7 @@ fn begin<E: Engine + Send + Drop + 'static, H: Host<Read>, W: Notes>(
     host: &mut H,
     engine: &E,
     notes: &mut W,
-) -> Result<Queues<H::Rt, H::Replies, ReadJob>, CrewFault>
+) -> Result<WorkerQueues<H::Rt, H::Dialer, H::Replies>, CrewFault>
     requires { IsServable words.now }
     ensures done { OnOk result (HasBegun (workers_of words.now) (H.done host.old) (H.done host.new)) }
     ensures events { H.taken host.new ≡ H.taken host.old }
@@ -82,15 +82,15 @@ fn begin<E: Engine + Send + Drop + 'static, H: Host<Read>, W: Notes>(
     crew(alloc, host, words, engine)
 }
 
-/// Has a node make a step for each event that the host brings, and hands what it says to these queues.
+/// Has a node make a step for each event that the host brings, and hands what it says to this outbox.
 fn step_on<H: Host<Read>, D: Disk, E: Engine, W: Notes>(
+    alloc: Global,
     words: &Serve,
     node: Node,
-    queues: Queues<H::Rt, H::Replies, ReadJob>,
+    outbox: &mut Dispatcher<'_, H, W>,
     host: &mut H,
     disk: &mut D,
     engine: &mut E,
-    notes: &mut W,
 ) -> LoopEnd
     requires { CanStep (E.known engine.old) node }
     ensures runs { RunsByRules D.tells D.states D.faults E.meaning E.kind E.told E.refused_openings node disk.old disk.new
@@ -100,15 +100,17 @@ fn step_on<H: Host<Read>, D: Disk, E: Engine, W: Notes>(
     ensures disk { result ≡ loops.DiskFault → Rose (D.faults disk.old) (D.faults disk.new) }
     ensures count { D.faults disk.old ≤ D.faults disk.new }
 {
-    let mut outbox = Dispatcher::new(queues, notes, words.id);
     run_node(
         node,
         disk,
         engine,
         host,
-        &mut outbox,
+        outbox,
         words.events,
-        MAX_HELD_BYTES,
+        LoopSettings {
+            alloc,
+            most_held: MAX_HELD_BYTES,
+        },
     )
 }
 
@@ -136,7 +138,10 @@ fn go_on<H: Host<Read>, D: Disk, E: Engine + Send + Drop + 'static, W: Notes>(
     ensures count { D.faults disk.old ≤ D.faults disk.new }
 {
     match begin(alloc, words, host, engine, notes) {
-        Ok(queues) => end_of_loop(step_on(words, node, queues, host, disk, engine, notes)),
+        Ok(crew) => {
+            let mut outbox = Dispatcher::new(crew, notes, words.id);
+            end_of_loop(step_on(alloc, words, node, &mut outbox, host, disk, engine))
+        }
         Err(fault) => end_of_crew(fault),
     }
 }

@@ -1,10 +1,10 @@
-//! The servers of a cluster, by the arguments of one of its nodes.
+//! The servers with which a cluster was founded, by the arguments of one of its nodes.
 
 ghost use Rattle.std.specs.Prelude.{◌≡◌, ◌≤◌, ◌++◌, [], IfOk, OnOk};
 ghost use Rattle.std.specs.Option.{option_map};
 ghost use Rattle.raft_messages.specs.Servers.{IsConfiguration};
 ghost use Rattle.arguments.specs.Serving.{IsServable};
-ghost use Rattle.serve_node.specs.Named.{address_in, address_of, voter_at, voters_of};
+ghost use Rattle.serve_node.specs.Named.{address_in, own_address, address_of, voter_at, voters_of};
 
 use arguments::{Peer, Serve};
 use dq_base::Items;
@@ -31,12 +31,22 @@ fn address_in(peers: &[Peer], id: u64) -> Option<&WireText>
     None
 }
 
-/// The address of the node of an id.
+/// The address of the node itself, unless it joins.
+fn own_address(words: &Serve) -> Option<&WireText>
+    ensures { option_map (λ address. address.now) result ≡ own_address words.now }
+{
+    if words.joins {
+        return None;
+    }
+    Some(&words.listen)
+}
+
+/// The address of the voter of an id.
 fn address_of(words: &Serve, id: u64) -> Option<&WireText>
     ensures { option_map (λ address. address.now) result ≡ address_of words.now id }
 {
     if words.id == id {
-        return Some(&words.listen);
+        return own_address(words);
     }
     address_in(words.peers.as_slice(), id)
 }
@@ -63,7 +73,7 @@ fn add_voter(
 
 /// The voters that the arguments name, ascending by id.
 #[tactic(auto, using(crate::proofs::Configured::none_yet, crate::proofs::Configured::one_more))]
-fn named(alloc: Global, words: &Serve) -> Result<Servers, AllocError>
+pub(crate) fn named(alloc: Global, words: &Serve) -> Result<Servers, AllocError>
     ensures { IfOk result (λ servers. servers ≡ voters_of words.now) }
 {
     let mut servers = Vec::new(alloc);
@@ -74,7 +84,7 @@ fn named(alloc: Global, words: &Serve) -> Result<Servers, AllocError>
     Ok(Items::new(servers))
 }
 
-/// The voters of words that can be served, ascending by id.
+/// The voters of words that can be served, ascending by id. One that joins isn't among them.
 pub(crate) fn voters(alloc: Global, words: &Serve) -> Result<Servers, AllocError>
     requires { IsServable words.now }
     ensures voters { IfOk result (λ servers. servers ≡ voters_of words.now) }

@@ -1,3 +1,4 @@
 pub mod Lives
 pub mod Adding
 pub mod Reading
+mod Saying

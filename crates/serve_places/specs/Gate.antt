@@ -1,7 +1,9 @@
 -- Who speaks on a connection, by its first bytes, and which peers are taken.
-use Rattle.std.specs.Prelude.{◌≡◌, ◌≢◌, ◌+◌, ◌*◌, ℕ, Bool, true, false, List, drop, take, slice_index}
-use Rattle.std.specs.List.{list_any}
-use Rattle.peer_secret.specs.Same.{same_bytes}
+use Rattle.std.specs.Prelude.{◌≡◌, ◌≢◌, ◌+◌, ◌*◌, ◌==◌, ℕ, Bool, true, List, drop, take, slice_index, Option, Some, None}
+use Rattle.std.specs.List.{position}
+use Rattle.std.specs.Option.{option_map}
+use Rattle.peer_secret.specs.Checking.{is_pass}
+use Rattle.peer_secret.specs.declared.passes.PassCheck.{PassCheck}
 use Rattle.serve_places.specs.Pieces.{words_in}
 use Rattle.serve_places.specs.declared.gate.Speaker.{Speaker}
 use Rattle.serve_places.specs.declared.gate.Speaker.TheVariants.{Unknown, Client, Peer, Stranger}
@@ -10,22 +12,32 @@ use Rattle.serve_places.specs.declared.gate.Speaker.TheVariants.{Unknown, Client
 abbrev pub greeting_size : List ℕ → ℕ
 greeting_size front = 16 + 8 * words_in (drop 8 front)
 
--- whether these bytes are one of the greetings
-abbrev pub has_greeting : List (List ℕ) → List ℕ → Bool
-has_greeting greetings said = list_any (λ right. same_bytes right said) greetings
+abbrev pub is_nul : ℕ → Bool
+is_nul byte = byte == 0
 
--- If only some CONNECTs are taken, who says another one is neither a client nor a peer.
-abbrev pub SpeaksAsPeer : Bool → List (List ℕ) → List ℕ → Speaker → Type 0
-SpeaksAsPeer false greetings said who = Unit {0}
-SpeaksAsPeer true greetings said Unknown = Unit {0}
-SpeaksAsPeer true greetings said Client = ⊥
-SpeaksAsPeer true greetings said (Peer id) = has_greeting greetings said ≡ true
-SpeaksAsPeer true greetings said Stranger = Unit {0}
+-- the text of a CONNECT with the version before it: what stands after the id, up to a NUL
+abbrev pub said_text : List ℕ → Option (List ℕ)
+said_text greeting = option_map (λ end. take end (drop 24 greeting)) (position is_nul (drop 24 greeting))
 
--- If only some CONNECTs are taken, a client's first message is none, and a peer's is one of these.
-abbrev pub MaySpeak : Bool → List (List ℕ) → List ℕ → Speaker → Type 0
-MaySpeak false greetings front who = Unit {0}
-MaySpeak true greetings front Unknown = Unit {0}
-MaySpeak true greetings front Client = slice_index front 12 ≢ 11
-MaySpeak true greetings front (Peer id) = has_greeting greetings (take (greeting_size front) front) ≡ true
-MaySpeak true greetings front Stranger = Unit {0}
+-- A CONNECT, with the version before it, names this id, and its text is the pass of the node of this id.
+pub record SaysPass (check : PassCheck) (id : ℕ) (greeting : List ℕ) : Type 0 where
+  pub named : slice_index greeting 16 ≡ id
+  pub text : List ℕ
+  pub said : said_text greeting ≡ Some text
+  pub right : is_pass check id text ≡ true
+
+-- If only passes are taken, who says a CONNECT without one is neither a client nor a peer.
+abbrev pub SpeaksAsPeer : Option PassCheck → List ℕ → Speaker → Type 0
+SpeaksAsPeer None greeting who = Unit {0}
+SpeaksAsPeer (Some check) greeting Unknown = Unit {0}
+SpeaksAsPeer (Some check) greeting Client = ⊥
+SpeaksAsPeer (Some check) greeting (Peer id) = SaysPass check id greeting
+SpeaksAsPeer (Some check) greeting Stranger = Unit {0}
+
+-- If only passes are taken, a client's first message is no CONNECT, and a peer's is one with its pass.
+abbrev pub MaySpeak : Option PassCheck → List ℕ → Speaker → Type 0
+MaySpeak None front who = Unit {0}
+MaySpeak (Some check) front Unknown = Unit {0}
+MaySpeak (Some check) front Client = slice_index front 12 ≢ 11
+MaySpeak (Some check) front (Peer id) = SaysPass check id (take (greeting_size front) front)
+MaySpeak (Some check) front Stranger = Unit {0}

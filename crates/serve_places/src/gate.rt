@@ -1,14 +1,15 @@
 //! Who speaks on a connection, by its first bytes, and which peers are taken.
 
-ghost use Rattle.std.specs.Prelude.{◌≡◌, ◌≢◌, ◌≤◌, ◌+◌, ◌*◌, true, take, length};
-ghost use Rattle.serve_places.specs.Gate.{greeting_size, has_greeting, MaySpeak, SpeaksAsPeer};
+ghost use Rattle.std.specs.Prelude.{◌≡◌, ◌≢◌, ◌≤◌, ◌+◌, ◌*◌, true, drop, take, length, ◌<◌, slice_index, Some, IfSome};
+ghost use Rattle.std.specs.List.{position};
+ghost use Rattle.serve_places.specs.Gate.{greeting_size, is_nul, said_text, MaySpeak, SaysPass, SpeaksAsPeer};
 ghost use Rattle.serve_places.specs.declared.gate.Speaker.TheVariants as speaker;
 
 use crate::inflow::{CONNECT, FRONT_SIZE, words_in};
 use crate::limits::MAX_GREETING_BYTES;
-use peer_secret::is_same;
+use peer_secret::PassCheck;
 use std::alloc::Global;
-use wire_words::WireBytes;
+use std::str;
 
 /// Who speaks on a socket.
 #[derive(Clone, Copy, Debug, PartialEq, Eq)]
@@ -23,11 +24,14 @@ pub(crate) enum Speaker {
     Stranger,
 }
 
-/// Which CONNECTs are taken: any, or these alone, each with the version before it.
+/// How many bytes stand before the text of a CONNECT: the version, the header and the id.
+const TEXT_AT: usize = 24;
+
+/// Which CONNECTs are taken: any, or those alone that say a pass.
 #[derive(Drop)]
 pub(crate) struct Gate {
-    is_guarded: bool,
-    greetings: Vec<WireBytes>,
+    alloc: Global,
+    check: Option<PassCheck>,
 }
 
 /// How many bytes the version and the first message have.
@@ -62,7 +66,9 @@ pub(crate) fn has_front(front: &[u8]) -> bool
 }
 
 /// The id that a CONNECT names, if it has one that a node may have.
-fn id_in(greeting: &[u8]) -> Option<u64> {
+fn id_in(greeting: &[u8]) -> Option<u64>
+    ensures { IfSome result (λ id. slice_index greeting.now 16 ≡ id) }
+{
     match greeting {
         [
             _,
@@ -95,27 +101,72 @@ fn id_in(greeting: &[u8]) -> Option<u64> {
     }
 }
 
+/// The text that a CONNECT says, with the version before it.
+fn said_text(greeting: &[u8]) -> Option<&str>
+    ensures { IfSome result (λ text. said_text greeting.now ≡ Some text.now) }
+{
+    if greeting.len() < TEXT_AT {
+        return None;
+    }
+    let rest = after_id(greeting);
+    match nul_place(rest) {
+        Some(end) => as_text(&rest[..end]),
+        None => None,
+    }
+}
+
+/// What stands after the id of a CONNECT, with the version before it.
+fn after_id(greeting: &[u8]) -> &[u8]
+    requires { 24 ≤ length greeting.now }
+    ensures { result.now ≡ drop 24 greeting.now }
+{
+    &greeting[TEXT_AT..]
+}
+
+/// Where the first NUL is.
+fn nul_place(bytes: &[u8]) -> Option<usize>
+    ensures is { result ≡ position is_nul bytes.now }
+    ensures within { IfSome result (λ place. place < length bytes.now) }
+{
+    bytes.iter().position(|byte| *byte == 0)
+}
+
+/// The text of these bytes, if they are UTF-8.
+fn as_text(bytes: &[u8]) -> Option<&str>
+    ensures { IfSome result (λ text. text.now ≡ bytes.now) }
+{
+    str::from_utf8(bytes).ok()
+}
+
+/// Whether a CONNECT says the pass of the node of this id. If memory runs out it counts as one that doesn't.
+fn says_pass(alloc: Global, check: &PassCheck, id: u64, greeting: &[u8]) -> bool
+    requires { slice_index greeting.now 16 ≡ id }
+    ensures { result ≡ true → SaysPass check.now id greeting.now }
+{
+    match said_text(greeting) {
+        Some(text) => check.is_pass(alloc, id, text).unwrap_or(false),
+        None => false,
+    }
+}
+
 impl Gate {
     /// Any CONNECT is taken.
     pub(crate) fn open(alloc: Global) -> Gate {
+        Gate { alloc, check: None }
+    }
+
+    /// Those CONNECTs are taken that say a pass.
+    pub(crate) fn guarded(alloc: Global, check: PassCheck) -> Gate {
         Gate {
-            is_guarded: false,
-            greetings: Vec::new(alloc),
+            alloc,
+            check: Some(check),
         }
     }
 
-    /// These CONNECTs are taken, each with the version before it.
-    pub(crate) fn guarded(greetings: Vec<WireBytes>) -> Gate {
-        Gate {
-            is_guarded: true,
-            greetings,
-        }
-    }
-
-    /// Who speaks on a connection that begins with these bytes. If only some CONNECTs are taken, a node that speaks has said one of them.
+    /// Who speaks on a connection that begins with these bytes. If only some CONNECTs are taken, a node that speaks has said its pass.
     pub(crate) fn speaker(&self, front: &[u8]) -> Speaker
         ensures front { result ≢ speaker.Unknown → 16 ≤ length front.now }
-        ensures right { MaySpeak self.now.is_guarded self.now.greetings.items front.now result }
+        ensures right { MaySpeak self.now.check front.now result }
     {
         if !has_front(front) {
             return Speaker::Unknown;
@@ -133,24 +184,15 @@ impl Gate {
     /// Who says this CONNECT, with the version before it.
     fn greeter(&self, greeting: &[u8]) -> Speaker
         ensures known { result ≢ speaker.Unknown }
-        ensures right { SpeaksAsPeer self.now.is_guarded self.now.greetings.items greeting.now result }
+        ensures right { SpeaksAsPeer self.now.check greeting.now result }
     {
-        if self.is_guarded && !self.has(greeting) {
-            return Speaker::Stranger;
+        match (&self.check, id_in(greeting)) {
+            (None, Some(id)) => Speaker::Peer(id),
+            (None, None) => Speaker::Client,
+            (Some(check), Some(id)) if says_pass(self.alloc, check, id, greeting) => {
+                Speaker::Peer(id)
+            }
+            (Some(_), _) => Speaker::Stranger,
         }
-        match id_in(greeting) {
-            Some(id) => Speaker::Peer(id),
-            None if self.is_guarded => Speaker::Stranger,
-            None => Speaker::Client,
-        }
-    }
-
-    /// Whether a CONNECT is one of those that are taken.
-    fn has(&self, greeting: &[u8]) -> bool
-        ensures { result ≡ has_greeting self.now.greetings.items greeting.now }
-    {
-        self.greetings
-            .iter()
-            .any(|right| is_same(right.as_slice(), greeting))
     }
 }

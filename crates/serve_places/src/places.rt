@@ -12,6 +12,7 @@ use crate::place::Place;
 use crate::refused::Refused;
 use crate::rooms::Rooms;
 use crate::stream::ReadyStream;
+use peer_secret::PassCheck;
 use serve_traits::Event;
 use std::alloc::{AllocError, Global};
 use std::collections::VecDeque;
@@ -82,11 +83,11 @@ impl<S: ReadyStream> Places<S> {
         })
     }
 
-    /// From now on only these CONNECTs are taken, each with the version before it.
-    pub fn guard(&mut self, greetings: Vec<WireBytes>)
+    /// From now on only those CONNECTs are taken that say a pass.
+    pub fn guard(&mut self, check: PassCheck)
         ensures numbers { self.new.numbers ≡ self.old.numbers }
     {
-        self.gate = Gate::guarded(greetings);
+        self.gate = Gate::guarded(self.alloc, check);
     }
 
     /// How many connections were not taken since this was asked last.

@@ -13,6 +13,7 @@ mod tcp_dialer;
 mod tcp_host;
 mod tcp_peer;
 mod tcp_replies;
+mod tunnels;
 
 pub use list_host::ListHost;
 pub use mem_dialer::{MemPeerConnection, MemPeerDialer};
@@ -22,3 +23,4 @@ pub use tcp_dialer::TcpDialer;
 pub use tcp_host::{HostFault, TcpHost};
 pub use tcp_peer::{TcpPeerConnection, TcpPeerDialer};
 pub use tcp_replies::TcpReplies;
+pub use tunnels::Tunnels;

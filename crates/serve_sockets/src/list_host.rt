@@ -11,7 +11,7 @@ use std::alloc::{AllocError, Global};
 use std::sync::Wait;
 use std::thread::Threads;
 use std::time::Clock;
-use wire_words::WireBytes;
+use wire_words::{WireBytes, WireText};
 
 /// A host over memory whose events are those of a list: a take fails if none is left. It reports them. No connection comes if it
 /// listens, replies and messages to peers get lost, and what is posted at its ends is never taken.
@@ -77,6 +77,10 @@ impl<R: Threads + Wait + Clock + Copy + Drop + Send + 'static, T: Drop> Host<T> 
     }
 
     fn greeting(&self, _peer: u64) -> Result<Option<WireBytes>, AllocError> {
+        Ok(None)
+    }
+
+    fn detour(&self, _peer: u64) -> Result<Option<WireText>, AllocError> {
         Ok(None)
     }
 

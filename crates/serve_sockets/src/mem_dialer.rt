@@ -4,6 +4,7 @@ ghost use Rattle.std.specs.Prelude.{None};
 
 use dq_base::Failed;
 use serve_traits::{PeerConnection, PeerDialer};
+use std::alloc::AllocError;
 
 /// A dialer of peers that has no socket: each dial succeeds, and what is written gets lost.
 #[derive(Drop)]
@@ -31,6 +32,10 @@ impl PeerDialer for MemPeerDialer {
     type Connection = MemPeerConnection;
 
     ghost faults = { λ _. 0 };
+
+    fn again(&self) -> Result<MemPeerDialer, AllocError> {
+        Ok(MemPeerDialer)
+    }
 
     fn dial(&mut self, _address: &str) -> Result<MemPeerConnection, Failed> {
         Ok(MemPeerConnection)

@@ -14,7 +14,7 @@ use std::alloc::{AllocError, Global};
 use std::sync::Wait;
 use std::thread::Threads;
 use std::time::Clock;
-use wire_words::WireBytes;
+use wire_words::{WireBytes, WireText};
 
 /// A host over memory, whose workers run in threads of the runtime. Some of its calls may be made to fail.
 ///
@@ -158,6 +158,10 @@ impl<R: Threads + Wait + Clock + Copy + Drop + Send + 'static, T: Drop> Host<T> 
     }
 
     fn greeting(&self, _peer: u64) -> Result<Option<WireBytes>, AllocError> {
+        Ok(None)
+    }
+
+    fn detour(&self, _peer: u64) -> Result<Option<WireText>, AllocError> {
         Ok(None)
     }
 

@@ -8,7 +8,9 @@ use crate::ready_socket::ReadySocket;
 use crate::refusal_lines::RefusalLines;
 use crate::tcp_peer::TcpPeerDialer;
 use crate::tcp_replies::TcpReplies;
+use crate::tunnels::Tunnels;
 use dq_base::Failed;
+use peer_secret::PassCheck;
 use serve_places::{PeerSign, Places};
 use serve_threads::{
     ChannelInbox, ChannelPost, Host, HostCounts, LeaderContact, LineQueue, event_channel,
@@ -20,7 +22,7 @@ use std::net::TcpListener;
 use std::sync::{Arc, Mutex, Wait};
 use std::thread::Threads;
 use std::time::Clock;
-use wire_words::WireBytes;
+use wire_words::{WireBytes, WireText};
 
 /// Milliseconds since a moment that doesn't change; 0 if no clock can be read.
 fn moment_of(rt: &HostRuntime) -> u64 {
@@ -73,6 +75,7 @@ pub struct TcpHost<R: Wait + Copy + Drop, T: Drop> {
     bound: Option<io::Result<TcpListener>>,
     poller: Option<Poller>,
     greetings: Vec<(u64, WireBytes)>,
+    tunnels: Tunnels,
     refusals: RefusalLines,
     turns: usize,
     taken: u64,
@@ -98,6 +101,7 @@ impl<R: Wait + Copy + Drop, T: Drop> TcpHost<R, T> {
             bound: None,
             poller: None,
             greetings: Vec::new(alloc),
+            tunnels: Tunnels::new(alloc),
             refusals,
             turns: 0,
             taken: 0,
@@ -113,10 +117,15 @@ impl<R: Wait + Copy + Drop, T: Drop> TcpHost<R, T> {
     }
 
     /// The bytes with which a connection to the peer of each id begins, in place of the version and a CONNECT with the node's address; and
-    /// those with which a connection of a peer may begin. One that begins with another CONNECT is closed.
-    pub fn guard(&mut self, greetings: Vec<(u64, WireBytes)>, taken: Vec<WireBytes>) {
+    /// by what it is told which peers are taken. A connection that begins with another CONNECT is closed.
+    pub fn guard(&mut self, greetings: Vec<(u64, WireBytes)>, check: PassCheck) {
         self.greetings = greetings;
-        self.places.lock(&self.rt).guard(taken);
+        self.places.lock(&self.rt).guard(check);
+    }
+
+    /// Has peers be dialled, and the host listen, at addresses of tunnels.
+    pub fn tunnel(&mut self, tunnels: Tunnels) {
+        self.tunnels = tunnels;
     }
 
     /// Binds an address before the host listens there, and says whether that was possible. Connections that come wait. The next `listen`,
@@ -125,7 +134,7 @@ impl<R: Wait + Copy + Drop, T: Drop> TcpHost<R, T> {
         ensures taken { self.new.taken ≡ self.old.taken }
         ensures faults { self.new.faults ≡ self.old.faults }
     {
-        let bound = TcpListener::bind(&self.sockets, address);
+        let bound = TcpListener::bind(&self.sockets, self.tunnels.bound_at(address));
         let is_bound = bound.is_ok();
         self.bound = Some(bound);
         is_bound
@@ -297,7 +306,8 @@ impl<R: Threads + Wait + Clock + Copy + Drop + Send + 'static, T: Drop> Host<T> 
         let Some(listens) = self.done.listens.checked_add(1) else {
             return Err(self.fail("listen", None));
         };
-        match listen_at(&self.sockets, address, self.bound.take()) {
+        let bound = self.bound.take();
+        match listen_at(&self.sockets, self.tunnels.bound_at(address), bound) {
             Ok(poller) => {
                 self.places.lock(&self.rt).tick(moment_of(&self.sockets));
                 self.poller = Some(poller);
@@ -315,6 +325,16 @@ impl<R: Threads + Wait + Clock + Copy + Drop + Send + 'static, T: Drop> Host<T> 
             }
         }
         Ok(None)
+    }
+
+    fn detour(&self, peer: u64) -> Result<Option<WireText>, AllocError> {
+        match self.tunnels.detour(peer) {
+            Some(address) => {
+                let copy = String::from_str(self.sockets.alloc(), address.as_str())?;
+                Ok(Some(WireText::new(copy)))
+            }
+            None => Ok(None),
+        }
     }
 
     fn dialer(&mut self) -> Result<TcpPeerDialer, Failed> {

@@ -153,6 +153,10 @@ impl PeerDialer for TcpPeerDialer {
 
     ghost faults = { λ dialer. dialer.faults };
 
+    fn again(&self) -> Result<TcpPeerDialer, AllocError> {
+        Ok(TcpPeerDialer::new(self.rt, self.lines.again()?))
+    }
+
     fn dial(&mut self, address: &str) -> Result<TcpPeerConnection, Failed> {
         match open(&self.rt, address) {
             Ok(stream) => Ok(TcpPeerConnection::new(self.rt, &self.lines, address, stream)),

@@ -9,7 +9,7 @@ use std::alloc::AllocError;
 use std::sync::Wait;
 use std::thread::Threads;
 use std::time::Clock;
-use wire_words::WireBytes;
+use wire_words::{WireBytes, WireText};
 
 /// A host listens for a node, gives it what dials its peers and brings it its events, and counts the threads that work concurrently with it.
 ///
@@ -57,6 +57,9 @@ pub trait Host<T: Drop>: Inbox<T> {
     /// The bytes with which a connection to the peer of this id begins, if they are others than the version and a CONNECT with the node's
     /// address.
     fn greeting(&self, peer: u64) -> Result<Option<WireBytes>, AllocError>;
+
+    /// The address at which the peer of this id is dialled, if it is another one than that at which others reach it.
+    fn detour(&self, peer: u64) -> Result<Option<WireText>, AllocError>;
 
     /// What dials peers, for another thread.
     fn dialer(&mut self) -> Result<Self::Dialer, Failed>

@@ -1,32 +1,34 @@
 //! What a node says, handed to the threads that carry it.
 
 use crate::leader_contact::LeaderContact;
-use crate::peer_queue::PeerQueue;
+use crate::peer_routes::PeerRoutes;
 use crate::reader::LentQuery;
 use crate::replies::Replies;
 use crossbeam_channel::Sender;
-use raft_messages::RaftMessage;
+use raft_messages::{RaftMessage, Server};
+use serve_traits::PeerDialer;
 use std::sync::Wait;
-use wire_words::WireBytes;
+use std::thread::Threads;
+use std::time::Clock;
+use wire_words::{WireBytes, WireText};
 
 /// The queues to all threads that carry what a node says. None of its calls waits for one of them except for the moment in which
 /// that one touches the queue, and each queue is bounded.
-///
-/// Once it is dropped the threads of peers end, each after what waits.
-pub struct Queues<R: Wait + Copy + Drop, L: Replies, J: Drop> {
+#[derive(Drop)]
+pub struct Queues<R: Wait + Clock + Copy + Drop, D: PeerDialer, L: Replies, J: Drop> {
     /// For its waits.
     pub rt: R,
     /// Where replies go.
     pub replies: L,
-    /// The peers' ids and queues.
-    pub peers: Vec<(u64, PeerQueue)>,
+    /// Where messages to other nodes go.
+    pub peers: PeerRoutes<R, D>,
     /// The readers' queues.
     pub readers: Vec<Sender<LentQuery<J>>>,
     /// Where it is noted that the node answered a leader or gave its vote.
     pub heard: LeaderContact,
 }
 
-impl<R: Wait + Copy + Drop, L: Replies, J: Drop> Queues<R, L, J> {
+impl<R: Wait + Clock + Copy + Drop, D: PeerDialer, L: Replies, J: Drop> Queues<R, D, L, J> {
     /// Sends a reply. A connection that reads too slowly, or for which memory runs out, is closed.
     pub fn reply(&self, conn: u64, bytes: WireBytes) {
         self.replies.reply(conn, bytes);
@@ -44,18 +46,7 @@ impl<R: Wait + Copy + Drop, L: Replies, J: Drop> Queues<R, L, J> {
 
     /// Notes for the threads of peers that the node has made one step more. It is called before what the step says is handed on.
     pub fn note_step(&self) {
-        for (_, queue) in &self.peers {
-            queue.note_step();
-        }
-    }
-
-    /// Sends a message to the peer that it is for. It gets lost if too many wait, and if no peer has the id.
-    pub fn send(&self, message: RaftMessage) {
-        self.heard.note(&message);
-        let to = message.to;
-        if let Some((_, queue)) = self.peers.iter().find(|(id, _)| *id == to) {
-            queue.put(&self.rt, message);
-        }
+        self.peers.note_step();
     }
 
     /// Lends a query to a reader, to the same one for each query of a connection. If memory runs out, or there is no reader, the
@@ -74,17 +65,25 @@ impl<R: Wait + Copy + Drop, L: Replies, J: Drop> Queues<R, L, J> {
     }
 }
 
-impl<R: Wait + Copy + Drop, L: Replies, J: Drop> Drop for Queues<R, L, J> {
-    fn drop(self) {
-        let Queues {
-            rt,
-            replies: _,
-            peers,
-            readers: _,
-            heard: _,
-        } = self;
-        for (_, peer) in &peers {
-            peer.close(&rt);
-        }
+impl<
+    R: Threads + Wait + Clock + Copy + Drop + Send + 'static,
+    D: PeerDialer + Send + 'static,
+    L: Replies,
+    J: Drop,
+> Queues<R, D, L, J> {
+    /// Sends a message to the node that it is for. It gets lost if too many wait, and if that node's address is not known.
+    pub fn send(&mut self, message: RaftMessage) {
+        self.heard.note(&message);
+        self.peers.send(message);
+    }
+
+    /// Messages go to the addresses of these servers from now on.
+    pub fn follow(&mut self, servers: &[Server]) {
+        self.peers.follow(servers);
+    }
+
+    /// The node of an id says that it is reached at this address, which counts if no server has the id.
+    pub fn call(&mut self, id: u64, address: WireText) {
+        self.peers.call(id, address);
     }
 }

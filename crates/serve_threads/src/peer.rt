@@ -1,5 +1,6 @@
 //! The connection to a peer.
 
+use crate::peer_address::PeerAddress;
 use crate::peer_link::{PeerLink, REPEAT_MS};
 use crate::peer_queue::{NextMessage, PeerQueue};
 use crate::repeats::Repeats;
@@ -8,11 +9,11 @@ use serve_traits::{PeerConnection, PeerDialer};
 use std::alloc::Global;
 use std::sync::Wait;
 use std::time::{Clock, Duration};
-use wire_words::{WireBytes, WireText};
+use wire_words::WireBytes;
 
 /// Sends messages to one peer, over a connection that it dials. If the connection fails or was ended by the peer it is dropped, and a message
 /// of which the write failed gets lost. The next one has the peer dialled again, and so has one that comes more than a second after the last
-/// write, of a peer whose end came unseen.
+/// write, of a peer whose end came unseen. A connection to an address that is no longer the peer's is dropped at once.
 ///
 /// While the node is in a step that takes long, the last Append of its term is sent again every 200 ms, if it has at most 4,096 bytes, up to
 /// five seconds after the last message. An Install that was written on the connection within the last five seconds is not written again; the
@@ -25,8 +26,8 @@ pub struct Peer<R: Wait + Clock + Copy + Drop, D: PeerDialer> {
     pub rt: R,
     /// What dials.
     pub dialer: D,
-    /// The peer's address.
-    pub address: WireText,
+    /// The peer's address. A message to a peer without one is dropped.
+    pub address: PeerAddress,
     /// What is written first on each connection: the version and a CONNECT.
     pub greeting: WireBytes,
     /// The messages.
@@ -76,15 +77,28 @@ impl<R: Wait + Clock + Copy + Drop, D: PeerDialer> Peer<R, D> {
                 NextMessage::Closed => return,
                 NextMessage::Message(message) => {
                     repeats.begin(self.moment(), self.queue.step_count());
+                    link = self.followed(link);
                     link = self.pass_on(link, &mut repeats, &message);
                 }
                 NextMessage::Nothing => {
+                    link = self.followed(link);
                     if repeats.is_due(self.moment(), self.queue.step_count()) {
                         link = self.repeat(open_link(link), &repeats);
                     }
                 }
             }
         }
+    }
+
+    /// The connection, unless the peer's address has changed.
+    fn followed(
+        &mut self,
+        link: Option<PeerLink<D::Connection>>,
+    ) -> Option<PeerLink<D::Connection>> {
+        if self.address.has_changed(&self.rt, self.alloc) {
+            return None;
+        }
+        link
     }
 
     /// Milliseconds since a moment that doesn't change; 0 if no clock can be read.
@@ -167,7 +181,7 @@ impl<R: Wait + Clock + Copy + Drop, D: PeerDialer> Peer<R, D> {
 
     /// A connection to the peer, with the greeting written.
     fn dial(&mut self) -> Option<PeerLink<D::Connection>> {
-        let connection = self.dialer.dial(self.address.as_str()).ok()?;
+        let connection = self.dialer.dial(self.address.current()?).ok()?;
         let mut link = PeerLink::new(connection, self.moment());
         if !link.write(self.greeting.as_slice()) {
             return None;

@@ -16,6 +16,7 @@ const MAX_OTHERS: usize = 26_214;
 pub(crate) struct PeerMail {
     bulk: Option<RaftMessage>,
     others: VecDeque<RaftMessage>,
+    is_woken: bool,
     is_closed: bool,
     ghost bounded: { length others.items ≤ 26214 },
 }
@@ -36,6 +37,7 @@ impl PeerMail {
         PeerMail {
             bulk: None,
             others: VecDeque::new(alloc),
+            is_woken: false,
             is_closed: false,
         }
     }
@@ -60,15 +62,21 @@ impl PeerMail {
     pub(crate) fn next(&mut self) -> Option<RaftMessage>
         ensures { SentNext self.old.bulk self.old.others.items self.new.bulk self.new.others.items result }
     {
+        self.is_woken = false;
         if let Some(message) = self.others.pop_front() {
             return Some(message);
         }
         self.bulk.take()
     }
 
-    /// Whether nothing waits, and more may come.
+    /// Whether nothing waits, and more may come, and who takes messages isn't woken.
     pub(crate) fn is_waiting(&self) -> bool {
-        self.bulk.is_none() && self.others.is_empty() && !self.is_closed
+        self.bulk.is_none() && self.others.is_empty() && !self.is_woken && !self.is_closed
+    }
+
+    /// Has the next wait for a message end, also without one.
+    pub(crate) fn wake(&mut self) {
+        self.is_woken = true;
     }
 
     /// No message is taken any more.

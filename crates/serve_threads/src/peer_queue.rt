@@ -76,6 +76,14 @@ impl PeerQueue {
         }
     }
 
+    /// Has the thread that takes look around now, though no message is there.
+    pub fn wake<R: Wait>(&self, rt: &R) {
+        let mut mail = self.shared.mail.lock(rt);
+        mail.wake();
+        drop(mail);
+        self.shared.came.notify_one();
+    }
+
     /// Notes that the node has made one step more, before what the step says is put.
     pub fn note_step(&self) {
         self.shared.steps.fetch_add(1, Ordering::SeqCst);

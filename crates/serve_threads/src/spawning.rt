@@ -18,7 +18,7 @@ use std::time::Clock;
 const READER_STACK: usize = 8_388_608;
 
 /// The room of any other thread.
-const STACK: usize = 262_144;
+pub(crate) const STACK: usize = 262_144;
 
 /// How much room the thread of a worker has.
 fn stack_of<R: Wait + Clock + Copy + Drop, D: PeerDialer, Q: Reader>(

@@ -1,6 +1,7 @@
 //! Connections to peers, and what dials them.
 
 use dq_base::Failed;
+use std::alloc::AllocError;
 
 /// A connection to a peer, over which messages are written. It may be moved to another thread.
 ///
@@ -39,6 +40,9 @@ pub trait PeerDialer: Send + Drop + Sized {
 
     /// How many times a call failed.
     ghost faults: { Self → ℕ };
+
+    /// Another one, for another thread.
+    fn again(&self) -> Result<Self, AllocError>;
 
     /// Dials an address, as `localhost:9001`.
     fn dial(&mut self, address: &str) -> Result<Self::Connection, Failed>

@@ -6,7 +6,7 @@ use crate::messages::Said;
 use Said::{Exec, Open};
 use What::{Connects, Says, Timeout};
 use disk_model::MemDisk;
-use serve_loop::run_node;
+use serve_loop::{LoopSettings, run_node};
 use session_gateway::StepLimits;
 use sqlite_engine::SqliteEngine;
 use std::alloc::Global;
@@ -74,7 +74,10 @@ fn opens<R: Wait + Copy + Drop>(
         &mut feed,
         &mut desk,
         EVENTS,
-        SETTING.most,
+        LoopSettings {
+            alloc,
+            most_held: SETTING.most,
+        },
     );
     Some(engine.openings())
 }

@@ -9,7 +9,7 @@ use crate::lives::{ONE, Setting, What, event_of, started};
 use crate::messages::Said as Says;
 use crossbeam_channel::{Receiver, Sender, unbounded};
 use disk_model::MemDisk;
-use serve_loop::{StepReport, run_node};
+use serve_loop::{LoopSettings, StepReport, run_node};
 use serve_threads::{ChannelPost, LentQuery, Reader, ReaderWorker, event_channel};
 use serve_traits::{Outbox, Post};
 use session_gateway::StepLimits;
@@ -173,7 +173,10 @@ fn life<R: Threads + Wait + Clock + Copy + Drop + Send + Sync + 'static>(
                 &mut inbox,
                 &mut desk,
                 u64::MAX,
-                SETTING.most,
+                LoopSettings {
+                    alloc,
+                    most_held: SETTING.most,
+                },
             );
             desk.heard
         },

@@ -9,7 +9,7 @@ use crate::messages::{Said as Says, bytes_of};
 use disk_model::{Disk, MemDisk};
 use node_core::{Node, NodeSpec};
 use raft_messages::read_servers;
-use serve_loop::{StepReport, run_node};
+use serve_loop::{LoopSettings, StepReport, run_node};
 use serve_traits::{Event, Inbox, Outbox};
 use session_gateway::StepLimits;
 use session_outcomes::Read;
@@ -102,7 +102,11 @@ fn live<E: Engine, I: Inbox<Read>, O: Outbox<StepReport>>(
 {
     let mut disk = MemDisk::new(alloc);
     let node = started(alloc, setting, &mut disk)?;
-    run_node(node, &mut disk, engine, inbox, outbox, EVENTS, setting.most);
+    let settings = LoopSettings {
+        alloc,
+        most_held: setting.most,
+    };
+    run_node(node, &mut disk, engine, inbox, outbox, EVENTS, settings);
     Some(())
 }
 

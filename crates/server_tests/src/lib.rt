@@ -17,6 +17,8 @@ mod peers;
 #[cfg(test)]
 mod places;
 #[cfg(test)]
+mod routes;
+#[cfg(test)]
 mod script;
 #[cfg(test)]
 mod secrets;

@@ -3,7 +3,7 @@
 use crate::taps::{Deeds, TapDialer};
 use dq_base::{Calls, Items};
 use raft_messages::{LogEnd, MessageBody, RaftMessage, SharedBytes, Snapshot};
-use serve_threads::{NextMessage, Peer, PeerQueue};
+use serve_threads::{NextMessage, Peer, PeerAddress, PeerQueue};
 use std::alloc::Global;
 use std::sync::Wait;
 use std::test::*;
@@ -13,10 +13,10 @@ use std::time::{Clock, Duration};
 use wire_words::WireText;
 
 /// Where the low byte of the term is in a message's bytes.
-const TERM_AT: usize = 16;
+pub(crate) const TERM_AT: usize = 16;
 
 /// A message of node 1 to node 2 in this term: an Append, or else a TimeoutNow.
-fn message(alloc: Global, term: u64, is_bulk: bool) -> RaftMessage {
+pub(crate) fn message(alloc: Global, term: u64, is_bulk: bool) -> RaftMessage {
     let what = if is_bulk {
         MessageBody::Append {
             prev: LogEnd { term: 0, index: 0 },
@@ -84,7 +84,7 @@ fn peer<R: Wait + Clock + Copy + Drop>(
             fails: Some(Vec::from_slice(alloc, writes).ok()?),
             calls: Calls::new(Vec::from_slice(alloc, dials).ok()?),
         },
-        address: WireText::new(String::new(alloc)),
+        address: PeerAddress::fixed(alloc, WireText::new(String::new(alloc))).ok()?,
         greeting: Items::new(Vec::from_slice(alloc, b"0123456789abcdefg").ok()?),
         queue: queue.again().ok()?,
     })

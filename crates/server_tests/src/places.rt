@@ -2,11 +2,12 @@
 
 use crate::script::Script;
 use dq_base::Items;
+use peer_secret::PassCheck;
 use serve_places::{CutCause, MAX_CLIENTS, Places, Readiness};
 use serve_traits::Event;
 use std::alloc::{AllocError, Global};
 use std::test::*;
-use wire_words::WireBytes;
+use wire_words::WireText;
 
 /// The version, a message of one word, and one of two.
 const SAID: &[u8; 48] =
@@ -36,6 +37,28 @@ const THIRD_LARGE: &[u8] =
 const LATE: &[u8] =
     b"\x01\0\0\0\0\0\0\0\x01\0\0\0\x03\0\0\0one word\x02\0\0\0\x0b\0\0\0\x02\0\0\0\0\0\0\0here:2\0\0";
 
+/// With the version, CONNECTs of nodes that have the cluster's secret, to node 1: of node 2, of node 8, and those that are not taken: of node 3
+/// with the pass of node 2, of node 3 with its pass to node 4, and of node 1.
+const SECOND_PASS: &[u8] =
+    b"\x01\0\0\0\0\0\0\0\x0b\0\0\0\x0b\0\0\0\x02\0\0\0\0\0\0\0here:2 2 1 753efcf9260f223789ccef632da0c\
+      c89cf38b1e9137f6c0cec35e02fcfa04ea6\0\0\0\0\0";
+
+const EIGHTH_PASS: &[u8] =
+    b"\x01\0\0\0\0\0\0\0\x0b\0\0\0\x0b\0\0\0\x08\0\0\0\0\0\0\0there:8 8 1 4cb8d94e98b0bd6b1ebb40eaa6c2\
+      5ee6a068dfd6edc1f87d1591f69fe2939903\0\0\0\0";
+
+const OTHER_ID: &[u8] =
+    b"\x01\0\0\0\0\0\0\0\x0b\0\0\0\x0b\0\0\0\x03\0\0\0\0\0\0\0here:2 2 1 753efcf9260f223789ccef632da0c\
+      c89cf38b1e9137f6c0cec35e02fcfa04ea6\0\0\0\0\0";
+
+const OTHER_END: &[u8] =
+    b"\x01\0\0\0\0\0\0\0\x0b\0\0\0\x0b\0\0\0\x03\0\0\0\0\0\0\0here:3 3 4 f37eadafcb459bb4d8df9daf752b6\
+      0bd4a26d31381d20f0f0835dac344bdfe12\0\0\0\0\0";
+
+const OWN_PASS: &[u8] =
+    b"\x01\0\0\0\0\0\0\0\x0b\0\0\0\x0b\0\0\0\x01\0\0\0\0\0\0\0here:1 1 1 f50d15dbce13cac851dc5f8806f01\
+      db773d749e8fd5d6d1c8ea19e069f63b9ee\0\0\0\0\0";
+
 /// What is done to the places. The first number is that of a socket or of a connection.
 #[derive(Clone, Copy)]
 enum Deed {
@@ -43,7 +66,7 @@ enum Deed {
     Come(usize, usize, usize, bool, usize),
     /// One comes that says these bytes, this many at a time.
     Say(usize, &'static [u8], usize),
-    /// Of CONNECTs only `SECOND` is taken from now on.
+    /// Of CONNECTs only those to node 1 with a pass are taken from now on.
     Guard,
     /// The system says that a socket can be read, and one turn is made.
     Turn(usize),
@@ -166,14 +189,18 @@ const ROWS: &[(&[Deed], &[u8])] = &[
     (
         &[
             Guard,
-            Say(0, SECOND, 32),
+            Say(0, SECOND_PASS, 104),
             Read(0),
-            Say(1, WRONG, 32),
-            Say(2, THIRD, 32),
-            Say(3, TENTH, 32),
+            Say(1, SECOND, 32),
+            Say(2, OTHER_ID, 104),
+            Say(3, OTHER_END, 104),
+            Read(1),
+            Say(1, OWN_PASS, 104),
+            Say(2, TENTH, 32),
+            Say(3, EIGHTH_PASS, 104),
             Read(1),
         ],
-        b"  cy     ",
+        b"  cy        cy ",
     ),
     (&[Guard, Come(0, 48, 48, false, 0), Read(0)], b"  cyy "),
     (
@@ -245,11 +272,14 @@ fn readiness(is_readable: bool) -> Readiness {
     }
 }
 
-/// The CONNECTs that are taken once there is a guard.
-fn taken(alloc: Global) -> Result<Vec<WireBytes>, AllocError> {
-    let mut taken = Vec::new(alloc);
-    taken.push(Items::new(Vec::from_slice(alloc, SECOND)?))?;
-    Ok(taken)
+/// By what node 1 tells which CONNECTs are taken.
+fn check(alloc: Global) -> Result<PassCheck, AllocError> {
+    let cluster = " 1=localhost:9001 2=localhost:9002 3=localhost:9003";
+    Ok(PassCheck {
+        secret: Items::new(Vec::from_slice(alloc, b"sixteen bytes and some more")?),
+        cluster: WireText::new(String::from_str(alloc, cluster)?),
+        receiver: 1,
+    })
 }
 
 /// Does one deed, and adds the mark of a reply that cuts its connection.
@@ -265,7 +295,7 @@ fn perform(
             places.accept(at, Script::new(alloc, said, piece, ends, refusals)?);
         }
         Say(at, said, piece) => places.accept(at, Script::new(alloc, said, piece, false, 0)?),
-        Guard => places.guard(taken(alloc).ok()?),
+        Guard => places.guard(check(alloc).ok()?),
         Turn(at) => {
             places.note(at, readiness(true));
             if let Some(event) = places.next() {

@@ -4,24 +4,25 @@ ghost use Rattle.std.specs.Prelude.{None};
 use crate::addresses::free_address;
 use crate::echo::{Echo, Said};
 use serve_sockets::TcpHost;
-use serve_threads::{Host, LeaderContact, Queues, Replies};
-use serve_traits::{LoopEnd, Outbox, StepFault, core_loop};
+use serve_threads::{Host, LeaderContact, PeerRoutes, Queues, Replies};
+use serve_traits::{LoopEnd, Outbox, PeerDialer, StepFault, core_loop};
 use std::alloc::Global;
 use std::io::{Read, Write};
 use std::net::{Shutdown, TcpStream};
 use std::sync::Wait;
 use std::test::*;
+use std::time::Clock;
 
 /// The version, and a message of one word.
 const ASKED: &[u8; 24] = b"\x01\0\0\0\0\0\0\0\x01\0\0\0\x03\0\0\0sentence";
 
 /// An outbox over queues.
 #[derive(Drop)]
-struct Outward<R: Wait + Copy + Drop, L: Replies> {
-    queues: Queues<R, L, u8>,
+struct Outward<R: Wait + Clock + Copy + Drop, D: PeerDialer, L: Replies> {
+    queues: Queues<R, D, L, u8>,
 }
 
-impl<R: Wait + Copy + Drop, L: Replies> Outbox<Said> for Outward<R, L> {
+impl<R: Wait + Clock + Copy + Drop, D: PeerDialer, L: Replies> Outbox<Said> for Outward<R, D, L> {
     ghost said = { λ _. None };
 
     fn put(&mut self, outs: Said) {
@@ -36,7 +37,7 @@ fn echo<H: Host<u8>>(host: &mut H, alloc: Global, steps: u64) -> Option<LoopEnd>
     let queues = Queues {
         rt: host.rt(),
         replies: host.replies().ok()?,
-        peers: Vec::new(alloc),
+        peers: PeerRoutes::new(alloc, host.rt(), host.dialer().ok()?),
         readers: Vec::new(alloc),
         heard: LeaderContact::new(alloc).ok()?,
     };

@@ -8,7 +8,7 @@ use std::alloc::{AllocError, Global};
 use std::sync::Arc;
 use std::sync::atomic::{AtomicU64, Ordering};
 
-/// A connection was dialled.
+/// A connection was dialled; the last byte of the address follows, if it has one.
 const DIALLED: u8 = b'>';
 
 /// A write failed.
@@ -133,10 +133,26 @@ impl PeerDialer for TapDialer {
 
     ghost faults = { λ dialer. dialer.calls.faults };
 
-    fn dial(&mut self, _address: &str) -> Result<Tap, Failed> {
+    /// One whose connections note at the same place, and of which nothing fails.
+    fn again(&self) -> Result<TapDialer, AllocError> {
+        Ok(TapDialer {
+            alloc: self.alloc,
+            deeds: self.deeds.again()?,
+            at: self.at,
+            fails: None,
+            calls: Calls::new(Vec::new(self.alloc)),
+        })
+    }
+
+    fn dial(&mut self, address: &str) -> Result<Tap, Failed> {
         self.calls.start()?;
         match self.tap() {
-            Some(tap) => Ok(tap),
+            Some(tap) => {
+                if let Some(byte) = address.as_bytes().last() {
+                    self.deeds.note(*byte);
+                }
+                Ok(tap)
+            }
             None => Err(self.calls.fail()),
         }
     }

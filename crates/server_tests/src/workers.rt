@@ -6,7 +6,8 @@ use dq_base::Items;
 use raft_messages::{MessageBody, RaftMessage};
 use serve_sockets::{MemHost, TcpHost};
 use serve_threads::{
-    Host, LeaderContact, LentQuery, Peer, PeerQueue, ReaderWorker, Ticker, Worker, beside,
+    Host, LeaderContact, LentQuery, Peer, PeerAddress, PeerQueue, ReaderWorker, Ticker, Worker,
+    beside,
 };
 use serve_traits::{Event, Inbox};
 use std::alloc::Global;
@@ -91,7 +92,7 @@ fn sends<H: Host<u8>>(host: &mut H, alloc: Global, address: String) -> Option<bo
         alloc,
         rt,
         dialer: host.dialer().ok()?,
-        address: WireText::new(address),
+        address: PeerAddress::fixed(alloc, WireText::new(address)).ok()?,
         greeting: Items::new(Vec::from_slice(alloc, GREETING).ok()?),
         queue: queue.again().ok()?,
     };
@@ -118,7 +119,7 @@ fn dials_again<H: Host<u8>>(host: &mut H, sockets: HostRuntime, address: String)
         alloc,
         rt,
         dialer: host.dialer().ok()?,
-        address: WireText::new(address),
+        address: PeerAddress::fixed(alloc, WireText::new(address)).ok()?,
         greeting: Items::new(Vec::from_slice(alloc, GREETING).ok()?),
         queue: queue.again().ok()?,
     };

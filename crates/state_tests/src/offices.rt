@@ -69,7 +69,7 @@ fn appends(
     Some((entries.len(), office.phase))
 }
 
-/// What a leader appends at its barrier, if this many commands of a set of 65 pages were applied, of which the last stands
+/// What a leader appends at its barrier, if this many commands of a set of 65 pages were applied, whose last one is
 /// for the barrier or the one before it.
 fn at_barrier(alloc: Global, commands: usize, barrier: u64) -> Option<(usize, LeadershipPhase)> {
     let applied = after(alloc, 64, commands)?;

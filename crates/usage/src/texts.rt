@@ -49,9 +49,9 @@ Status:
 ";
 
 pub(crate) const SERVE_USAGE: &str = "\
-Usage: dqnode serve [--new] [--secret FILE] [--engine E] [--events K]
-                    [--idle-transaction S]
-                    ID LISTEN [N=ADDRESS]..
+Usage: dqnode serve [--new] [--join | --alone] [--secret FILE] [--bind ADDRESS]
+                    [--via N=ADDRESS].. [--engine E] [--events K]
+                    [--idle-transaction S] ID LISTEN [N=ADDRESS]..
 ";
 
 pub(crate) const SERVE_DETAILS: &str = "\
@@ -63,13 +63,21 @@ Arguments:
   ID          the number of the node, 1 to 9
   LISTEN      the address at which it listens, and at which clients and the
               other nodes reach it, as localhost:9001
-  N=ADDRESS   another node of the cluster, its number and its address; at most 6
+  N=ADDRESS   another node with which the cluster is founded, its number and its
+              address; at most 6
 
 Options:
   --new       make a new node, in a folder that has none
+  --join      join the cluster that the nodes N=ADDRESS have founded: the node
+              waits until it is added; each start needs it
+  --alone     take no connections of other nodes; there is no N=ADDRESS
   --secret FILE
               take only peers that have the cluster's secret, which is in FILE:
               16 to 4096 bytes that only its owner may read
+  --bind ADDRESS
+              listen at ADDRESS, as a tunnel does at LISTEN
+  --via N=ADDRESS
+              dial node N at ADDRESS, as that of a tunnel to it; once for each N
   --engine E  sqlite, which is the default, or cells
   --events K  end after K events, 1 to 4294967295, which is the default
   --idle-transaction S

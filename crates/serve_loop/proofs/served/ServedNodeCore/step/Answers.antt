@@ -8,7 +8,7 @@ returns-in-Ok-clause-makes g c =
     let s = c.state.ensures in (
       record { disk = refl; engine = refl; faults = e.cause.never_falls; stays = e.engine },
       steps_well _ _ _ _ _ _ _ _ _ c.args.event c.event_of.result _ c.event_of.ensures e.acts e.stored e.applied (record { term = s.term; role = s.role; applied = s.applied })
-          (shuts_own c.args.event _ _ c.piece_of-piece.ensures c.shuts.ensures),
+          (shuts_own c.args.event _ _ c.piece_of-piece.ensures c.shuts.ensures) c.report.ensures,
     )
 
 pub returns-in-Err-clause-breaks : goal.returns-in-Err-clause-breaks
